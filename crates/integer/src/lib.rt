@@ -1,0 +1,1 @@
+// Whole-number arithmetic with exact contracts.
