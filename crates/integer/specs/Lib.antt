@@ -1,1 +1,3 @@
-
+pub mod Linear
+pub mod Ceiling
+pub mod BigEndian

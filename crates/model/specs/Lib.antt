@@ -1,0 +1,9 @@
+pub mod Limits
+pub mod Lists
+pub mod Task
+pub mod Move
+pub mod Layer
+pub mod Plan
+pub mod NormalForm
+pub mod Circle
+pub mod Theorems

@@ -1,0 +1,198 @@
+-- The plan: wants, the moves taken for them, counts and records (document 01, "Plan").
+-- Assumes nothing.
+use Prim.Native.Nat.{ℕ, zero, suc, _+_, _^_, max}
+use mathlib.Core.Bool.{Bool, true, false, cond, _&&_, _||_}
+use mathlib.Core.List.{List, [], _∷_, _++_}
+use mathlib.Core.Option.{Option, none, some}
+use lib.Dec.{eqb}
+use lib.IntN.{ℤ, pos, natAbs, _-ℤ_, _*ℤ_}
+use lib.ListN.{length, replicate}
+use Rattle.integer.specs.Linear.{up, larger}
+use Rattle.integer.specs.Ceiling.{ceiling}
+use Rattle.model.specs.Lists.{firstFrom, foldBelow}
+use Rattle.model.specs.Task.{Term, Condition, Kind, assign, increase, decrease, Effect, Item, need, add, delete, condition, effect, Block, Task, adds, effectOn}
+use Rattle.model.specs.Move.{State, sum, moveAt}
+use Rattle.model.specs.Layer.{Value, finite, unbounded, Layer, reaches, usable, layerValue, layerAt}
+
+-- "keep wanted propositions and one target (the largest) a variable"
+pub data Target : Type 0 where
+  free : Target
+  least : ℤ → Target
+
+pub record Wants : Type 0 where
+  pub props : ℕ → Bool
+  pub target : ℕ → Target
+
+unfoldable pub noWants : Wants
+noWants = record { props = λ p. false; target = λ v. free }
+
+unfoldable pub raiseTarget : Target → ℤ → Target
+raiseTarget free z = least z
+raiseTarget (least y) z = least (larger y z)
+
+unfoldable pub wantProp : Wants → ℕ → Wants
+wantProp w p = record { props = λ q. w .props q || eqb q p; target = w .target }
+
+unfoldable pub wantValue : Wants → ℕ → ℤ → Wants
+wantValue w v z =
+    record { props = w .props; target = λ u. let old = w .target u in cond (eqb u v) (raiseTarget old z) old }
+
+-- "layer values for finite and state values for other unbounded ones"
+unfoldable pub lowValue : Value → ℤ → ℤ
+lowValue (finite z) y = z
+lowValue unbounded y = y
+
+unfoldable pub low : Layer → State → ℕ → ℤ
+low l s v = lowValue (l .val v) (s .val v)
+
+-- "each finite variable's target is its layer value"
+unfoldable pub wantFinite : Layer → Wants → List Term → Wants
+wantFinite l w [] = w
+wantFinite l w (t ∷ ts) =
+    elim (l .val (t .var)) [ finite z ↦ wantFinite l (wantValue w (t .var) z) ts | unbounded ↦ wantFinite l w ts ]
+
+-- "To want "sum ≥ c" in layer t: each finite variable's target is its layer value; the lowest unbounded one, weight w, gets
+-- (c − the rest)/w rounded up to a whole number". Terms rise, so the lowest unbounded one is the first; c is less by what the
+-- terms before it give (`Theorems.Wanting` has the sentence in its own words).
+unfoldable pub wantSum : Layer → State → Wants → List Term → ℤ → Wants
+wantSum l s w [] c = w
+wantSum l s w (t ∷ ts) c =
+    elim (l .val (t .var)) [
+      | finite z ↦ wantSum l s (wantValue w (t .var) z) ts (c -ℤ (t .weight *ℤ z))
+      | unbounded ↦
+          wantValue (wantFinite l w ts) (t .var) (ceiling (c -ℤ sum (low l s) ts) (natAbs (t .weight)))
+    ]
+
+unfoldable pub wantItem : Layer → State → Wants → Item → Wants
+wantItem l s w (need p) = wantProp w p
+wantItem l s w (condition c) = wantSum l s w (c .terms) (c .bound)
+wantItem l s w (add p) = w
+wantItem l s w (delete p) = w
+wantItem l s w (effect e) = w
+
+-- want the conditions of a move or the goal
+unfoldable pub wantBlock : Layer → State → Wants → Block → Wants
+wantBlock l s w [] = w
+wantBlock l s w (i ∷ b) = wantBlock l s (wantItem l s w i) b
+
+-- what one layer's wants come to: the wants of the layer below, and each move's count there, 0 if it is not taken
+pub record Descent : Type 0 where
+  pub wants : Wants
+  pub count : ℕ → ℕ
+
+-- "A move taken twice in a layer keeps its larger count."
+unfoldable pub counted : (ℕ → ℕ) → ℕ → ℕ → ℕ → ℕ
+counted f b n c = let old = f c in cond (eqb c b) (max old n) old
+
+-- "take the first that adds the proposition"
+unfoldable pub adder : Task → Layer → ℕ → Option ℕ
+adder k l p = firstFrom (λ b. usable l (moveAt k b) && adds p (moveAt k b)) 0 (length (k .moves))
+
+-- "Want its conditions in t−1 .. Count: 1"
+unfoldable pub takeAdder : Task → Layer → State → Descent → Option ℕ → Descent
+takeAdder k l s d none = d
+takeAdder k l s d (some b) =
+    record { wants = wantBlock l s (d .wants) (moveAt k b); count = counted (d .count) b 1 }
+
+-- "or whose effect on v has value ≥ target T (:=) or > 0 (+=)": what the value has to reach
+unfoldable pub demand : Kind → ℤ → ℤ
+demand assign z = z
+demand increase z = pos 1
+demand decrease z = pos 1
+
+unfoldable pub achieves : Layer → ℤ → Option Effect → Bool
+achieves l z none = false
+achieves l z (some e) = reaches (layerValue l e) (demand (e .kind) z)
+
+unfoldable pub achiever : Task → Layer → ℕ → ℤ → Option ℕ
+achiever k l v z =
+    firstFrom (λ b. usable l (moveAt k b) && achieves l z (effectOn v (moveAt k b))) 0 (length (k .moves))
+
+-- "d the value in t−1 if finite, else 1"
+unfoldable pub stepSize : Value → ℕ
+stepSize (finite z) = natAbs z
+stepSize unbounded = 1
+
+-- "Count: 1; for += (T − state value of v)/d rounded up" (never below 1, `Theorems.Plans`)
+unfoldable pub runs : Kind → ℤ → ℤ → Value → ℕ
+runs assign z y x = 1
+runs increase z y x = up (ceiling (z -ℤ y) (stepSize x))
+runs decrease z y x = 1
+
+-- "Want its conditions in t−1, and that value ≥ T (:=) or ≥ 1 (+=)."
+unfoldable pub takeEffect : Task → Layer → State → Descent → ℕ → ℤ → ℕ → Option Effect → Descent
+takeEffect k l s d v z b none = d
+takeEffect k l s d v z b (some e) =
+    record {
+      wants =
+          wantSum l s (wantBlock l s (d .wants) (moveAt k b)) (e .terms)
+          (demand (e .kind) z -ℤ e .base);
+      count = counted (d .count) b (runs (e .kind) z (s .val v) (layerValue l e));
+    }
+
+unfoldable pub takeAchiever : Task → Layer → State → Descent → ℕ → ℤ → Option ℕ → Descent
+takeAchiever k l s d v z none = d
+takeAchiever k l s d v z (some b) = takeEffect k l s d v z b (effectOn v (moveAt k b))
+
+unfoldable pub carryProp : Descent → ℕ → Descent
+carryProp d p = record { wants = wantProp (d .wants) p; count = d .count }
+
+unfoldable pub carryValue : Descent → ℕ → ℤ → Descent
+carryValue d v z = record { wants = wantValue (d .wants) v z; count = d .count }
+
+-- "At layer t ≥ 1 what layer t−1 already has is carried down. For any other, try the moves usable in t−1 in rising order"
+unfoldable pub descendProp : Task → Layer → State → Wants → ℕ → Descent → Descent
+descendProp k l s w p d =
+    elim (w .props p) [
+      | true ↦ elim (l .has p) [ true ↦ carryProp d p | false ↦ takeAdder k l s d (adder k l p) ]
+      | false ↦ d
+    ]
+
+unfoldable pub descendValue : Task → Layer → State → Wants → ℕ → Descent → Descent
+descendValue k l s w v d =
+    elim (w .target v) [
+      | free ↦ d
+      | least z ↦
+          elim (reaches (l .val v) z) [ true ↦ carryValue d v z | false ↦ takeAchiever k l s d v z (achiever k l v z) ]
+    ]
+
+-- from the wants of layer t to layer l = t−1: the propositions, then the variables
+unfoldable pub descend : Task → Layer → State → Wants → Descent
+descend k l s w =
+    foldBelow (descendValue k l s w) (k .vars)
+    (foldBelow (descendProp k l s w) (k .props) (record { wants = noWants; count = λ b. 0 }))
+
+-- "Record: 52, move (1 byte), count (8 bytes)", with the layer that the move is taken in
+pub record Record : Type 0 where
+  pub layer : ℕ
+  pub move : ℕ
+  pub count : ℕ
+
+-- "layers rising, then moves": a layer's records, from move b on, n moves
+unfoldable pub layerRecords : ℕ → (ℕ → ℕ) → ℕ → ℕ → List Record
+layerRecords t count b zero = []
+layerRecords t count b (suc n) =
+    elim (eqb (count b) 0) [
+      | true ↦ layerRecords t count (suc b) n
+      | false ↦ record { layer = t; move = b; count = count b } ∷ layerRecords t count (suc b) n
+    ]
+
+unfoldable pub recordsFrom : Task → State → ℕ → Wants → List Record
+recordsFrom k s zero w = []
+recordsFrom k s (suc t) w =
+    let d = descend k (layerAt k s t) s w in
+    recordsFrom k s t (d .wants) ++ layerRecords t (d .count) 0 (length (k .moves))
+
+-- "From answer layer m down .. Begin with the goal in m."
+unfoldable pub records : Task → State → ℕ → List Record
+records k s m = recordsFrom k s m (wantBlock (layerAt k s m) s noWants (k .goal))
+
+-- "the first moves: a 64-bit set of the moves taken at layer 0, bit b (of worth 2^b) for move b"
+unfoldable pub firstMoves : List Record → ℕ
+firstMoves [] = 0
+firstMoves (r ∷ rs) = cond (eqb (r .layer) 0) (2 ^ (r .move)) 0 + firstMoves rs
+
+-- "A plan's list is its records in order, each move written as many times in a row as its count."
+unfoldable pub planList : List Record → List ℕ
+planList [] = []
+planList (r ∷ rs) = replicate (r .count) (r .move) ++ planList rs
