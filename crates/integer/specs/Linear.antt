@@ -4,7 +4,7 @@ use mathlib.Core.Path.{_≡_, refl, sym, ap, ap₂, _∙_, subst}
 use mathlib.Core.Logic.{_⊎_, inl, inr}
 use mathlib.Core.Bool.{Bool, true, false, not, cond}
 use Prim.Native.Nat.{ℕ, zero, suc, _+_, _*_, _-_, _^_, _<_, _≤_}
-use native.Mathlib.Nat.{mul-le-mul-left, mul-lt-mul-of-pos-left, le-of-mul-le-mul-left}
+use native.Mathlib.Nat.{mul-le-mul-left, mul-lt-mul-of-pos-left, le-of-mul-le-mul-left, lt-of-mul-lt-mul-left}
 use native.Mathlib.Omega.{arith}
 use lib.Dec.{T, leb, ltb, leb→le, le→leb, ltb→lt, lt→ltb, nleb→lt, nltb→le}
 use lib.IntN.{ℤ, pos, negsuc, negℤ, natAbs, subℕ, _+ℤ_, _-ℤ_, _*ℤ_}
@@ -297,6 +297,9 @@ sub-≤ a b c h = omega (zlin, diff a c, sum b c)
 pub ≤-sub : (a b c : ℤ) → (a +ℤ c) ≤ℤ b → a ≤ℤ (b -ℤ c)
 ≤-sub a b c h = omega (zlin, sum a c, diff b c)
 
+pub pos-sub : {m n : ℕ} → n ≤ m → pos m -ℤ pos n ≡ pos (m - n)
+pos-sub {m} {n} h = omega (zlin, diff (pos m) (pos n))
+
 -- ---- the product
 
 pub *-comm : (a b : ℤ) → a *ℤ b ≡ b *ℤ a
@@ -342,6 +345,9 @@ pub *-flip : {v a b : ℤ} → v ≤ℤ pos 0 → a ≤ℤ b → (v *ℤ b) ≤�
 
 pub *-cancel : (w : ℕ) (a b : ℤ) → 0 < w → (pos w *ℤ a) ≤ℤ (pos w *ℤ b) → a ≤ℤ b
 *-cancel w a b p h = le-out a b (le-of-mul-le-mul-left {k = w} (omega (zlin, scaled w a, scaled w b)) p)
+
+pub *-cancel-< : (w : ℕ) (a b : ℤ) → (pos w *ℤ a) <ℤ (pos w *ℤ b) → a <ℤ b
+*-cancel-< w a b h = lt-out a b (lt-of-mul-lt-mul-left w (omega (zlin, scaled w a, scaled w b)))
 
 -- ---- the size
 
@@ -434,13 +440,19 @@ mag-size (negsuc n) h = omega arith
 pub back : (z : ℤ) → mag z < 2 ^ 63 → toZ w64 (ofZ w64 z) ≡ z
 back z h = toZ-ofZ w64 z (record { sfits = h })
 
+pub small-fits : (z : ℤ) → natAbs z < 2 ^ 63 → SFits w64 z
+small-fits z h = record { sfits = small-mag z h }
+
+pub back-small : (z : ℤ) → natAbs z < 2 ^ 63 → toZ w64 (ofZ w64 z) ≡ z
+back-small z h = back z (small-mag z h)
+
 -- an operation on two signed locals fits, and its result is read back
-module _ (f : ℤ → ℤ → ℤ) (a b : ℤ) (p : mag a < 2 ^ 63) (q : mag b < 2 ^ 63) (h : natAbs (f a b) < 2 ^ 63) where
+module _ (f : ℤ → ℤ → ℤ) (a b : ℤ) (p : SFits w64 a) (q : SFits w64 b) (h : natAbs (f a b) < 2 ^ 63) where
   pub op2-fits : SFits w64 (f (toZ w64 (ofZ w64 a)) (toZ w64 (ofZ w64 b)))
-  op2-fits = rw (back a p, back b q) (record { sfits = small-mag (f a b) h })
+  op2-fits = rw (toZ-ofZ w64 a p, toZ-ofZ w64 b q) (small-fits (f a b) h)
 
   pub op2-back : toZ w64 (ofZ w64 (f (toZ w64 (ofZ w64 a)) (toZ w64 (ofZ w64 b)))) ≡ f a b
-  op2-back = rw (back a p, back b q) (back (f a b) (small-mag (f a b) h))
+  op2-back = rw (toZ-ofZ w64 a p, toZ-ofZ w64 b q) (back-small (f a b) h)
 
 -- ---- examples
 

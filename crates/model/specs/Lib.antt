@@ -6,4 +6,10 @@ pub mod Layer
 pub mod Plan
 pub mod NormalForm
 pub mod Circle
+pub mod Command
+pub mod Reading
+pub mod StateTable
+pub mod Memory
+pub mod Calls
+pub mod Listing
 pub mod Theorems

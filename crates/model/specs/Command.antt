@@ -1,0 +1,140 @@
+-- The commands of a table, and the bytes of a task (document 01, "Campaign table").
+-- Assumes nothing.
+use Prim.Native.Nat.{ℕ}
+use mathlib.Core.Bool.{Bool, true, false}
+use mathlib.Core.List.{List, [], _∷_, _++_}
+use lib.Dec.{eqb}
+use lib.IntN.{ℤ}
+use lib.ListN.{length}
+use Rattle.integer.specs.BigEndian.{signedBytes}
+use Rattle.model.specs.Task.{Form, written, normal, Term, Comparison, atLeast, above, atMost, below, equal, Condition, Kind, assign, increase, decrease, Effect, Item, need, add, delete, condition, effect, Block, Task}
+
+pub data Command : Type 0 where
+  head : Form → Command
+  openMove openGoal endTable needProp addProp deleteProp term closeCondition closeEffect unknown : Command
+
+-- "One-byte commands (hexadecimal)"
+unfoldable pub codeOf : Command → ℕ
+codeOf (head written) = 0x54
+codeOf (head normal) = 0x4E
+codeOf openMove = 0x41
+codeOf openGoal = 0x47
+codeOf endTable = 0x45
+codeOf needProp = 0x50
+codeOf addProp = 0x2B
+codeOf deleteProp = 0x2D
+codeOf term = 0x57
+codeOf closeCondition = 0x43
+codeOf closeEffect = 0x46
+codeOf unknown = 0
+
+unfoldable pub commands : List Command
+commands =
+    head written
+    ∷ head normal
+    ∷ openMove
+    ∷ openGoal
+    ∷ endTable
+    ∷ needProp
+    ∷ addProp
+    ∷ deleteProp
+    ∷ term
+    ∷ closeCondition
+    ∷ closeEffect
+    ∷ []
+
+unfoldable pub withCode : ℕ → List Command → Command
+withCode b [] = unknown
+withCode b (c ∷ cs) = elim (eqb b (codeOf c)) [ true ↦ c | false ↦ withCode b cs ]
+
+-- the command that a byte stands for
+unfoldable pub commandOf : ℕ → Command
+commandOf b = withCode b commands
+
+-- A command's bytes with its operands, "of fixed width"; whether it may stand at offset 0, outside a block, in a move, in the
+-- goal; and whether it may follow a term. "Misplaced: a command other than a head at offset 0, a head elsewhere, any of 50, 2B,
+-- 2D, 57, 43 or 46 outside a block, 2B, 2D or 46 in the goal, a second 47, 45 before the goal." (41 after the goal and 47 too
+-- early are 6.) "Terms are left open where a command other than 57, 43 or 46 follows a term".
+pub record Rule : Type 0 where
+  pub width : ℕ
+  pub atStart : Bool
+  pub outside : Bool
+  pub inMove : Bool
+  pub inGoal : Bool
+  pub afterTerm : Bool
+
+rule : ℕ → Bool → Bool → Bool → Bool → Bool → Rule
+rule n a b c d e = record { width = n; atStart = a; outside = b; inMove = c; inGoal = d; afterTerm = e }
+
+unfoldable pub ruleOf : Command → Rule
+unfolding rule
+ruleOf (head f) = rule 4 true false false false false
+ruleOf openMove = rule 1 false true true true false
+ruleOf openGoal = rule 1 false true true false false
+ruleOf endTable = rule 1 false false false true false
+ruleOf needProp = rule 2 false false true true false
+ruleOf addProp = rule 2 false false true false false
+ruleOf deleteProp = rule 2 false false true false false
+ruleOf term = rule 4 false false true true true
+ruleOf closeCondition = rule 6 false false true true true
+ruleOf closeEffect = rule 7 false false true false true
+ruleOf unknown = rule 1 false false false false false
+
+unfoldable pub width : Command → ℕ
+width c = ruleOf c .width
+
+-- "o is 0 ≥, 1 >, 2 ≤, 3 <, 4 ="
+unfoldable pub comparisonCode : Comparison → ℕ
+comparisonCode atLeast = 0
+comparisonCode above = 1
+comparisonCode atMost = 2
+comparisonCode below = 3
+comparisonCode equal = 4
+
+-- "k is 0 := , 1 += , 2 −="
+unfoldable pub kindCode : Kind → ℕ
+kindCode assign = 0
+kindCode increase = 1
+kindCode decrease = 2
+
+-- the bytes of a sum's terms, of an item, of the items of a block
+unfoldable pub termBytes : List Term → List ℕ
+termBytes [] = []
+termBytes (t ∷ ts) = codeOf term ∷ t .var ∷ signedBytes 2 (t .weight) ++ termBytes ts
+
+unfoldable pub itemBytes : Item → List ℕ
+itemBytes (need p) = codeOf needProp ∷ p ∷ []
+itemBytes (add p) = codeOf addProp ∷ p ∷ []
+itemBytes (delete p) = codeOf deleteProp ∷ p ∷ []
+itemBytes (condition c) =
+    termBytes (c .terms)
+    ++ codeOf closeCondition
+    ∷ comparisonCode (c .comparison)
+    ∷ signedBytes 4 (c .bound)
+itemBytes (effect e) =
+    termBytes (e .terms)
+    ++ codeOf closeEffect
+    ∷ kindCode (e .kind)
+    ∷ e .var
+    ∷ signedBytes 4 (e .base)
+
+unfoldable pub itemsBytes : Block → List ℕ
+itemsBytes [] = []
+itemsBytes (i ∷ b) = itemBytes i ++ itemsBytes b
+
+unfoldable pub movesBytes : List Block → List ℕ
+movesBytes [] = []
+movesBytes (b ∷ bs) = codeOf openMove ∷ itemsBytes b ++ movesBytes bs
+
+-- the table that a task is written as
+unfoldable pub taskBytes : Form → Task → List ℕ
+taskBytes f k =
+    codeOf (head f)
+    ∷ k .props
+    ∷ k .vars
+    ∷ length (k .moves)
+    ∷ movesBytes (k .moves)
+    ++ codeOf openGoal
+    ∷ itemsBytes (k .goal)
+    ++ codeOf endTable
+    ∷ []

@@ -1,0 +1,428 @@
+-- Reading a table: every check of document 01's table "Where a call turns back", in its order, with number and place, and the
+-- task that accepted bytes stand for. One reading gives both. Assumes nothing.
+use Prim.Native.Nat.{ℕ, zero, suc, _+_, _*_, _%_}
+use mathlib.Core.Bool.{Bool, true, false, cond, _&&_, _||_, not}
+use mathlib.Core.List.{List, [], _∷_, _++_}
+use mathlib.Core.Option.{Option, none, some}
+use lib.Dec.{eqb, leb, ltb}
+use lib.IntN.{ℤ, pos, negℤ, natAbs}
+use lib.ListN.{length, getD, take, drop}
+use lib.Signed.{leZ}
+use Rattle.integer.specs.BigEndian.{signed}
+use Rattle.model.specs.declared.Refusal.{Refusal}
+use Rattle.model.specs.Limits.{Limits}
+use Rattle.model.specs.Lists.{all, any}
+use Rattle.model.specs.Task.{Form, written, normal, Term, Comparison, atLeast, above, atMost, below, equal, Condition, Kind, assign, increase, decrease, Effect, Item, need, add, delete, condition, effect, Block, Task, clashes}
+use Rattle.model.specs.Command.{Command, head, openMove, openGoal, endTable, needProp, addProp, deleteProp, term, closeCondition, closeEffect, unknown, codeOf, commandOf, ruleOf, width}
+use Rattle.model.specs.Circle.{circular}
+
+-- "the head's kind and its three counts"
+pub record Head : Type 0 where
+  pub form : Form
+  pub props : ℕ
+  pub vars : ℕ
+  pub moves : ℕ
+
+-- what an accepted table says; marks are the offsets of its 41, 47 and 45 commands
+pub record Table : Type 0 where
+  pub header : Head
+  pub task : Task
+  pub marks : List ℕ
+
+pub data Verdict : Type 0 where
+  accepted : Table → Verdict
+  refused : Refusal → Verdict
+
+-- the heads a call takes: "Normalise and step want head 54, decide and plan 4E; read and the reader take both."
+pub data Wanted : Type 0 where
+  only : Form → Wanted
+  both : Wanted
+
+-- where a command stands
+pub data Place : Type 0 where
+  start preamble inMove inGoal finished : Place
+
+-- what has been read so far: the offset of the next command, the head, the closed moves, and of the block that stands open
+-- its items and the terms that no condition or effect has closed yet
+pub record Seen : Type 0 where
+  pub at : ℕ
+  pub place : Place
+  pub header : Head
+  pub moves : List Block
+  pub items : Block
+  pub terms : List Term
+  pub marks : List ℕ
+
+unfoldable pub nothingSeen : Seen
+nothingSeen =
+    record {
+      at = 0;
+      place = start;
+      header = record { form = written; props = 0; vars = 0; moves = 0 };
+      moves = [];
+      items = [];
+      terms = [];
+      marks = [];
+    }
+
+-- ---- operands
+
+-- the byte i after the command, and the signed number of w bytes there
+unfoldable pub byteAfter : List ℕ → Seen → ℕ → ℕ
+byteAfter t s i = getD t (s .at + i) 0
+
+unfoldable pub numberAfter : ℕ → List ℕ → Seen → ℕ → ℤ
+numberAfter w t s i = signed (take w (drop (s .at + i) t))
+
+unfoldable pub comparisonOf : ℕ → Comparison
+comparisonOf zero = atLeast
+comparisonOf (suc zero) = above
+comparisonOf (suc (suc zero)) = atMost
+comparisonOf (suc (suc (suc zero))) = below
+comparisonOf (suc (suc (suc (suc n)))) = equal
+
+unfoldable pub kindOf : ℕ → Kind
+kindOf zero = assign
+kindOf (suc zero) = increase
+kindOf (suc (suc n)) = decrease
+
+unfoldable pub termAt : List ℕ → Seen → Term
+termAt t s = record { var = byteAfter t s 1; weight = numberAfter 2 t s 2 }
+
+-- the item that a command completes
+unfoldable pub itemAt : List ℕ → Seen → Command → Option Item
+itemAt t s (head f) = none
+itemAt t s openMove = none
+itemAt t s openGoal = none
+itemAt t s endTable = none
+itemAt t s needProp = some (need (byteAfter t s 1))
+itemAt t s addProp = some (add (byteAfter t s 1))
+itemAt t s deleteProp = some (delete (byteAfter t s 1))
+itemAt t s term = none
+itemAt t s closeCondition =
+    some
+    (condition
+    (record { terms = s .terms; comparison = comparisonOf (byteAfter t s 1); bound = numberAfter 4 t s 2 }))
+itemAt t s closeEffect =
+    some
+    (effect
+    (record {
+      kind = kindOf (byteAfter t s 1);
+      var = byteAfter t s 2;
+      terms = s .terms;
+      base = numberAfter 4 t s 3;
+    }))
+itemAt t s unknown = none
+
+-- ---- 3: "unknown, misplaced, wrong head for the call, terms left open, bytes after 45"
+
+unfoldable pub inPlace : Place → Command → Bool
+inPlace start c = ruleOf c .atStart
+inPlace preamble c = ruleOf c .outside
+inPlace inMove c = ruleOf c .inMove
+inPlace inGoal c = ruleOf c .inGoal
+inPlace finished c = false
+
+takesHead : Wanted → Form → Bool
+takesHead both f = true
+takesHead (only written) written = true
+takesHead (only written) normal = false
+takesHead (only normal) written = false
+takesHead (only normal) normal = true
+
+unfoldable pub headWanted : Wanted → Command → Bool
+unfolding takesHead
+headWanted w (head f) = takesHead w f
+headWanted w openMove = true
+headWanted w openGoal = true
+headWanted w endTable = true
+headWanted w needProp = true
+headWanted w addProp = true
+headWanted w deleteProp = true
+headWanted w term = true
+headWanted w closeCondition = true
+headWanted w closeEffect = true
+headWanted w unknown = true
+
+unfoldable pub leavesOpen : Seen → Command → Bool
+leavesOpen s c = ltb 0 (length (s .terms)) && not (ruleOf c .afterTerm)
+
+unfoldable pub wrong3 : Wanted → Seen → Command → Bool
+wrong3 w s c = not (inPlace (s .place) c) || not (headWanted w c) || leavesOpen s c
+
+-- ---- 2: "operands cut"
+
+unfoldable pub wrong2 : List ℕ → Seen → Command → Bool
+wrong2 t s c = ltb (length t) (s .at + width c)
+
+-- ---- 6: "41 beyond A, after the goal too; 47 before A moves"
+
+-- how many moves have been opened
+unfoldable pub opened : Place → ℕ → ℕ
+opened start n = 0
+opened preamble n = 0
+opened inMove n = suc n
+opened inGoal n = n
+opened finished n = n
+
+unfoldable pub wrong6 : Seen → Command → Bool
+wrong6 s (head f) = false
+wrong6 s openMove = leb (s .header .moves) (opened (s .place) (length (s .moves)))
+wrong6 s openGoal = ltb (opened (s .place) (length (s .moves))) (s .header .moves)
+wrong6 s endTable = false
+wrong6 s needProp = false
+wrong6 s addProp = false
+wrong6 s deleteProp = false
+wrong6 s term = false
+wrong6 s closeCondition = false
+wrong6 s closeEffect = false
+wrong6 s unknown = false
+
+-- ---- 4: "operand out of range"
+
+-- "V 0..16 variables"; "N even, 0..32"
+unfoldable pub varsInRange : Limits → Form → ℕ → Bool
+varsInRange L written n = leb n (L .vars)
+varsInRange L normal n = leb n (2 * L .vars) && eqb (n % 2) 0
+
+-- "Written: weights −1000..1000 except 0"; "Normal: weights 1..1000"
+unfoldable pub weightInRange : Limits → Form → ℤ → Bool
+weightInRange L written w = leb 1 (natAbs w) && leb (natAbs w) (L .weight)
+weightInRange L normal w = leZ (pos 1) w && leb (natAbs w) (L .weight)
+
+-- "o is 0 ≥, 1 >, 2 ≤, 3 <, 4 ="; "k is 0 := , 1 += , 2 −="; "Normal: .. o only 0, k only 0 or 1"
+unfoldable pub comparisonInRange : Form → ℕ → Bool
+comparisonInRange written n = leb n 4
+comparisonInRange normal n = eqb n 0
+
+unfoldable pub kindInRange : Form → ℕ → Bool
+kindInRange written n = leb n 2
+kindInRange normal n = leb n 1
+
+-- "constants −1,000,000..1,000,000"; "effect constants as written, condition constants −1,000,000..1,000,001"
+unfoldable pub baseInRange : Limits → ℤ → Bool
+baseInRange L c = leb (natAbs c) (L .constant)
+
+unfoldable pub boundInRange : Limits → Form → ℤ → Bool
+boundInRange L written c = leb (natAbs c) (L .constant)
+boundInRange L normal c = leZ (negℤ (pos (L .constant))) c && leZ c (pos (L .constant + 1))
+
+-- the operands of a command: how far behind it each stands, and whether it is in range
+pub record Operand : Type 0 where
+  pub offset : ℕ
+  pub inRange : Bool
+
+unfoldable pub operands : Limits → List ℕ → Seen → Command → List Operand
+operands L t s (head f) =
+    record { offset = 1; inRange = leb (byteAfter t s 1) (L .props) }
+    ∷ record { offset = 2; inRange = varsInRange L f (byteAfter t s 2) }
+    ∷ record { offset = 3; inRange = leb (byteAfter t s 3) (L .moves) }
+    ∷ []
+operands L t s openMove = []
+operands L t s openGoal = []
+operands L t s endTable = []
+operands L t s needProp = record { offset = 1; inRange = ltb (byteAfter t s 1) (s .header .props) } ∷ []
+operands L t s addProp = record { offset = 1; inRange = ltb (byteAfter t s 1) (s .header .props) } ∷ []
+operands L t s deleteProp = record { offset = 1; inRange = ltb (byteAfter t s 1) (s .header .props) } ∷ []
+operands L t s term =
+    record { offset = 1; inRange = ltb (byteAfter t s 1) (s .header .vars) }
+    ∷ record { offset = 2; inRange = weightInRange L (s .header .form) (numberAfter 2 t s 2) }
+    ∷ []
+operands L t s closeCondition =
+    record { offset = 1; inRange = comparisonInRange (s .header .form) (byteAfter t s 1) }
+    ∷ record { offset = 2; inRange = boundInRange L (s .header .form) (numberAfter 4 t s 2) }
+    ∷ []
+operands L t s closeEffect =
+    record { offset = 1; inRange = kindInRange (s .header .form) (byteAfter t s 1) }
+    ∷ record { offset = 2; inRange = ltb (byteAfter t s 2) (s .header .vars) }
+    ∷ record { offset = 3; inRange = baseInRange L (numberAfter 4 t s 3) }
+    ∷ []
+operands L t s unknown = []
+
+-- "the first such one"
+unfoldable pub firstWrong : List Operand → Option ℕ
+firstWrong [] = none
+firstWrong (o ∷ os) = elim (o .inRange) [ true ↦ firstWrong os | false ↦ some (o .offset) ]
+
+-- ---- 5: "named again, not rising, ninth term"
+
+unfoldable pub namedAgain : Block → Option Item → Bool
+namedAgain b none = false
+namedAgain b (some i) = any (λ j. clashes j i) b
+
+unfoldable pub wrong5 : Limits → List ℕ → Seen → Command → Bool
+wrong5 L t s (head f) = false
+wrong5 L t s openMove = false
+wrong5 L t s openGoal = false
+wrong5 L t s endTable = false
+wrong5 L t s needProp = namedAgain (s .items) (itemAt t s needProp)
+wrong5 L t s addProp = namedAgain (s .items) (itemAt t s addProp)
+wrong5 L t s deleteProp = namedAgain (s .items) (itemAt t s deleteProp)
+wrong5 L t s term = not (all (λ u. ltb (u .var) (byteAfter t s 1)) (s .terms)) || leb (L .terms) (length (s .terms))
+wrong5 L t s closeCondition = false
+wrong5 L t s closeEffect = namedAgain (s .items) (itemAt t s closeEffect)
+wrong5 L t s unknown = false
+
+-- ---- one command
+
+unfoldable pub refusedAt : ℕ → Bool → ℕ → Option Refusal
+refusedAt n true p = some (record { number = n; place = p })
+refusedAt n false p = none
+
+-- 4 stands at the operand
+unfoldable pub refusedOperand : ℕ → Option ℕ → Option Refusal
+refusedOperand p none = none
+refusedOperand p (some o) = some (record { number = 4; place = p + o })
+
+unfoldable pub firstRefusal : List (Option Refusal) → Option Refusal
+firstRefusal [] = none
+firstRefusal (none ∷ rs) = firstRefusal rs
+firstRefusal (some r ∷ rs) = some r
+
+-- "each command, in this order": 3, 2, 6, 4, 5
+unfoldable pub refusal : Limits → Wanted → List ℕ → Seen → Command → Option Refusal
+refusal L w t s c =
+    firstRefusal
+    (refusedAt 3 (wrong3 w s c) (s .at)
+    ∷ refusedAt 2 (wrong2 t s c) (s .at)
+    ∷ refusedAt 6 (wrong6 s c) (s .at)
+    ∷ refusedOperand (s .at) (firstWrong (operands L t s c))
+    ∷ refusedAt 5 (wrong5 L t s c) (s .at)
+    ∷ [])
+
+-- the moves that stand closed when the next block opens
+unfoldable pub closed : Place → List Block → Block → List Block
+closed start ms b = ms
+closed preamble ms b = ms
+closed inMove ms b = ms ++ (b ∷ [])
+closed inGoal ms b = ms
+closed finished ms b = ms
+
+-- what has been seen once the command is read
+unfoldable pub withHead : List ℕ → Seen → Form → Seen
+withHead t s f =
+    record {
+      at = s .at + 4;
+      place = preamble;
+      header =
+          record { form = f; props = byteAfter t s 1; vars = byteAfter t s 2; moves = byteAfter t s 3 };
+      moves = [];
+      items = [];
+      terms = [];
+      marks = [];
+    }
+
+unfoldable pub withMark : Seen → Place → List Block → Block → Seen
+withMark s p ms b =
+    record {
+      at = s .at + 1;
+      place = p;
+      header = s .header;
+      moves = ms;
+      items = b;
+      terms = [];
+      marks = s .marks ++ (s .at ∷ []);
+    }
+
+unfoldable pub withTerm : Seen → Term → Seen
+withTerm s u =
+    record {
+      at = s .at + width term;
+      place = s .place;
+      header = s .header;
+      moves = s .moves;
+      items = s .items;
+      terms = s .terms ++ (u ∷ []);
+      marks = s .marks;
+    }
+
+unfoldable pub withItem : Seen → ℕ → Option Item → Seen
+withItem s n none = s
+withItem s n (some i) =
+    record {
+      at = s .at + n;
+      place = s .place;
+      header = s .header;
+      moves = s .moves;
+      items = s .items ++ (i ∷ []);
+      terms = [];
+      marks = s .marks;
+    }
+
+unfoldable pub advance : List ℕ → Seen → Command → Seen
+advance t s (head f) = withHead t s f
+advance t s openMove = withMark s inMove (closed (s .place) (s .moves) (s .items)) []
+advance t s openGoal = withMark s inGoal (closed (s .place) (s .moves) (s .items)) []
+advance t s endTable = withMark s finished (s .moves) (s .items)
+advance t s needProp = withItem s (width needProp) (itemAt t s needProp)
+advance t s addProp = withItem s (width addProp) (itemAt t s addProp)
+advance t s deleteProp = withItem s (width deleteProp) (itemAt t s deleteProp)
+advance t s term = withTerm s (termAt t s)
+advance t s closeCondition = withItem s (width closeCondition) (itemAt t s closeCondition)
+advance t s closeEffect = withItem s (width closeEffect) (itemAt t s closeEffect)
+advance t s unknown = s
+
+-- ---- the whole table
+
+-- the table that has been read to its end
+unfoldable pub tableOf : Seen → Table
+tableOf s =
+    record {
+      header = s .header;
+      task =
+          record { props = s .header .props; vars = s .header .vars; moves = s .moves; goal = s .items };
+      marks = s .marks;
+    }
+
+-- "after 45 | 7 | := circle | 0"
+unfoldable pub verdictOf : Table → Verdict
+verdictOf k = elim (circular (k .task)) [ true ↦ refused (record { number = 7; place = 0 }) | false ↦ accepted k ]
+
+-- where no command is left: "no command where one is due", place the length, unless 45 was read
+unfoldable pub atEnd : List ℕ → Seen → Place → Verdict
+atEnd t s start = refused (record { number = 2; place = length t })
+atEnd t s preamble = refused (record { number = 2; place = length t })
+atEnd t s inMove = refused (record { number = 2; place = length t })
+atEnd t s inGoal = refused (record { number = 2; place = length t })
+atEnd t s finished = verdictOf (tableOf s)
+
+pub data Step : Type 0 where
+  more : Seen → Step
+  done : Verdict → Step
+
+unfoldable pub stepWith : List ℕ → Seen → Command → Option Refusal → Step
+stepWith t s c none = more (advance t s c)
+stepWith t s c (some r) = done (refused r)
+
+unfoldable pub readCommand : Limits → Wanted → List ℕ → Seen → Step
+readCommand L w t s =
+    elim (ltb (s .at) (length t)) [
+      | true ↦
+          let c = commandOf (getD t (s .at) 0) in
+          stepWith t s c (refusal L w t s c)
+      | false ↦ done (atEnd t s (s .place))
+    ]
+
+unfoldable pub continue : (Seen → Verdict) → Step → Verdict
+continue f (more s) = f s
+continue f (done v) = v
+
+-- Each command takes at least one byte, so that as many turns as there are bytes, and one for the end, always suffice
+-- (`Theorems.Reads`).
+unfoldable pub readFrom : Limits → Wanted → List ℕ → ℕ → Seen → Verdict
+readFrom L w t zero s = refused (record { number = 2; place = length t })
+readFrom L w t (suc n) s = continue (λ d. readFrom L w t n d) (readCommand L w t s)
+
+-- "read and the reader allow 32,000 if the first byte is 54 and 64,000 otherwise, other calls the limit of the head they want"
+unfoldable pub lengthLimit : Limits → Wanted → List ℕ → ℕ
+lengthLimit L (only written) t = L .writtenLength
+lengthLimit L (only normal) t = L .normalLength
+lengthLimit L both t = cond (eqb (getD t 0 0) (codeOf (head written))) (L .writtenLength) (L .normalLength)
+
+-- "table, whole | 1 | too long | 0", then command by command
+unfoldable pub reading : Limits → Wanted → List ℕ → Verdict
+reading L w t =
+    elim (ltb (lengthLimit L w t) (length t)) [
+      | true ↦ refused (record { number = 1; place = 0 })
+      | false ↦ readFrom L w t (suc (length t)) nothingSeen
+    ]
