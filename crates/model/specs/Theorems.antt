@@ -1,1 +1,11 @@
 pub mod WellFormed
+pub mod Campaigns
+pub mod Computing
+pub mod Trials
+pub mod Cases
+pub mod Booleans
+pub mod Searching
+pub mod Order
+pub mod Layers
+pub mod Settled
+pub mod Relaxation
