@@ -60,6 +60,15 @@ blockPart L t b = partOf t b (reading L both t)
 unfoldable pub blockRefusal : Limits → List ℕ → ℕ → Option Refusal
 blockRefusal L t b = noBlock b (reading L both t)
 
+-- the number and the place that are handed back beside the part: 0 and 0 where nothing is refused
+unfoldable pub refusalNumber : Option Refusal → ℕ
+refusalNumber none = 0
+refusalNumber (some r) = r .number
+
+unfoldable pub refusalPlace : Option Refusal → ℕ
+refusalPlace none = 0
+refusalPlace (some r) = r .place
+
 -- ---- a call that writes bytes: what it writes, or why it turns back
 
 pub data Output : Type 0 where

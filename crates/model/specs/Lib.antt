@@ -12,4 +12,5 @@ pub mod StateTable
 pub mod Memory
 pub mod Calls
 pub mod Listing
+pub mod Exports
 pub mod Theorems
