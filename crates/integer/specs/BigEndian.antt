@@ -1,13 +1,13 @@
 -- Numbers as bytes, the most significant byte first: unsigned, and signed in two's complement, at any width.
 -- One definition and one law for all widths: reading back what was written, and writing back what was read.
-use mathlib.Core.Path.{_≡_, refl, sym, ap, ap₂, _∙_, subst}
+use mathlib.Core.Path.{_≡_, refl, sym, ap, _∙_}
 use mathlib.Core.Bool.{Bool, true, false, not, cond}
 use mathlib.Core.List.{List, [], _∷_, _++_}
 use Prim.Native.Nat.{ℕ, zero, suc, _+_, _*_, _-_, _/_, _%_, _^_, _<_, _≤_}
-use native.Mathlib.Nat.{pow-suc, pow-zero, one-le-pow, pow-le-pow-right, div-add-mod', mod-lt, mod-eq-of-lt, add-mul-div-right, div-eq-of-lt, div-div-eq-div-mul, mul-add-div-right, mul-add-mod-self-right, mul-le-mul-right, mul-comm, le-pred-of-lt}
+use native.Mathlib.Nat.{pow-suc, one-le-pow, pow-le-pow-right, mod-lt, mod-eq-of-lt, mul-add-div-right, mul-add-mod-self-right, mul-le-mul-right, mul-comm, le-pred-of-lt}
 use native.Mathlib.Omega.{arith}
 use lib.ListN.{length, getD, take, drop, length-append, length-drop}
-use lib.Seq.{getD-drop, take-suc}
+use lib.Seq.{getD-drop, take-suc, length-take-le}
 use lib.Pow.{pow-add}
 use lib.Arith.{digits-div, mod-mul}
 use lib.Dec.{T, ltb, ltb→lt, nltb→le}
@@ -239,6 +239,12 @@ half-twice (suc zero) p = refl
 half-twice (suc (suc w)) p =
     let e : 8 * suc (suc w) - 1 ≡ (8 * suc w - 1) + 8 = omega arith in
     rw (e, pow-add 2 (8 * suc w - 1) 8, pow-suc 256 (suc w)) (omega (arith, half-twice (suc w) (omega arith)))
+
+-- the number in `w` bytes of a longer list
+pub signed-part : (s : List ℕ) (at w : ℕ) → at + w ≤ length s → twos (half w) (unsigned (take w (drop at s))) ≡ signed (take w (drop at s))
+unfolding signed
+signed-part s at w h =
+    rw (length-take-le w (drop at s) (omega (arith, length-drop at s))) refl
 
 in-range : {bs : List ℕ} → AllBytes bs → unsigned bs < 2 * half (length bs)
 unfolding unsigned half

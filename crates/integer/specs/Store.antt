@@ -2,11 +2,12 @@
 -- Its laws: the length, what stands before, at and after the place, one byte more in front, two stores side by side.
 use mathlib.Core.Path.{_≡_, refl, sym, ap, _∙_}
 use mathlib.Core.List.{List, [], _∷_, _++_, append-assoc, append-nil}
-use Prim.Native.Nat.{ℕ, zero, suc, _+_, _-_, _/_, _%_, _^_, _<_, _≤_}
-use native.Mathlib.Nat.{add-zero, sub-zero, pow-suc, div-div-eq-div-mul}
+use Prim.Native.Nat.{ℕ, suc, _+_, _-_, _/_, _%_, _^_, _<_, _≤_}
+use native.Mathlib.Nat.{add-zero, pow-suc, div-div-eq-div-mul}
+use native.Mathlib.Numerals.{add-one}
 use native.Mathlib.Omega.{arith}
 use lib.ListN.{length, getD, set, take, drop, length-append, length-drop, take-append-drop}
-use lib.Seq.{length-take-le, take-suc, append-snoc, set-at, take-at, drop-at, take-take, drop-drop}
+use lib.Seq.{length-take-le, take-suc, set-at, take-at, drop-at, take-take, drop-drop}
 use Rattle.integer.specs.BigEndian.{bytes, length-bytes}
 
 unfoldable pub put : List ℕ → ℕ → List ℕ → List ℕ
@@ -69,36 +70,38 @@ put-append l at bs cs h =
     let f : n + length cs ≡ at + length (bs ++ cs) = omega (arith, length-append bs cs) in
     rw (take-at (take at l ++ bs) (drop n l) n (head-length l at bs h), e, f, append-assoc (take at l) bs cs) refl
 
--- The last bytes of n are stored, from the last of `width` bytes down to the byte `left`; `rest` is what is left of n.
-pub record Stored (l : List ℕ) (at n width : ℕ) (out : List ℕ) (rest left : ℕ) : Type 0 where
-  pub within : left ≤ width
-  pub rest-is : rest ≡ n / 256 ^ (width - left)
-  pub out-is : out ≡ put l (at + left) (bytes (width - left) n)
+-- The last `done` of `width` bytes of n are stored, and `rest` is what is left of n.
+pub record Stored (l : List ℕ) (at n width : ℕ) (out : List ℕ) (rest done : ℕ) : Type 0 where
+  pub within : done ≤ width
+  pub rest-is : rest ≡ n / 256 ^ done
+  pub out-is : out ≡ put l (at + (width - done)) (bytes done n)
 
 module _ {l : List ℕ} {at n width : ℕ} (fits : at + width ≤ length l) where
-  pub stored-none : Stored l at n width l n width
+  pub stored-none : Stored l at n width l n 0
   unfolding bytes
-  stored-none =
-      let e : width - width ≡ 0 = omega arith in
-      record { within = omega arith; rest-is = rw e (omega arith); out-is = rw e (sym (put-nil l (at + width))) }
+  stored-none = record { within = omega arith; rest-is = omega arith; out-is = sym (put-nil l (at + (width - 0))) }
 
-  pub stored-length : {out : List ℕ} {rest left : ℕ} → Stored l at n width out rest left → length out ≡ length l
-  stored-length {left} h =
-      rw (h .out-is) (length-put l (at + left) (bytes (width - left) n) (omega (arith, length-bytes (width - left) n, h .within)))
+  pub stored-length : {out : List ℕ} {rest done : ℕ} → Stored l at n width out rest done → length out ≡ length l
+  stored-length {done} h =
+      rw (h .out-is) (length-put l (at + (width - done)) (bytes done n) (omega (arith, length-bytes done n, h .within)))
 
-  pub stored-next : {out : List ℕ} {rest left : ℕ} → 0 < left → Stored l at n width out rest left → Stored l at n width (set out (at + (left - 1)) (rest % 256)) (rest / 256) (left - 1)
+  pub stored-next : {out : List ℕ} {rest done : ℕ} → done < width → Stored l at n width out rest done
+      → Stored l at n width (set out (at + (width - 1 - done)) (rest % 256)) (rest / 256) (done + 1)
   unfolding bytes
-  stored-next {out} {rest} {left} p h =
-      let k = width - left in
-      let i = at + (left - 1) in
-      let e : width - (left - 1) ≡ suc k = omega (arith, h .within) in
-      let f : at + left ≡ suc i = omega arith in
-      let room : i + suc (length (bytes k n)) ≤ length l = omega (arith, length-bytes k n, h .within) in
-      record {
-        within = omega (arith, h .within);
-        rest-is = rw (e, h .rest-is, div-div-eq-div-mul n (256 ^ k) 256, pow-suc 256 k) refl;
-        out-is = rw (e, h .rest-is, h .out-is, f) (sym (put-cons l i (n / 256 ^ k % 256) (bytes k n) room));
-      }
+  stored-next {out} {rest} {done} p h =
+      let i = at + (width - 1 - done) in
+      let e : at + (width - suc done) ≡ i = omega arith in
+      let f : at + (width - done) ≡ suc i = omega arith in
+      let room : i + suc (length (bytes done n)) ≤ length l = omega (arith, length-bytes done n) in
+      rw (add-one done)
+      (record {
+        within = p;
+        rest-is = rw (h .rest-is, div-div-eq-div-mul n (256 ^ done) 256, pow-suc 256 done) refl;
+        out-is = rw (e, h .rest-is, h .out-is, f) (sym (put-cons l i (n / 256 ^ done % 256) (bytes done n) room));
+      })
 
-  pub stored-all : {out : List ℕ} {rest : ℕ} → Stored l at n width out rest 0 → out ≡ put l at (bytes width n)
-  stored-all h = h .out-is ∙ rw (add-zero at, sub-zero width) refl
+  pub stored-all : {out : List ℕ} {rest done : ℕ} → Stored l at n width out rest done → width ≤ done → out ≡ put l at (bytes width n)
+  stored-all {done} h p =
+      let e : done ≡ width = omega (arith, h .within) in
+      let f : at + (width - width) ≡ at = omega arith in
+      h .out-is ∙ rw (e, f) refl
