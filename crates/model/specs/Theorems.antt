@@ -9,3 +9,8 @@ pub mod Order
 pub mod Layers
 pub mod Settled
 pub mod Relaxation
+pub mod Counting
+pub mod Circles
+pub mod Quiet
+pub mod Bound
+pub mod Answer
