@@ -14,3 +14,4 @@ pub mod Circles
 pub mod Quiet
 pub mod Bound
 pub mod Answer
+pub mod Building
