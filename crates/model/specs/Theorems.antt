@@ -15,3 +15,12 @@ pub mod Quiet
 pub mod Bound
 pub mod Answer
 pub mod Building
+pub mod SignedSums
+pub mod Blocks
+pub mod NormalConditions
+pub mod NormalEffects
+pub mod NormalMoves
+pub mod NormalNames
+pub mod NormalCircle
+pub mod NormalTask
+pub mod Demand3

@@ -1,0 +1,162 @@
+-- Demand 3, as one theorem from the bytes of a written table and of a state to the answers of normalise, decide and plan.
+-- Assumes nothing.
+use Prim.Native.Nat.{ℕ, zero, suc, _+_, _*_, _/_, _≤_, _<_}
+use mathlib.Core.Path.{_≡_, refl, sym, ap, subst, _∙_}
+use mathlib.Core.Logic.{_↔_}
+use mathlib.Core.Bool.{Bool, true, false}
+use mathlib.Core.List.{List, [], _∷_, _++_}
+use mathlib.Core.Option.{Option, none, some}
+use native.Mathlib.Omega.{arith}
+use lib.Dec.{T, ltb}
+use lib.IntN.{ℤ}
+use lib.ListN.{length, take, drop, length-append}
+use lib.Seq.{take-append-seam}
+use borrow.Author.Tests.{le-ltb}
+use Rattle.model.specs.Limits.{paper}
+use Rattle.model.specs.Task.{Form, written, normal, Task}
+use Rattle.model.specs.Move.{State, Solves, real, relaxed}
+use Rattle.model.specs.NormalForm.{normalTask, normalState}
+use Rattle.model.specs.Layer.{Outcome, reached, exhausted, reported, outcome, bound}
+use Rattle.model.specs.Reading.{Table, accepted, only, reading}
+use Rattle.model.specs.StateTable.{stateOf, stateRefusal}
+use Rattle.model.specs.Memory.{Built, room, wrong15, answered, build, overwrite}
+use Rattle.model.specs.Plan.{Record, records, firstMoves, planList}
+use Rattle.integer.specs.BigEndian.{bytes, length-bytes}
+use Rattle.model.specs.Calls.{Ready, writes, fitted, writeAnswer, outputAfter, normalOf, normalised, ready, readyWith, readyOf, prepared, normalBytes, normaliseAnswer, normaliseOut, decideAnswer, planAnswer, planOut, planRecords, recordBytes, decided, decideOf, planned, planOf, planFitted, planOutOf}
+use Rattle.model.specs.declared.WriteAnswer.the-variants as write
+use Rattle.model.specs.declared.DecideAnswer.{DecideAnswer}
+use Rattle.model.specs.declared.DecideAnswer.the-variants as decide
+use Rattle.model.specs.declared.PlanAnswer.{PlanAnswer}
+use Rattle.model.specs.declared.PlanAnswer.the-variants as plan
+use Rattle.model.specs.Theorems.Answer.{Reached}
+
+-- "The relaxed task is the normal table run with relaxed moves from layer 0."
+abbrev pub relaxedTask : Table → Task
+relaxedTask w = normalTask (w .task)
+
+-- the state that the table is run from as written, and layer 0
+abbrev pub startState : Table → List ℕ → State
+startState w bs = stateOf (w .task .props) bs
+
+abbrev pub layerZero : Table → List ℕ → State
+layerZero w bs = normalState (startState w bs)
+
+abbrev pub endOf : Table → List ℕ → Outcome
+endOf w bs = outcome (relaxedTask w) (layerZero w bs)
+
+-- The premises of demand 3, for a written table t, a state bs, and memories for the normal form, the layers and the plan.
+pub record Given (t bs spare : List ℕ) (layers : List ℤ) (out : List ℕ) : Type 0 where
+  -- "Accepted means there that no check of table or state refuses them."
+  pub table : Table
+  pub read : reading paper (only written) t ≡ accepted table
+  pub state : stateRefusal paper (table .task .props) (table .task .vars) bs ≡ none
+  -- "Room means the normal form's bytes, P + A + N × (reported layers + 1) numbers of layer memory, with the counts of the
+  -- normal head, and 10 bytes a record of the plan defined above, none with "no plan"."
+  pub normalRoom : length (normalBytes (table .task)) ≤ length spare
+  pub layerRoom : room (relaxedTask table) (reported (endOf table bs)) ≤ length layers
+  pub planRoom :
+      10 * length (planRecords (relaxedTask table) (layerZero table bs) (answered (endOf table bs))) ≤ length out
+  -- no finite layer value passes 1,000,000,000,000
+  pub small :
+      (u : ℕ) → u ≤ reported (endOf table bs) → wrong15 paper (relaxedTask table) (layerZero table bs) u ≡ false
+
+-- the bytes that normalise leaves: as many from the start of its output as it answers
+abbrev pub normalPart : List ℕ → List ℕ → ℕ → List ℕ
+normalPart t spare n = take n (normaliseOut paper t spare)
+
+-- "no plan" as decide's and as plan's answer
+pub record DecideNoPlan (r : DecideAnswer) : Type 0 where
+  pub layers : ℕ
+  pub is : r ≡ decide.NoPlan layers
+
+pub record PlanNoPlan (r : PlanAnswer) : Type 0 where
+  pub layers : ℕ
+  pub is : r ≡ plan.NoPlan layers 0 0
+
+-- "otherwise": the answer layer, the records and the list
+pub record Found (w : Table) (bs : List ℕ) (d : DecideAnswer) (p : PlanAnswer) (before after : List ℕ) : Type 0 where
+  pub layer : ℕ
+  -- it is the first layer that meets the goal, and no layer before it equals its next one
+  pub answerLayer : Reached (relaxedTask w) (layerZero w bs) layer
+  pub decides : d ≡ decide.Plan layer layer
+  pub plans :
+      p
+      ≡ plan.Plan layer layer (length (records (relaxedTask w) (layerZero w bs) layer))
+      (firstMoves (records (relaxedTask w) (layerZero w bs) layer))
+  pub written : after ≡ overwrite (recordBytes (records (relaxedTask w) (layerZero w bs) layer)) before
+  pub solves :
+      Solves relaxed (relaxedTask w) (layerZero w bs) (planList (records (relaxedTask w) (layerZero w bs) layer))
+
+pub record Answers
+    (w : Table) (t bs spare : List ℕ) (layers : List ℤ) (out nb : List ℕ) (d : DecideAnswer) (p : PlanAnswer) : Type 0 where
+  -- decide and plan run on exactly the bytes that normalise wrote
+  pub normalise : normaliseAnswer paper t spare ≡ write.Written (length (normalBytes (w .task)))
+  pub normalForm : nb ≡ normalBytes (w .task)
+  -- "no plan" exactly when no list of any length solves the relaxed task
+  pub decideNoPlan : DecideNoPlan d ↔ ((list : List ℕ) → Solves relaxed (relaxedTask w) (layerZero w bs) list → ⊥)
+  pub planNoPlan : PlanNoPlan p ↔ ((list : List ℕ) → Solves relaxed (relaxedTask w) (layerZero w bs) list → ⊥)
+  -- and then none solves the table as written
+  pub written : DecideNoPlan d → (list : List ℕ) → Solves real (w .task) (startState w bs) list → ⊥
+  -- otherwise the answer layer and the records, whose list solves the relaxed task
+  pub found : (DecideNoPlan d → ⊥) → Found w bs d p out (planOut paper nb bs layers out)
+
+-- ---- the steps from the bytes to the answers
+
+-- "one 4-byte value a written variable (V, or N/2)"
+half-double : (n : ℕ) → 2 * n / 2 ≡ n
+half-double n = omega arith
+
+ready-normal :
+    (w n : Table) (bs : List ℕ) → reading paper (only normal) (normalBytes (w .task)) ≡ accepted n
+    → n .task ≡ relaxedTask w
+    → stateRefusal paper (w .task .props) (w .task .vars) bs ≡ none
+    → prepared paper (normalBytes (w .task)) bs ≡ ready (relaxedTask w) (layerZero w bs)
+unfolding prepared readyOf readyWith normalTask
+ready-normal w n bs e same state = rw (e, readyOf, same, half-double (w .task .vars), state) refl
+
+record-length : (rs : List Record) → length (recordBytes rs) ≡ 10 * length rs
+unfolding recordBytes
+record-length [] = refl
+record-length (r ∷ rs) =
+    omega (arith, length-append (bytes 8 (r .count)) (recordBytes rs), length-bytes 8 (r .count), record-length rs)
+
+-- what normalise writes, and that decide and plan are given just that
+module _ (t spare : List ℕ) (w : Table) (read : reading paper (only written) t ≡ accepted w) (fits : length (normalBytes (w .task)) ≤ length spare) where
+  normalise-writes : normalised paper t (length spare) ≡ writes (normalBytes (w .task))
+  unfolding normalised normalOf fitted
+  normalise-writes = rw (read, le-ltb (length spare) (length (normalBytes (w .task))) fits, fitted) refl
+
+  normalise-answers : normaliseAnswer paper t spare ≡ write.Written (length (normalBytes (w .task)))
+  unfolding normaliseAnswer writeAnswer
+  normalise-answers = rw normalise-writes refl
+
+  normalise-leaves : normalPart t spare (length (normalBytes (w .task))) ≡ normalBytes (w .task)
+  unfolding normaliseOut outputAfter overwrite
+  normalise-leaves = rw normalise-writes (take-append-seam (normalBytes (w .task)) (drop (length (normalBytes (w .task))) spare))
+
+-- decide's and plan's answers where the layers are built to the end
+module _ (w n : Table) (bs : List ℕ) (layers : List ℤ) (out : List ℕ) (ready-is : prepared paper (normalBytes (w .task)) bs ≡ ready (relaxedTask w) (layerZero w bs)) (built : build paper (relaxedTask w) (layerZero w bs) (length layers) ≡ answered (endOf w bs)) where
+  decide-answers : decideAnswer paper (normalBytes (w .task)) bs layers ≡ decided (answered (endOf w bs))
+  unfolding decideAnswer decideOf
+  decide-answers = rw (ready-is, built) refl
+
+  abbrev planned-records : List Record
+  planned-records = planRecords (relaxedTask w) (layerZero w bs) (answered (endOf w bs))
+
+  module _ (fits : 10 * length planned-records ≤ length out) where
+    records-fit : length (recordBytes planned-records) ≤ length out
+    records-fit = omega (arith, record-length planned-records)
+
+    plan-answers : planAnswer paper (normalBytes (w .task)) bs layers out ≡ planned planned-records (answered (endOf w bs))
+    unfolding planAnswer planOf planFitted
+    plan-answers =
+        ap (λ (r : Ready). planOf paper (length layers) (length out) r) ready-is
+        ∙ ap (λ (b : Built). planFitted (length out) (planRecords (relaxedTask w) (layerZero w bs) b) b) built
+        ∙ rw (le-ltb (length out) (length (recordBytes planned-records)) records-fit, planFitted) refl
+
+    plan-writes : planOut paper (normalBytes (w .task)) bs layers out ≡ overwrite (recordBytes planned-records) out
+    unfolding planOut planOutOf fitted outputAfter
+    plan-writes =
+        ap (λ (r : Ready). planOutOf paper (length layers) r out) ready-is
+        ∙ ap (λ (b : Built). outputAfter (fitted (length out) (writes (recordBytes (planRecords (relaxedTask w) (layerZero w bs) b)))) out) built
+        ∙ rw (le-ltb (length out) (length (recordBytes planned-records)) records-fit, fitted) refl
