@@ -73,6 +73,17 @@ pub record PlanNoPlan (r : PlanAnswer) : Type 0 where
   pub layers : ℕ
   pub is : r ≡ plan.NoPlan layers 0 0
 
+-- the reported layers of an answer
+unfoldable pub decideLayers : DecideAnswer → Option ℕ
+decideLayers (decide.Plan layer layers) = some layers
+decideLayers (decide.NoPlan layers) = some layers
+decideLayers (decide.Refused r) = none
+
+unfoldable pub planLayers : PlanAnswer → Option ℕ
+planLayers (plan.Plan layer layers records moves) = some layers
+planLayers (plan.NoPlan layers records moves) = some layers
+planLayers (plan.Refused r) = none
+
 -- "otherwise": the answer layer, the records and the list
 pub record Found (w : Table) (bs : List ℕ) (d : DecideAnswer) (p : PlanAnswer) (before after : List ℕ) : Type 0 where
   pub layer : ℕ
@@ -97,6 +108,9 @@ pub record Answers
   pub planNoPlan : PlanNoPlan p ↔ ((list : List ℕ) → Solves relaxed (relaxedTask w) (layerZero w bs) list → ⊥)
   -- and then none solves the table as written
   pub written : DecideNoPlan d → (list : List ℕ) → Solves real (w .task) (startState w bs) list → ⊥
+  -- both give the reported layers
+  pub decideReports : decideLayers d ≡ some (reported (endOf w bs))
+  pub planReports : planLayers p ≡ some (reported (endOf w bs))
   -- otherwise the answer layer and the records, whose list solves the relaxed task
   pub found : (DecideNoPlan d → ⊥) → Found w bs d p out (planOut paper nb bs layers out)
 
@@ -106,7 +120,7 @@ pub record Answers
 half-double : (n : ℕ) → 2 * n / 2 ≡ n
 half-double n = omega arith
 
-ready-normal :
+pub ready-normal :
     (w n : Table) (bs : List ℕ) → reading paper (only normal) (normalBytes (w .task)) ≡ accepted n
     → n .task ≡ relaxedTask w
     → stateRefusal paper (w .task .props) (w .task .vars) bs ≡ none
@@ -126,17 +140,17 @@ module _ (t spare : List ℕ) (w : Table) (read : reading paper (only written) t
   unfolding normalised normalOf fitted
   normalise-writes = rw (read, le-ltb (length spare) (length (normalBytes (w .task))) fits, fitted) refl
 
-  normalise-answers : normaliseAnswer paper t spare ≡ write.Written (length (normalBytes (w .task)))
+  pub normalise-answers : normaliseAnswer paper t spare ≡ write.Written (length (normalBytes (w .task)))
   unfolding normaliseAnswer writeAnswer
   normalise-answers = rw normalise-writes refl
 
-  normalise-leaves : normalPart t spare (length (normalBytes (w .task))) ≡ normalBytes (w .task)
+  pub normalise-leaves : normalPart t spare (length (normalBytes (w .task))) ≡ normalBytes (w .task)
   unfolding normaliseOut outputAfter overwrite
   normalise-leaves = rw normalise-writes (take-append-seam (normalBytes (w .task)) (drop (length (normalBytes (w .task))) spare))
 
 -- decide's and plan's answers where the layers are built to the end
 module _ (w n : Table) (bs : List ℕ) (layers : List ℤ) (out : List ℕ) (ready-is : prepared paper (normalBytes (w .task)) bs ≡ ready (relaxedTask w) (layerZero w bs)) (built : build paper (relaxedTask w) (layerZero w bs) (length layers) ≡ answered (endOf w bs)) where
-  decide-answers : decideAnswer paper (normalBytes (w .task)) bs layers ≡ decided (answered (endOf w bs))
+  pub decide-answers : decideAnswer paper (normalBytes (w .task)) bs layers ≡ decided (answered (endOf w bs))
   unfolding decideAnswer decideOf
   decide-answers = rw (ready-is, built) refl
 
@@ -147,14 +161,14 @@ module _ (w n : Table) (bs : List ℕ) (layers : List ℤ) (out : List ℕ) (rea
     records-fit : length (recordBytes planned-records) ≤ length out
     records-fit = omega (arith, record-length planned-records)
 
-    plan-answers : planAnswer paper (normalBytes (w .task)) bs layers out ≡ planned planned-records (answered (endOf w bs))
+    pub plan-answers : planAnswer paper (normalBytes (w .task)) bs layers out ≡ planned planned-records (answered (endOf w bs))
     unfolding planAnswer planOf planFitted
     plan-answers =
         ap (λ (r : Ready). planOf paper (length layers) (length out) r) ready-is
         ∙ ap (λ (b : Built). planFitted (length out) (planRecords (relaxedTask w) (layerZero w bs) b) b) built
         ∙ rw (le-ltb (length out) (length (recordBytes planned-records)) records-fit, planFitted) refl
 
-    plan-writes : planOut paper (normalBytes (w .task)) bs layers out ≡ overwrite (recordBytes planned-records) out
+    pub plan-writes : planOut paper (normalBytes (w .task)) bs layers out ≡ overwrite (recordBytes planned-records) out
     unfolding planOut planOutOf fitted outputAfter
     plan-writes =
         ap (λ (r : Ready). planOutOf paper (length layers) r out) ready-is

@@ -1,0 +1,175 @@
+-- Printed terms, items and blocks read back: the reading passes all their commands and has seen them. Assumes nothing.
+use Prim.Native.Nat.{ℕ, _+_, _≤_, _<_}
+use native.Mathlib.Nat.{add-zero, add-assoc}
+use native.Mathlib.Omega.{arith}
+use mathlib.Core.Path.{_≡_, refl}
+use mathlib.Core.Bool.{Bool, true, false}
+use mathlib.Core.List.{List, [], _∷_, _++_, append-nil, append-assoc}
+use mathlib.Core.Option.{some}
+use lib.Dec.{T, T-not, leb, ltb, leb→le, lt→ltb}
+use lib.ListN.{length, getD, length-append}
+use Rattle.integer.specs.BigEndian.{signedBytes, half, length-signedBytes}
+use Rattle.model.specs.Limits.{Limits}
+use Rattle.model.specs.Lists.{all, any}
+use Rattle.model.specs.Task.{Term, Item, Block, clashes}
+use Rattle.model.specs.Command.{Command, term, codeOf, commands, withCode, commandOf, ruleOf, width, termBytes, itemBytes, itemsBytes}
+use Rattle.model.specs.Reading.{Head, Verdict, Wanted, Place, Seen, byteAfter, numberAfter, termAt, itemAt, inPlace, headWanted, wrong6, wrong5, operands, withTerm, withItem, advance}
+use Rattle.model.specs.Theorems.WellFormed.{All, Rising, TermOk, SumOk, ItemOk, Once}
+use Rattle.model.specs.Theorems.Booleans.{T-true, not-false, or-left, or-right}
+use Rattle.model.specs.Theorems.Blocks.{All-append}
+use Rattle.model.specs.Theorems.Searching.{All-map, All-all}
+use Rattle.model.specs.Theorems.Passing.{Left, left-length, left-byte, left-skip, left-after, left-number, SmallLimits, may-follow, Ends, passed}
+use Rattle.model.specs.Theorems.PrintedItems.{weight-range, weight-size, length-terms, itemTerms, itemCommand, itemOperands, item-parts, length-item, item-known, item-wanted, item-counted, item-width, item-closes, item-fresh, item-advance, item-back, item-ranges, item-sum}
+
+-- ---- what stands before against what stands behind
+
+module _ {A : Type 0} (R : A → A → Type 0) where
+  -- each of the first list against each of the second
+  abbrev pub Before : List A → List A → Type 0
+  Before us ts = All (λ y. All (λ x. R x y) us) ts
+
+  pub before-none : (ts : List A) → Before [] ts
+  before-none [] = tt
+  before-none (y ∷ ts) = (tt, before-none ts)
+
+  before-next : (us : List A) (u : A) (ts : List A) → Before us ts → All (R u) ts → Before (us ++ (u ∷ [])) ts
+  before-next us u [] a r = tt
+  before-next us u (y ∷ ts) a r = (All-append (λ x. R x y) us (u ∷ []) (a .0) (r .0, tt), before-next us u ts (a .1) (r .1))
+
+-- two items that may stand in one block
+abbrev pub Apart : Item → Item → Type 0
+Apart j i = T (clashes j i) → ⊥
+
+none-passes : (f : Item → Bool) (b : Block) → (T (any f b) → ⊥) → All (λ i. T (f i) → ⊥) b
+unfolding any
+none-passes f [] n = tt
+none-passes f (i ∷ b) n = (λ t. n (or-left (f i) (any f b) t), none-passes f b (λ t. n (or-right (f i) (any f b) t)))
+
+no-clash : (f : Item → Bool) (b : Block) → All (λ i. T (f i) → ⊥) b → any f b ≡ false
+unfolding any
+no-clash f [] a = refl
+no-clash f (i ∷ b) a = rw (not-false (f i) (a .0)) (no-clash f b (a .1))
+
+-- in the block that stands open at a place, after a head, closed moves and marks
+abbrev pub within : Place → Head → List Block → List ℕ → ℕ → Block → List Term → Seen
+within p h ms marks at b us =
+    record { at = at; place = p; header = h; moves = ms; items = b; terms = us; marks = marks }
+
+module _ {L : Limits} {w : Wanted} {t : List ℕ} {v : Verdict} (small : SmallLimits L) {p : Place} (inside : inPlace p term ≡ true) {h : Head} {ms : List Block} {marks : List ℕ} where
+  -- one term more
+  read-term : (at : ℕ) (b : Block) (us : List Term) (u : Term) (rest : List ℕ) → Left t at (codeOf term ∷ u .var ∷ (signedBytes 2 (u .weight) ++ rest)) → TermOk L (h .form) (h .vars) u → All (λ x. x .var < u .var) us → length us < L .terms → Ends L w t v (within p h ms marks (at + 4) b (us ++ (u ∷ []))) → Ends L w t v (within p h ms marks at b us)
+  unfolding advance withTerm termAt byteAfter numberAfter width ruleOf operands wrong5 wrong6 headWanted commandOf withCode commands codeOf half
+  read-term at b us u rest here ok rising room e =
+      passed s term (u .var ∷ (signedBytes 2 (u .weight) ++ rest)) here refl
+      (record {
+        place = inside;
+        wanted = refl;
+        closes = may-follow s term refl;
+        whole = omega (arith, left-length here, length-append (signedBytes 2 (u .weight)) rest, length-signedBytes 2 (u .weight));
+        counted = refl;
+        ranges = (rw var-read (lt→ltb (u .var) (h .vars) (ok .var)), (rw weight-read (weight-range L (h .form) (u .weight) (ok .weight)), tt));
+        fresh =
+            rw (var-read, T-true (all (λ x. ltb (x .var) (u .var)) us) (All-all (λ (x : Term). ltb (x .var) (u .var)) us (All-map us (λ x. lt→ltb (x .var) (u .var)) rising)))
+            (not-false (leb (L .terms) (length us)) (λ full. omega (arith, leb→le (L .terms) (length us) full)));
+      })
+      (omega arith)
+      (rw (var-read, weight-read) e)
+    where
+      s : Seen
+      s = within p h ms marks at b us
+
+      var-read : getD t (at + 1) 0 ≡ u .var
+      var-read = left-byte here 1
+
+      weight-read : numberAfter 2 t s 2 ≡ u .weight
+      weight-read = left-number 2 (u .weight) rest (left-skip here 2) (omega arith) (omega (arith, weight-size L (h .form) (u .weight) (ok .weight), small .weight))
+
+  read-terms :
+      (ts : List Term) (at : ℕ) (b : Block) (us : List Term) (rest : List ℕ)
+      → Left t at (termBytes ts ++ rest)
+      → All (TermOk L (h .form) (h .vars)) ts
+      → Rising ts
+      → Before (λ (x : Term) (y : Term). x .var < y .var) us ts
+      → length us + length ts ≤ L .terms
+      → Ends L w t v (within p h ms marks (at + length (termBytes ts)) b (us ++ ts))
+      → Ends L w t v (within p h ms marks at b us)
+  unfolding termBytes
+  read-terms [] at b us rest here ok rising before room e = rw (add-zero at, append-nil us) at e
+  read-terms (u ∷ ts) at b us rest here ok rising before room e =
+      read-term at b us u (termBytes ts ++ rest) here′ (ok .0) (before .0) (omega arith)
+      (read-terms ts (at + 4) b (us ++ (u ∷ [])) rest (left-after (codeOf term ∷ u .var ∷ signedBytes 2 (u .weight)) (termBytes ts ++ rest) here′ (omega (arith, length-signedBytes 2 (u .weight)))) (ok .1) (rising .1)
+      (before-next (λ (x : Term) (y : Term). x .var < y .var) us u ts (before .1) (rising .0))
+      (omega (arith, length-append us (u ∷ [])))
+      (rw (append-assoc us (u ∷ []) ts, place) e))
+    where
+      here′ : Left t at (codeOf term ∷ u .var ∷ (signedBytes 2 (u .weight) ++ (termBytes ts ++ rest)))
+      here′ = rw (append-assoc (signedBytes 2 (u .weight)) (termBytes ts) rest) at here
+
+      place : at + 4 + length (termBytes ts) ≡ at + length (termBytes (u ∷ ts))
+      place = omega (arith, length-terms ts, length-terms (u ∷ ts))
+
+  read-item :
+      (i : Item) (at : ℕ) (b : Block) (rest : List ℕ)
+      → Left t at (itemBytes i ++ rest)
+      → inPlace p (itemCommand i) ≡ true
+      → ItemOk L (h .form) (h .props) (h .vars) i
+      → any (λ j. clashes j i) b ≡ false
+      → Ends L w t v (within p h ms marks (at + length (itemBytes i)) (b ++ (i ∷ [])) [])
+      → Ends L w t v (within p h ms marks at b [])
+  unfolding withItem
+  read-item i at b rest here place ok apart e =
+      read-terms (itemTerms i) at b [] (codeOf c ∷ (itemOperands i ++ rest)) here1 (sum .terms) (sum .rising)
+      (before-none (λ (x : Term) (y : Term). x .var < y .var) (itemTerms i)) (omega (arith, sum .few))
+      (passed s c (itemOperands i ++ rest) here2 (item-known i)
+      (record {
+        place = place;
+        wanted = item-wanted w i;
+        closes = item-closes s i refl;
+        whole = omega (arith, left-length here2, length-append (itemOperands i) rest, item-width i);
+        counted = item-counted s i;
+        ranges = item-ranges small s rest i here2 ok;
+        fresh = item-fresh L t s i back apart;
+      })
+      (rw (item-advance t s i, back) (omega (arith, item-width i))) (rw (item-advance t s i, back, at-end) e))
+    where
+      c : Command
+      c = itemCommand i
+
+      sum : SumOk L (h .form) (h .vars) (itemTerms i)
+      sum = item-sum L (h .form) (h .props) (h .vars) i ok
+
+      s : Seen
+      s = within p h ms marks (at + length (termBytes (itemTerms i))) b (itemTerms i)
+
+      here1 : Left t at (termBytes (itemTerms i) ++ (codeOf c ∷ (itemOperands i ++ rest)))
+      here1 = rw (item-parts i, append-assoc (termBytes (itemTerms i)) (codeOf c ∷ itemOperands i) rest) at here
+
+      here2 : Left t (s .at) (codeOf c ∷ (itemOperands i ++ rest))
+      here2 = left-after (termBytes (itemTerms i)) (codeOf c ∷ (itemOperands i ++ rest)) here1 refl
+
+      back : itemAt t s c ≡ some i
+      back = item-back small s rest i here2 refl ok
+
+      at-end : s .at + width c ≡ at + length (itemBytes i)
+      at-end = omega (arith, length-terms (itemTerms i), length-item i)
+
+  pub read-items :
+      (is : Block) (at : ℕ) (b : Block) (rest : List ℕ)
+      → Left t at (itemsBytes is ++ rest)
+      → All (λ i. inPlace p (itemCommand i) ≡ true) is
+      → All (ItemOk L (h .form) (h .props) (h .vars)) is
+      → Once is
+      → Before Apart b is
+      → Ends L w t v (within p h ms marks (at + length (itemsBytes is)) (b ++ is) [])
+      → Ends L w t v (within p h ms marks at b [])
+  unfolding itemsBytes
+  read-items [] at b rest here places ok once apart e = rw (add-zero at, append-nil b) at e
+  read-items (i ∷ is) at b rest here places ok once apart e =
+      read-item i at b (itemsBytes is ++ rest) here′ (places .0) (ok .0) (no-clash (λ j. clashes j i) b (apart .0))
+      (read-items is (at + length (itemBytes i)) (b ++ (i ∷ [])) rest
+      (left-after (itemBytes i) (itemsBytes is ++ rest) here′ refl) (places .1) (ok .1) (once .1)
+      (before-next Apart b i is (apart .1) (none-passes (clashes i) is (T-not (any (clashes i) is) (once .0))))
+      (rw (append-assoc b (i ∷ []) is, add-assoc at (length (itemBytes i)) (length (itemsBytes is)), ← length-append (itemBytes i) (itemsBytes is)) e))
+    where
+      here′ : Left t at (itemBytes i ++ (itemsBytes is ++ rest))
+      here′ = rw (append-assoc (itemBytes i) (itemsBytes is) rest) at here
