@@ -36,5 +36,7 @@ pub mod PrintedBlocks
 pub mod PrintedMoves
 pub mod Prints
 pub mod NormalPrint
+pub mod Entries
+pub mod Memories
 pub mod Demand3
 pub mod EndToEnd
