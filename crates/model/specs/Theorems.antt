@@ -30,6 +30,17 @@ pub mod Supporting
 pub mod Taking
 pub mod Descending
 pub mod Plans
+pub mod Ranges
+pub mod Commands
+pub mod Checks
+pub mod Appending
+pub mod Soundness
+pub mod Reads
+pub mod SeenBytes
+pub mod Printed
+pub mod Marks
+pub mod Accepted
+pub mod Parts
 pub mod Passing
 pub mod PrintedItems
 pub mod PrintedBlocks
@@ -40,3 +51,4 @@ pub mod Entries
 pub mod Memories
 pub mod Demand3
 pub mod EndToEnd
+pub mod Instance

@@ -1,22 +1,26 @@
 -- Demand 3 proved: from the bytes of an accepted written table and state to the answers; and the bound on layers for every
 -- answer whatever. Assumes nothing.
-use Prim.Native.Nat.{ℕ, zero, suc, _+_, _*_, _≤_, _<_}
+use Prim.Native.Nat.{ℕ, zero, suc, _+_, _*_, _/_, _≤_, _<_}
 use mathlib.Core.Path.{_≡_, refl, sym, ap, subst, _∙_}
 use mathlib.Core.Bool.{Bool, true, false}
 use mathlib.Core.List.{List, [], _∷_, _++_}
 use mathlib.Core.Option.{Option, none, some}
 use native.Mathlib.Omega.{arith}
+use lib.Dec.{ltb}
 use lib.IntN.{ℤ}
 use lib.ListN.{length}
 use Rattle.model.specs.Limits.{paper}
 use Rattle.model.specs.Task.{Form, written, normal, Task}
 use Rattle.model.specs.Move.{State, Solves, real, relaxed}
-use Rattle.model.specs.NormalForm.{normalTask}
+use Rattle.model.specs.NormalForm.{normalTask, normalState}
+use Rattle.model.specs.StateTable.{stateOf, stateRefusal}
+use Rattle.model.specs.declared.Refusal.{Refusal}
 use Rattle.model.specs.Layer.{Outcome, reached, exhausted, reported, outcome, bound}
-use Rattle.model.specs.Reading.{Table, accepted, only, reading}
-use Rattle.model.specs.Memory.{answered, build, overwrite}
+use Rattle.model.specs.Command.{taskBytes}
+use Rattle.model.specs.Reading.{Table, accepted, refused, Verdict, only, reading, lengthLimit}
+use Rattle.model.specs.Memory.{Built, answered, stopped, build, overwrite}
 use Rattle.model.specs.Plan.{Record, records, firstMoves, planList}
-use Rattle.model.specs.Calls.{ready, prepared, normalBytes, decided, planned, planRecords, decideAnswer, planAnswer, planOut, recordBytes}
+use Rattle.model.specs.Calls.{Ready, ready, unready, readyWith, readyOf, prepared, decideOf, planOf, planFitted, normalBytes, decided, planned, planRecords, decideAnswer, planAnswer, planOut, recordBytes}
 use Rattle.model.specs.declared.DecideAnswer.{DecideAnswer}
 use Rattle.model.specs.declared.DecideAnswer.the-variants as decide
 use Rattle.model.specs.declared.PlanAnswer.{PlanAnswer}
@@ -25,7 +29,9 @@ use Rattle.model.specs.Theorems.WellFormed.{TaskOk}
 use Rattle.model.specs.Theorems.Booleans.{true-T}
 use Rattle.model.specs.Theorems.Relaxation.{real-solves-relaxed}
 use Rattle.model.specs.Theorems.Answer.{Answered, answered as search-answered, exhausted-no-plan, reported-bound}
-use Rattle.model.specs.Theorems.Building.{build-answers}
+use Rattle.model.specs.Theorems.Building.{build-answers, built-outcome}
+use Rattle.model.specs.Theorems.Accepted.{reading-ok, reading-head, reading-length, reading-limit, reading-form}
+use Rattle.model.specs.Theorems.NormalPrint.{normalTable, normal-accepted}
 use Rattle.model.specs.Theorems.NormalMoves.{written-normal}
 use Rattle.model.specs.Theorems.NormalTask.{normal-ok}
 use Rattle.model.specs.Theorems.Plans.{plan-solves}
@@ -135,3 +141,103 @@ module _ (t bs spare : List ℕ) (layers : List ℤ) (out : List ℕ) (g : Given
   whole =
       subst Goal (sym (normalise-leaves t spare (g .table) (g .read) (g .normalRoom)))
       (by-outcome (endOf (g .table) bs) refl (search-answered okNormal (layerZero (g .table) bs)))
+
+-- the written table's task is within every limit, and the bytes of its normal form are read as its normal task
+accepted-written : (t : List ℕ) (w : Table) → reading paper (only written) t ≡ accepted w → TaskOk paper written (w .task)
+accepted-written t w e = subst (λ (f : Form). TaskOk paper f (w .task)) (reading-form paper written t e) (reading-ok paper (only written) t e)
+
+written-short : (t : List ℕ) (w : Table) → reading paper (only written) t ≡ accepted w → length (taskBytes written (w .task)) ≤ 32_000
+unfolding paper lengthLimit
+written-short t w e =
+    let limit : length t ≤ 32_000 = reading-limit paper (only written) t e in
+    let long : length t ≡ length (taskBytes (w .header .form) (w .task)) = reading-length paper (only written) t e in
+    let same : length (taskBytes (w .header .form) (w .task)) ≡ length (taskBytes written (w .task)) =
+    ap (λ (f : Form). length (taskBytes f (w .task))) (reading-form paper written t e) in
+    omega arith
+
+-- DEMAND 3. For a written table and a state that are accepted, with room in every memory and no finite layer value past
+-- 1,000,000,000,000: normalise writes the normal form, and on exactly those bytes decide and plan answer "no plan" exactly when
+-- no list of any length solves the relaxed task, and then none solves the table as written; otherwise they give the answer layer
+-- and the records, whose list solves the relaxed task; both give the reported layers.
+pub demand3 :
+    (t bs spare : List ℕ) (layers : List ℤ) (out : List ℕ) (g : Given t bs spare layers out)
+    → Answers (g .table) t bs spare layers out (normalPart t spare (length (normalBytes (g .table .task))))
+    (decideAnswer paper (normalPart t spare (length (normalBytes (g .table .task)))) bs layers)
+    (planAnswer paper (normalPart t spare (length (normalBytes (g .table .task)))) bs layers out)
+unfolding normalTable
+demand3 t bs spare layers out g =
+    whole t bs spare layers out g (accepted-written t (g .table) (g .read)) (normalTable (g .table .task))
+    (normal-accepted (g .table .task) (accepted-written t (g .table) (g .read)) (written-short t (g .table) (g .read)))
+    refl
+
+-- Apart from it, for all inputs whatever: the layers of an answer are within (A + N + 1) × (N + 1), with the counts of the head.
+pub record Within (t : List ℕ) (r : ℕ) : Type 0 where
+  pub table : Table
+  pub read : reading paper (only normal) t ≡ accepted table
+  pub bounded : r ≤ bound (table .header .moves) (table .header .vars)
+
+abbrev pub LayersWithin : List ℕ → Option ℕ → Type 0
+LayersWithin t none = Unit {0}
+LayersWithin t (some r) = Within t r
+
+module _ (t : List ℕ) (w : Table) (e : reading paper (only normal) t ≡ accepted w) (s : State) (size : ℕ) where
+  within : (o : Outcome) → build paper (w .task) s size ≡ answered o → Within t (reported o)
+  within o h =
+      record {
+        table = w;
+        read = e;
+        bounded =
+            let ok : TaskOk paper normal (w .task) =
+            subst (λ (f : Form). TaskOk paper f (w .task)) (reading-form paper normal t e) (reading-ok paper (only normal) t e) in
+            rw (reading-head paper (only normal) t e .1, reading-head paper (only normal) t e .2, built-outcome paper (w .task) s size o h)
+            (reported-bound ok s);
+      }
+
+  within-decided : (b : Built) → build paper (w .task) s size ≡ b → LayersWithin t (decideLayers (decided b))
+  unfolding decided decideLayers reported
+  within-decided (answered (reached m)) h = within (reached m) h
+  within-decided (answered (exhausted m)) h = within (exhausted m) h
+  within-decided (stopped n m) h = tt
+
+  within-planned : (rs : List Record) (room : ℕ) (b : Built) → build paper (w .task) s size ≡ b → LayersWithin t (planLayers (planFitted room rs b))
+  unfolding planFitted planned planLayers reported
+  within-planned rs room b h = go (ltb room (length (recordBytes rs))) b h
+    where
+      go : (short : Bool) (b : Built) → build paper (w .task) s size ≡ b → LayersWithin t (planLayers (elim short [ true ↦ plan.Refused (record { number = 13; place = 0 }) | false ↦ planned rs b ]))
+      go true b h = tt
+      go false (answered (reached m)) h = within (reached m) h
+      go false (answered (exhausted m)) h = within (exhausted m) h
+      go false (stopped n m) h = tt
+
+-- decide and plan start from an accepted table's task, or turn back
+prepared-cases :
+    (P : Ready → Type 0) (t bs : List ℕ)
+    → ((w : Table) → reading paper (only normal) t ≡ accepted w → (s : State) → P (ready (w .task) s))
+    → ((r : Refusal) → P (unready r))
+    → P (prepared paper t bs)
+unfolding prepared readyOf readyWith
+prepared-cases P t bs go back = by-verdict (reading paper (only normal) t) refl
+  where
+    by-state : (w : Table) → reading paper (only normal) t ≡ accepted w → (r : Option Refusal) → P (readyWith (w .task) bs r)
+    by-state w e none = go w e (normalState (stateOf (w .task .props) bs))
+    by-state w e (some r) = back r
+
+    by-verdict : (v : Verdict) → reading paper (only normal) t ≡ v → P (readyOf paper v bs)
+    by-verdict (accepted w) e = by-state w e (stateRefusal paper (w .task .props) (w .task .vars / 2) bs)
+    by-verdict (refused r) e = back r
+
+pub decide-within : (t bs : List ℕ) (layers : List ℤ) → LayersWithin t (decideLayers (decideAnswer paper t bs layers))
+unfolding decideAnswer decideOf decideLayers
+decide-within t bs layers =
+    prepared-cases (λ (r : Ready). LayersWithin t (decideLayers (decideOf paper (length layers) r))) t bs
+    (λ w e s. within-decided t w e s (length layers) (build paper (w .task) s (length layers)) refl) (λ r. tt)
+
+pub plan-within :
+    (t bs : List ℕ) (layers : List ℤ) (out : List ℕ) → LayersWithin t (planLayers (planAnswer paper t bs layers out))
+unfolding planAnswer planOf planLayers
+plan-within t bs layers out =
+    prepared-cases (λ (r : Ready). LayersWithin t (planLayers (planOf paper (length layers) (length out) r))) t bs
+    (λ w e s.
+    let b : Built = build paper (w .task) s (length layers) in
+    within-planned t w e s (length layers) (planRecords (w .task) s b) (length out) b refl)
+    (λ r. tt)
