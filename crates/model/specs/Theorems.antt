@@ -1,3 +1,6 @@
+-- Theorems about the definitions, in reading order: what an accepted table gives; the trial campaigns; laws of tests and
+-- searches; order and relaxation; circles and the bound on layers; the normal form; plans; reading and printing; layer memory;
+-- demand 3.
 pub mod WellFormed
 pub mod Campaigns
 pub mod Computing
@@ -14,7 +17,6 @@ pub mod Circles
 pub mod Quiet
 pub mod Bound
 pub mod Answer
-pub mod Building
 pub mod SignedSums
 pub mod Blocks
 pub mod NormalConditions
@@ -30,6 +32,8 @@ pub mod Supporting
 pub mod Taking
 pub mod Descending
 pub mod Plans
+pub mod Records
+pub mod FirstMoves
 pub mod Ranges
 pub mod Commands
 pub mod Checks
@@ -42,11 +46,15 @@ pub mod Marks
 pub mod Accepted
 pub mod Parts
 pub mod Passing
+pub mod PrintedOperands
 pub mod PrintedItems
 pub mod PrintedBlocks
 pub mod PrintedMoves
 pub mod Prints
+pub mod PrintedBytes
 pub mod NormalPrint
+pub mod Decimals
+pub mod Building
 pub mod Entries
 pub mod Memories
 pub mod Demand3

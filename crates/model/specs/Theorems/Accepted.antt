@@ -1,19 +1,19 @@
 -- What an accepted table is (document 01, "Campaign table"): its task is within every limit, its head says what the task has,
 -- its bytes are the bytes of its task, and its marks are where the blocks begin. Assumes nothing.
-use Prim.Native.Nat.{ℕ, zero, suc, _+_, _≤_, _<_}
+use Prim.Native.Nat.{ℕ, _≤_}
 use native.Mathlib.Omega.{arith}
 use mathlib.Core.Path.{_≡_, refl, sym, ap, ap₂, _∙_, subst, subst₂}
-use mathlib.Core.Bool.{Bool, true, false}
-use mathlib.Core.List.{List, [], _∷_, _++_, append-assoc, append-nil}
+use mathlib.Core.Bool.{false}
+use mathlib.Core.List.{List, [], _∷_, _++_, append-nil}
 use lib.Dec.{T}
-use lib.ListN.{length, getD, take, drop, length-append}
+use lib.ListN.{length}
 use lib.Seq.{take-all}
 use Rattle.integer.specs.BigEndian.{AllBytes}
 use Rattle.model.specs.Limits.{Limits}
-use Rattle.model.specs.Task.{Form, written, normal, Block, Task}
+use Rattle.model.specs.Task.{Form, written, normal, Block}
 use Rattle.model.specs.Circle.{circular}
-use Rattle.model.specs.Command.{Command, head, openMove, openGoal, endTable, codeOf, itemsBytes, movesBytes, termBytes, taskBytes}
-use Rattle.model.specs.Reading.{Wanted, only, both, Head, Place, finished, Seen, nothingSeen, headWanted, advance, Table, tableOf, accepted, lengthLimit, reading}
+use Rattle.model.specs.Command.{Command, head, openGoal, endTable, codeOf, itemsBytes, movesBytes, termBytes, taskBytes}
+use Rattle.model.specs.Reading.{Wanted, only, Head, Place, finished, Seen, nothingSeen, headWanted, advance, Table, tableOf, accepted, lengthLimit, reading}
 use Rattle.model.specs.Theorems.WellFormed.{TaskOk}
 use Rattle.model.specs.Theorems.Commands.{Passes}
 use Rattle.model.specs.Theorems.Reads.{reading-induction}
@@ -94,8 +94,8 @@ module _ (L : Limits) (w : Wanted) (t : List ℕ) {k : Table} (e : reading L w t
   reading-accepted =
       reading-induction L w t (Kept L w t) (Accepted L w t) (kept-step L w t) (accepted-end L w t) (kept-start L w t) e
 
-  -- The task of an accepted table is within every limit: ranges, rising sums of at most eight terms, each thing named once, no
-  -- circle, conditions only in the goal.
+  -- The task of an accepted table is within every limit: operands in range, rising sums of at most eight terms, each thing named
+  -- once in its block, nothing but conditions in the goal, no circle.
   pub reading-ok : TaskOk L (k .header .form) (k .task)
   reading-ok = reading-accepted .ok
 

@@ -1,22 +1,20 @@
 -- What the checks of a command say once they are passed (document 01, "Where a call turns back"): where the command stands, its
 -- operands' ranges, and that it names nothing again. Assumes nothing.
-use Prim.Native.Nat.{ℕ, zero, suc, _+_, _*_, _%_, _≤_, _<_}
+use Prim.Native.Nat.{ℕ, suc, _≤_, _<_}
 use native.Mathlib.Omega.{arith}
-use mathlib.Core.Path.{_≡_, refl, sym, ap, _∙_, subst}
+use mathlib.Core.Path.{_≡_, refl, subst}
 use mathlib.Core.Bool.{Bool, true, false, _&&_, _||_, not}
 use mathlib.Core.List.{List, [], _∷_}
-use mathlib.Core.Option.{Option, none, some}
-use lib.Dec.{T, eqb, ltb, leb, eqb→eq, ltb→lt, lt→ltb, leb→le, nltb→le, nleb→lt}
-use lib.IntN.{ℤ, pos, negℤ, natAbs}
-use lib.ListN.{length, getD}
-use lib.Signed.{leZ}
+use lib.Dec.{T, ltb, leb, ltb→lt, lt→ltb, leb→le, nltb→le, nleb→lt}
+use lib.IntN.{natAbs}
+use lib.ListN.{length}
 use Rattle.model.specs.Limits.{Limits}
 use Rattle.model.specs.Lists.{all, any}
-use Rattle.model.specs.Task.{Form, written, normal, Term, Item, need, add, delete, condition, Condition, effect, Effect, Block, clashes}
-use Rattle.model.specs.Command.{Command, head, openMove, openGoal, endTable, needProp, addProp, deleteProp, term, closeCondition, closeEffect, unknown, ruleOf, comparisonCode, kindCode}
-use Rattle.model.specs.Reading.{Wanted, Head, Place, start, preamble, inMove, inGoal, finished, Seen, byteAfter, numberAfter, comparisonOf, kindOf, termAt, itemAt, inPlace, headWanted, leavesOpen, wrong3, wrong6, opened, operands, varsInRange, weightInRange, comparisonInRange, kindInRange, baseInRange, boundInRange, namedAgain, wrong5, withHead}
-use Rattle.model.specs.Theorems.WellFormed.{All, WeightOk, TermOk, SumOk, ComparisonOk, KindOk, BoundOk, ItemOk, GoalItem, VarsOk}
-use Rattle.model.specs.Theorems.Booleans.{T-true, and-left, and-right}
+use Rattle.model.specs.Task.{Form, Term, Item, need, add, delete, condition, Condition, effect, Effect, Block, clashes}
+use Rattle.model.specs.Command.{Command, head, openMove, openGoal, endTable, needProp, addProp, deleteProp, term, closeCondition, closeEffect, ruleOf}
+use Rattle.model.specs.Reading.{Wanted, Head, Place, start, preamble, inMove, inGoal, finished, Seen, byteAfter, numberAfter, comparisonOf, kindOf, termAt, itemAt, inPlace, headWanted, leavesOpen, wrong3, wrong6, opened, operands, baseInRange, namedAgain, wrong5, withHead}
+use Rattle.model.specs.Theorems.WellFormed.{All, TermOk, SumOk, ItemOk, GoalItem, VarsOk}
+use Rattle.model.specs.Theorems.Booleans.{T-true}
 use Rattle.model.specs.Theorems.Searching.{all-All, All-map}
 use Rattle.model.specs.Theorems.Ranges.{vars-in-range, weight-in-range, comparison-in-range, kind-in-range, bound-in-range}
 use Rattle.model.specs.Theorems.Commands.{Passes}
@@ -61,7 +59,7 @@ module _ {L : Limits} {w : Wanted} {t : List ℕ} {s : Seen} {c : Command} where
       go (u ∷ ts) a k n =
           absurd (rw (k, T-true (ltb 0 (suc (length ts))) (lt→ltb 0 (suc (length ts)) (omega arith))) at n)
 
--- ---- head
+-- ---- head: a kind that the call wants, with counts in range
 
 pub record HeadOk (L : Limits) (w : Wanted) (h : Head) : Type 0 where
   pub wanted : T (headWanted w (head (h .form)))
@@ -130,63 +128,54 @@ effectAt t s =
     record { kind = kindOf (byteAfter t s 1); var = byteAfter t s 2; terms = s .terms; base = numberAfter 4 t s 3 }
 
 module _ {L : Limits} {w : Wanted} {t : List ℕ} {s : Seen} where
+  item-read : (c : Command) (i : Item) → ruleOf c .atStart ≡ false → ruleOf c .outside ≡ false → (T (ruleOf c .inGoal) → GoalItem i) → Passes L w t s c → ItemOk L (s .header .form) (s .header .props) (s .header .vars) i → T (not (any (λ j. clashes j i) (s .items))) → ItemRead L s i
+  item-read c i a b g h ok fresh =
+      record { inBlock = in-block c i a b g (s .place) (in-place h); ok = ok; fresh = fresh }
+
+  -- 50, 2B and 2D: a proposition below P; 2B and 2D stand in a move
   pub need-read : Passes L w t s needProp → ItemRead L s (need (byteAfter t s 1))
   unfolding operands wrong5 namedAgain itemAt ruleOf
   need-read h =
-      record {
-        inBlock = in-block needProp (need (byteAfter t s 1)) refl refl (λ g. g) (s .place) (in-place h);
-        ok = ltb→lt (byteAfter t s 1) (s .header .props) (h .ranged .0);
-        fresh = h .fresh;
-      }
+      item-read needProp (need (byteAfter t s 1)) refl refl (λ g. g) h
+      (ltb→lt (byteAfter t s 1) (s .header .props) (h .ranged .0)) (h .fresh)
 
   pub add-read : Passes L w t s addProp → ItemRead L s (add (byteAfter t s 1))
   unfolding operands wrong5 namedAgain itemAt ruleOf
   add-read h =
-      record {
-        inBlock = in-block addProp (add (byteAfter t s 1)) refl refl (λ g. g) (s .place) (in-place h);
-        ok = ltb→lt (byteAfter t s 1) (s .header .props) (h .ranged .0);
-        fresh = h .fresh;
-      }
+      item-read addProp (add (byteAfter t s 1)) refl refl (λ g. g) h
+      (ltb→lt (byteAfter t s 1) (s .header .props) (h .ranged .0)) (h .fresh)
 
   pub delete-read : Passes L w t s deleteProp → ItemRead L s (delete (byteAfter t s 1))
   unfolding operands wrong5 namedAgain itemAt ruleOf
   delete-read h =
-      record {
-        inBlock = in-block deleteProp (delete (byteAfter t s 1)) refl refl (λ g. g) (s .place) (in-place h);
-        ok = ltb→lt (byteAfter t s 1) (s .header .props) (h .ranged .0);
-        fresh = h .fresh;
-      }
+      item-read deleteProp (delete (byteAfter t s 1)) refl refl (λ g. g) h
+      (ltb→lt (byteAfter t s 1) (s .header .props) (h .ranged .0)) (h .fresh)
 
+  -- 43 and 46 close terms that are a sum in range
   pub condition-read : SumOk L (s .header .form) (s .header .vars) (s .terms) → Passes L w t s closeCondition → ItemRead L s (condition (conditionAt t s))
   unfolding operands ruleOf
   condition-read sum h =
-      record {
-        inBlock = in-block closeCondition (condition (conditionAt t s)) refl refl (λ g. g) (s .place) (in-place h);
-        ok =
-            record {
-              sum = sum;
-              comparison = comparison-in-range (s .header .form) (byteAfter t s 1) (h .ranged .0) .0;
-              bound = bound-in-range L (s .header .form) (numberAfter 4 t s 2) (h .ranged .1 .0);
-            };
-        fresh = condition-fresh (conditionAt t s) (s .items);
-      }
+      item-read closeCondition (condition (conditionAt t s)) refl refl (λ g. g) h
+      (record {
+        sum = sum;
+        comparison = comparison-in-range (s .header .form) (byteAfter t s 1) (h .ranged .0) .0;
+        bound = bound-in-range L (s .header .form) (numberAfter 4 t s 2) (h .ranged .1 .0);
+      })
+      (condition-fresh (conditionAt t s) (s .items))
 
   pub effect-read : SumOk L (s .header .form) (s .header .vars) (s .terms) → Passes L w t s closeEffect → ItemRead L s (effect (effectAt t s))
   unfolding operands wrong5 namedAgain itemAt ruleOf baseInRange
   effect-read sum h =
-      record {
-        inBlock = in-block closeEffect (effect (effectAt t s)) refl refl (λ g. g) (s .place) (in-place h);
-        ok =
-            record {
-              var = ltb→lt (byteAfter t s 2) (s .header .vars) (h .ranged .1 .0);
-              kind = kind-in-range (s .header .form) (byteAfter t s 1) (h .ranged .0) .0;
-              sum = sum;
-              base = leb→le (natAbs (numberAfter 4 t s 3)) (L .constant) (h .ranged .1 .1 .0);
-            };
-        fresh = h .fresh;
-      }
+      item-read closeEffect (effect (effectAt t s)) refl refl (λ g. g) h
+      (record {
+        var = ltb→lt (byteAfter t s 2) (s .header .vars) (h .ranged .1 .0);
+        kind = kind-in-range (s .header .form) (byteAfter t s 1) (h .ranged .0) .0;
+        sum = sum;
+        base = leb→le (natAbs (numberAfter 4 t s 3)) (L .constant) (h .ranged .1 .1 .0);
+      })
+      (h .fresh)
 
-  -- a term: in range, above the terms before it, and one of at most eight
+  -- 57: a term in range, above the terms before it, and one of at most eight
   pub term-read : Passes L w t s term → TermOk L (s .header .form) (s .header .vars) (termAt t s) × All (λ (u : Term). u .var < byteAfter t s 1) (s .terms) × (length (s .terms) < L .terms)
   unfolding operands wrong5 termAt
   term-read h =

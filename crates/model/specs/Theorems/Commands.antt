@@ -1,19 +1,20 @@
 -- One command of a table (document 01, "each command, in this order"): the number and place of the refusal when a check fails,
--- what has been seen when none does, and what the checks that pass say. Assumes nothing.
-use Prim.Native.Nat.{ℕ, zero, suc, _+_, _≤_, _<_}
+-- and what has been seen when none does. `Checks` says what the passed checks of each command give. Assumes nothing.
+use Prim.Native.Nat.{ℕ, _+_, _≤_, _<_}
 use native.Mathlib.Omega.{arith}
 use mathlib.Core.Path.{_≡_, refl, sym, ap, _∙_, subst}
-use mathlib.Core.Bool.{Bool, true, false, _&&_, _||_, not}
+use mathlib.Core.Bool.{Bool, true, false, _||_, not}
 use mathlib.Core.List.{List, [], _∷_}
 use mathlib.Core.Option.{Option, none, some}
-use lib.Dec.{T, T-not, not-T, eqb, ltb, leb, eqb→eq, ltb→lt, lt→ltb, nltb→le, nleb→lt}
+use lib.Dec.{T, T-not, eqb, ltb, eqb→eq, ltb→lt, lt→ltb, nltb→le}
 use lib.ListN.{length, getD}
 use Rattle.model.specs.declared.Refusal.{Refusal}
 use Rattle.model.specs.Limits.{Limits}
+use Rattle.model.specs.Task.{written, normal}
 use Rattle.model.specs.Command.{Command, head, openMove, openGoal, endTable, needProp, addProp, deleteProp, term, closeCondition, closeEffect, unknown, codeOf, commands, withCode, commandOf, ruleOf, width}
-use Rattle.model.specs.Reading.{Wanted, Place, start, preamble, inMove, inGoal, finished, Seen, Operand, inPlace, headWanted, leavesOpen, wrong3, wrong2, wrong6, operands, firstWrong, wrong5, refusedAt, refusedOperand, firstRefusal, refusal, advance, withHead, withMark, withTerm, withItem, itemAt, atEnd, Step, more, done, Verdict, refused, stepWith, readCommand}
+use Rattle.model.specs.Reading.{Wanted, Place, start, preamble, inMove, inGoal, finished, Seen, Operand, inPlace, headWanted, leavesOpen, wrong3, wrong2, wrong6, operands, firstWrong, wrong5, refusedAt, refusedOperand, firstRefusal, refusal, advance, atEnd, Step, more, done, refused, stepWith, readCommand}
 use Rattle.model.specs.Theorems.WellFormed.{All}
-use Rattle.model.specs.Theorems.Booleans.{T-true, T-cases, true-T, not-false}
+use Rattle.model.specs.Theorems.Booleans.{T-true, not-false}
 
 -- ---- the refusal of a command: 3, 2, 6, 4, 5, the first that fails
 
@@ -42,6 +43,20 @@ module _ (L : Limits) (w : Wanted) (t : List ℕ) (s : Seen) (c : Command) where
   unfolding refusal firstRefusal refusedAt refusedOperand
   refusal-none h k l m n = rw (h, k, l, m, n) refl
 
+-- 4: "the first such one"
+pub firstWrong-here : (o : Operand) (os : List Operand) → o .inRange ≡ false → firstWrong (o ∷ os) ≡ some (o .offset)
+unfolding firstWrong
+firstWrong-here o os h = rw (h, firstWrong) refl
+
+pub firstWrong-later : (o : Operand) (os : List Operand) → o .inRange ≡ true → firstWrong (o ∷ os) ≡ firstWrong os
+unfolding firstWrong
+firstWrong-later o os h = rw (h, firstWrong) refl
+
+pub firstWrong-none : (os : List Operand) → All (λ (o : Operand). T (o .inRange)) os → firstWrong os ≡ none
+unfolding firstWrong
+firstWrong-none [] a = refl
+firstWrong-none (o ∷ os) a = firstWrong-later o os (T-true (o .inRange) (a .0)) ∙ firstWrong-none os (a .1)
+
 -- ---- what is read: the refusal, or one command more, or the end
 
 module _ (L : Limits) (w : Wanted) (t : List ℕ) (s : Seen) where
@@ -56,6 +71,21 @@ module _ (L : Limits) (w : Wanted) (t : List ℕ) (s : Seen) where
   pub readCommand-end : length t ≤ s .at → readCommand L w t s ≡ done (atEnd t s (s .place))
   unfolding readCommand stepWith
   readCommand-end h = rw (not-false (ltb (s .at) (length t)) (λ b. omega (arith, ltb→lt (s .at) (length t) b)), readCommand) refl
+
+-- every command takes at least one byte
+pub width-positive : (c : Command) → 0 < width c
+unfolding width ruleOf
+width-positive (head f) = omega arith
+width-positive openMove = omega arith
+width-positive openGoal = omega arith
+width-positive endTable = omega arith
+width-positive needProp = omega arith
+width-positive addProp = omega arith
+width-positive deleteProp = omega arith
+width-positive term = omega arith
+width-positive closeCondition = omega arith
+width-positive closeEffect = omega arith
+width-positive unknown = omega arith
 
 -- what holds of every command with the code b, and of an unknown one, holds of the command that b stands for
 withCode-cases : (b : ℕ) (P : Command → Type 0) → ((c : Command) → b ≡ codeOf c → P c) → P unknown → (cs : List Command) → P (withCode b cs)
@@ -72,7 +102,7 @@ pub commandOf-cases : (b : ℕ) (P : Command → Type 0) → ((c : Command) → 
 unfolding commandOf
 commandOf-cases b P known other = withCode-cases b P known other commands
 
--- ---- a command that passes all checks
+-- ---- a command that passes all checks: its byte, then 3, 2, 6, 4 and 5
 
 pub record Passes (L : Limits) (w : Wanted) (t : List ℕ) (s : Seen) (c : Command) : Type 0 where
   pub code : getD t (s .at) 0 ≡ codeOf c
@@ -122,6 +152,22 @@ unknown-misplaced w s = go (s .place)
 pub unknown-refused : {L : Limits} {w : Wanted} {t : List ℕ} {s : Seen} → Passes L w t s unknown → ⊥
 unknown-refused {w} {s} h = T-not (wrong3 w s unknown) (h .placed) (unknown-misplaced w s)
 
+-- the byte of a known command stands for it
+pub commandOf-code : (c : Command) → (c ≡ unknown → ⊥) → commandOf (codeOf c) ≡ c
+unfolding commandOf withCode commands codeOf
+commandOf-code (head written) k = refl
+commandOf-code (head normal) k = refl
+commandOf-code openMove k = refl
+commandOf-code openGoal k = refl
+commandOf-code endTable k = refl
+commandOf-code needProp k = refl
+commandOf-code addProp k = refl
+commandOf-code deleteProp k = refl
+commandOf-code term k = refl
+commandOf-code closeCondition k = refl
+commandOf-code closeEffect k = refl
+commandOf-code unknown k = absurd (k refl)
+
 module _ (L : Limits) (w : Wanted) (t : List ℕ) (s : Seen) where
   -- a known command is refused, or it passes all checks
   refusal-cases : (c : Command) (P : Option Refusal → Type 0) → getD t (s .at) 0 ≡ codeOf c → ((r : Refusal) → P (some r)) → (Passes L w t s c → P none) → P (refusal L w t s c)
@@ -145,6 +191,23 @@ module _ (L : Limits) (w : Wanted) (t : List ℕ) (s : Seen) where
         ranged = operands-silent (s .at) (operands L t s c) (a .1 .1 .1 .0);
         fresh = refusedAt-silent 5 (wrong5 L t s c) (s .at) (a .1 .1 .1 .1 .0);
       }))
+
+  pub passes-refusal : {c : Command} → Passes L w t s c → refusal L w t s c ≡ none
+  unfolding wrong2
+  passes-refusal {c} h =
+      refusal-none L w t s c
+      (not-false (wrong3 w s c) (T-not (wrong3 w s c) (h .placed)))
+      (not-false (ltb (length t) (s .at + width c)) (λ b. omega (arith, ltb→lt (length t) (s .at + width c) b, h .uncut)))
+      (not-false (wrong6 s c) (T-not (wrong6 s c) (h .counted)))
+      (firstWrong-none (operands L t s c) (h .ranged))
+      (not-false (wrong5 L t s c) (T-not (wrong5 L t s c) (h .fresh)))
+
+  -- A command that passes all checks is read.
+  pub readCommand-passes : {c : Command} → Passes L w t s c → readCommand L w t s ≡ more (advance t s c)
+  readCommand-passes {c} h =
+      readCommand-more L w t s c (omega (arith, h .uncut, width-positive c))
+      (ap commandOf (h .code) ∙ commandOf-code c (λ e. unknown-refused (subst (Passes L w t s) e h)))
+      (passes-refusal h)
 
   -- One command: refused; or it passes all checks and what has been seen goes on by it; or the table is at its end.
   pub readCommand-cases :

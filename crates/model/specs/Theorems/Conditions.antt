@@ -1,5 +1,5 @@
 -- The wants of a move or the goal, and of an effect's value: they can be had in a layer where the conditions hold, and every
--- state that meets them, not below the first state, has the conditions and the value (document 01, "Plan"). Assumes nothing.
+-- state at least as high as the first that meets them has the conditions and the value (document 01, "Plan"). Assumes nothing.
 use Prim.Native.Nat.{ℕ, _<_}
 use mathlib.Core.List.{List, [], _∷_}
 use lib.Dec.{T}
@@ -17,8 +17,8 @@ use Rattle.model.specs.Theorems.WellFormed.{All, TermOk, SumOk, EffectOk
 use Rattle.model.specs.Theorems.Booleans.{and-left, and-right, and-both}
 use Rattle.model.specs.Theorems.Searching.{All-map}
 use Rattle.model.specs.Theorems.Order.{finite-⊑, ⊑-reaches, layerSum-finite}
-use Rattle.model.specs.Theorems.Targets.{Each, each-map, wantProp-each, Sat, wantProp-old, wantProp-new}
-use Rattle.model.specs.Theorems.Wanting.{Above, low-reaches, wantSum-each, wantSum-old, wantSum-enough}
+use Rattle.model.specs.Theorems.Targets.{Above, low-reaches, Each, each-map, wantProp-each, Sat, wantProp-old, wantProp-new}
+use Rattle.model.specs.Theorems.Wanting.{wantSum-each, wantSum-old, wantSum-enough}
 
 -- each want names a proposition or a variable of the table, and the layer has it
 pub record Had (props vars : ℕ) (l : Layer) (w : Wants) : Type 0 where
@@ -42,11 +42,24 @@ module _ {x : Layer} (l : Layer) (s : State) where
   wantBlock-old w (i ∷ b) h = wantItem-old w i (wantBlock-old (wantItem l s w i) b h)
 
 module _ (L : Limits) (props vars : ℕ) (l : Layer) (s : State) where
-  pub wantSum-had : (w : Wants) (ts : List Term) (c : ℤ) → SumOk L normal vars ts → Had props vars l w → Had props vars l (wantSum l s w ts c)
+  pub wantSum-had :
+      (w : Wants) (ts : List Term) (c : ℤ)
+      → SumOk L normal vars ts
+      → Had props vars l w
+      → Had props vars l (wantSum l s w ts c)
   wantSum-had w ts c ok h =
-      record { each = wantSum-each l s w ts c (All-map {P = TermOk L normal vars} ts (λ t t-ok z r. (t-ok .var, r)) (ok .terms)) (h .each) }
+      record {
+        each =
+            wantSum-each l s w ts c
+            (All-map {P = TermOk L normal vars} ts (λ t t-ok z r. (t-ok .var, r)) (ok .terms)) (h .each);
+      }
 
-  wantItem-had : (w : Wants) (i : Item) → ItemOk L normal props vars i → T (holdsIn l i) → Had props vars l w → Had props vars l (wantItem l s w i)
+  wantItem-had :
+      (w : Wants) (i : Item)
+      → ItemOk L normal props vars i
+      → T (holdsIn l i)
+      → Had props vars l w
+      → Had props vars l (wantItem l s w i)
   unfolding wantItem holdsIn
   wantItem-had w (need p) ok t h = record { each = wantProp-each (h .each) (ok, t) }
   wantItem-had w (condition c) ok t h = wantSum-had w (c .terms) (c .bound) (ok .sum) h
@@ -55,7 +68,12 @@ module _ (L : Limits) (props vars : ℕ) (l : Layer) (s : State) where
   wantItem-had w (effect e) ok t h = h
 
   -- the conditions of a block that is usable in the layer can be had there
-  pub wantBlock-had : (w : Wants) (b : Block) → All (ItemOk L normal props vars) b → T (usable l b) → Had props vars l w → Had props vars l (wantBlock l s w b)
+  pub wantBlock-had :
+      (w : Wants) (b : Block)
+      → All (ItemOk L normal props vars) b
+      → T (usable l b)
+      → Had props vars l w
+      → Had props vars l (wantBlock l s w b)
   unfolding wantBlock usable all
   wantBlock-had w [] ok t h = h
   wantBlock-had w (i ∷ b) ok t h =
@@ -63,30 +81,56 @@ module _ (L : Limits) (props vars : ℕ) (l : Layer) (s : State) where
       (wantItem-had w i (ok .0) (and-left (holdsIn l i) (all (holdsIn l) b) t) h)
 
   -- the sum is at least the layer's if that is finite, and at least c if it is not
-  pub wantSum-low : (w : Wants) (ts : List Term) (c : ℤ) {y : State} → SumOk L normal vars ts → Above s y → Sat (wantSum l s w ts c) (layerOf y) → lowValue (layerSum (l .val) ts) c ≤ℤ sum (y .val) ts
+  pub wantSum-low :
+      (w : Wants) (ts : List Term) (c : ℤ) {y : State}
+      → SumOk L normal vars ts
+      → Above s y
+      → Sat (wantSum l s w ts c) (layerOf y)
+      → lowValue (layerSum (l .val) ts) c ≤ℤ sum (y .val) ts
   wantSum-low w ts c ok above h =
-      wantSum-enough l above w ts c (All-map {P = TermOk L normal vars} ts (λ t t-ok. t-ok .weight .0) (ok .terms)) h
+      let positive = All-map {P = TermOk L normal vars} ts (λ t t-ok. t-ok .weight .0) (ok .terms) in
+      wantSum-enough l above w ts c positive h
 
-  wantItem-enough : (w : Wants) (i : Item) {y : State} → ItemOk L normal props vars i → Above s y → T (holdsIn l i) → Sat (wantItem l s w i) (layerOf y) → T (holdsIn (layerOf y) i)
+  wantItem-enough :
+      (w : Wants) (i : Item) {y : State}
+      → ItemOk L normal props vars i
+      → Above s y
+      → T (holdsIn l i)
+      → Sat (wantItem l s w i) (layerOf y)
+      → T (holdsIn (layerOf y) i)
   unfolding wantItem holdsIn layerOf
   wantItem-enough w (need p) ok above t h = wantProp-new w p h
   wantItem-enough w (condition c) {y} ok above t h =
-      let low-sum : lowValue (layerSum (l .val) (c .terms)) (c .bound) ≤ℤ sum (y .val) (c .terms) = wantSum-low w (c .terms) (c .bound) (ok .sum) above h in
-      ⊑-reaches (rw (layerSum-finite (y .val) (c .terms)) (finite-⊑ (≤-trans (low-reaches (layerSum (l .val) (c .terms)) (c .bound) t) low-sum)))
+      let low = low-reaches (layerSum (l .val) (c .terms)) (c .bound) t in
+      let enough = wantSum-low w (c .terms) (c .bound) (ok .sum) above h in
+      ⊑-reaches (rw (layerSum-finite (y .val) (c .terms)) (finite-⊑ (≤-trans low enough)))
   wantItem-enough w (add p) ok above t h = tt
   wantItem-enough w (delete p) ok above t h = tt
   wantItem-enough w (effect e) ok above t h = tt
 
-  pub wantBlock-enough : (w : Wants) (b : Block) {y : State} → All (ItemOk L normal props vars) b → Above s y → T (usable l b) → Sat (wantBlock l s w b) (layerOf y) → T (usable (layerOf y) b)
+  -- and they hold in every state at least as high as the first that meets what is wanted for them
+  pub wantBlock-enough :
+      (w : Wants) (b : Block) {y : State}
+      → All (ItemOk L normal props vars) b
+      → Above s y
+      → T (usable l b)
+      → Sat (wantBlock l s w b) (layerOf y)
+      → T (usable (layerOf y) b)
   unfolding wantBlock usable all
   wantBlock-enough w [] ok above t h = tt
   wantBlock-enough w (i ∷ b) {y} ok above t h =
+      let u = wantItem l s w i in
       and-both (holdsIn (layerOf y) i) (all (holdsIn (layerOf y)) b)
-      (wantItem-enough w i (ok .0) above (and-left (holdsIn l i) (all (holdsIn l) b) t) (wantBlock-old l s (wantItem l s w i) b h))
-      (wantBlock-enough (wantItem l s w i) b (ok .1) above (and-right (holdsIn l i) (all (holdsIn l) b) t) h)
+      (wantItem-enough w i (ok .0) above (and-left (holdsIn l i) (all (holdsIn l) b) t) (wantBlock-old l s u b h))
+      (wantBlock-enough u b (ok .1) above (and-right (holdsIn l i) (all (holdsIn l) b) t) h)
 
   -- the effect's value is at least the layer's if that is finite, and at least d if it is not
-  pub wantEffect-enough : (w : Wants) (e : Effect) (d : ℤ) {y : State} → EffectOk L normal vars e → Above s y → Sat (wantSum l s w (e .terms) (d -ℤ e .base)) (layerOf y) → lowValue (layerValue l e) d ≤ℤ value y e
+  pub wantEffect-enough :
+      (w : Wants) (e : Effect) (d : ℤ) {y : State}
+      → EffectOk L normal vars e
+      → Above s y
+      → Sat (wantSum l s w (e .terms) (d -ℤ e .base)) (layerOf y)
+      → lowValue (layerValue l e) d ≤ℤ value y e
   unfolding value layerValue plus lowValue
   wantEffect-enough w e d {y} ok above h =
       go (layerSum (l .val) (e .terms)) (wantSum-low w (e .terms) (d -ℤ e .base) (ok .sum) above h)

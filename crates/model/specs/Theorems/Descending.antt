@@ -1,5 +1,5 @@
--- One layer down keeps its promise: the wants of layer t come to wants of layer t−1 that can be had there, and to moves that, run in
--- any state that meets those, lead to one that meets the wants of layer t (document 01, "Plan"). Assumes nothing.
+-- One layer down keeps its promise: the wants of layer t come to wants of layer t−1 that can be had there, and to moves that,
+-- run in any state that meets those, lead to one that meets the wants of layer t (document 01, "Plan"). Assumes nothing.
 use Prim.Native.Nat.{ℕ, _<_}
 use native.Mathlib.Omega.{arith}
 use mathlib.Core.Path.{_≡_, refl, sym, subst}
@@ -25,12 +25,20 @@ use Rattle.model.specs.Theorems.Supporting.{adder-found, achiever-found,
 use Rattle.model.specs.Theorems.Taking.{grows-trans, Good, leads-grows, Step, nothing, taken, block-had, unwanted, carried}
 
 -- a test passes or fails
-pub elim-cases : {A : Type 0} (P : A → Type 0) (b : Bool) (x y : A) → (T b → P x) → ((T b → ⊥) → P y) → P (elim b [ true ↦ x | false ↦ y ])
+pub elim-cases :
+    {A : Type 0} (P : A → Type 0) (b : Bool) (x y : A)
+    → (T b → P x)
+    → ((T b → ⊥) → P y)
+    → P (elim b [ true ↦ x | false ↦ y ])
 elim-cases P true x y f g = f tt
 elim-cases P false x y f g = g (λ t. t)
 
 -- a target names a variable of the table
-in-range : (v vars : ℕ) (x y : Value) (t : Target) → EachTarget (λ (q : ℤ). (v < vars) × T (reaches x q)) t → (v < vars → Reached y t) → Reached y t
+in-range :
+    (v vars : ℕ) (x y : Value) (t : Target)
+    → EachTarget (λ (q : ℤ). (v < vars) × T (reaches x q)) t
+    → (v < vars → Reached y t)
+    → Reached y t
 in-range v vars x y free had f = tt
 in-range v vars x y (least z) had f = f (had .0)
 
@@ -45,15 +53,20 @@ module _ {L : Limits} {k : Task} (ok : TaskOk L normal k) (l : Layer) (s : State
       → Step k l s d (takeEffect k l s d v z b (effectOn v (moveAt k b))) (λ y. T (reaches ((layerOf y) .val v) z))
   unfolding takeEffect achieves moveAt layerOf
   effect-step d v z b good lt enabled achieved =
-      effectOn-cases (λ o. effectOn v m ≡ o → T (achieves l z o) → Step k l s d (takeEffect k l s d v z b o) wish) (ItemOk L normal (k .props) (k .vars)) v m (move-ok ok b lt .items)
+      effectOn-cases (λ o. effectOn v m ≡ o → T (achieves l z o) → Step k l s d (takeEffect k l s d v z b o) wish)
+      (ItemOk L normal (k .props) (k .vars)) v m (move-ok ok b lt .items)
       (λ at-v t. absurd t)
       (λ e var e-ok at-v t.
+      let x = layerValue l e in
       let goal = demand (e .kind) z in
-      taken ok l s b (runs (e .kind) z (s .val v) (layerValue l e)) wish good lt enabled
-      (wantSum-had L (k .props) (k .vars) l s u (e .terms) (goal -ℤ e .base) (e-ok .sum) (block-had ok l s b lt enabled (good .had)))
-      (λ x. wantSum-old l s u (e .terms) (goal -ℤ e .base))
-      (λ y above sat. ⊑-reaches (finite-⊑ (runs-reach e-ok m v at-v (layerValue l e) z t above (wantEffect-enough L (k .props) (k .vars) l s u e goal e-ok above sat))))
-      (λ y x above. reaches-mono z (above .order .val v)))
+      let had = block-had ok l s b lt enabled (good .had) in
+      taken ok l s b (runs (e .kind) z (s .val v) x) wish good lt enabled
+      (wantSum-had L (k .props) (k .vars) l s u (e .terms) (goal -ℤ e .base) (e-ok .sum) had)
+      (λ y. wantSum-old l s u (e .terms) (goal -ℤ e .base))
+      (λ y above sat.
+      let enough = wantEffect-enough L (k .props) (k .vars) l s u e goal e-ok above sat in
+      ⊑-reaches (finite-⊑ (runs-reach e-ok m v at-v x z t above enough)))
+      (λ y y′ above. reaches-mono z (above .order .val v)))
       refl achieved
     where
       m : Block
@@ -66,16 +79,14 @@ module _ {L : Limits} {k : Task} (ok : TaskOk L normal k) (l : Layer) (s : State
       wish y = T (reaches ((layerOf y) .val v) z)
 
   module _ {w : Wants} (had-next : Had (k .props) (k .vars) (next (k .moves) l) w) where
-    prop-step : (p : ℕ) (d : Descent) → Good k l s d → Step k l s d (descendProp k l s w p d) (λ z. T (w .props p) → T (z .has p))
+    prop-step :
+        (p : ℕ) (d : Descent)
+        → Good k l s d
+        → Step k l s d (descendProp k l s w p d) (λ z. T (w .props p) → T (z .has p))
     unfolding descendProp carryProp takeAdder next layerOf repeated
     prop-step p d good =
         elim-cases goal (w .props p) (elim (l .has p) [ true ↦ carryProp d p | false ↦ takeAdder k l s d (adder k l p) ]) d
-        (λ wanted. elim-cases goal (l .has p) (carryProp d p) (takeAdder k l s d (adder k l p))
-        (λ has. carried k l s wish good (record { each = wantProp-each (good .had .each) (had-next .each .props p wanted .0, has) })
-        (λ x. wantProp-old (d .wants) p) (λ y z above sat t. above .order .has p (wantProp-new (d .wants) p sat)))
-        (λ lacks. adder-found k l (λ o. goal (takeAdder k l s d o)) p (or-cases (l .has p) (gained l p (k .moves)) (had-next .each .props p wanted .1) (λ t. absurd (lacks t)) (λ t. t))
-        (λ b lt enabled new. taken ok l s b 1 wish good lt enabled (block-had ok l s b lt enabled (good .had))
-        (λ x t. t) (λ y above sat t. relaxed-adds p (moveAt k b) y new) (λ y z above q t. above .order .has p (q t)))))
+        (λ wanted. elim-cases goal (l .has p) (carryProp d p) (takeAdder k l s d (adder k l p)) (has-it wanted) (lacks-it wanted))
         (λ not-wanted. unwanted k l s d good (λ z t. absurd (not-wanted t)))
       where
         wish : State → Type 0
@@ -84,19 +95,50 @@ module _ {L : Limits} {k : Task} (ok : TaskOk L normal k) (l : Layer) (s : State
         goal : Descent → Type 0
         goal e = Step k l s d e wish
 
-    value-step : (v : ℕ) (d : Descent) → Good k l s d → Step k l s d (descendValue k l s w v d) (λ y. Reached ((layerOf y) .val v) (w .target v))
+        has-it : T (w .props p) → T (l .has p) → goal (carryProp d p)
+        has-it wanted has =
+            carried k l s wish good
+            (record { each = wantProp-each (good .had .each) (had-next .each .props p wanted .0, has) })
+            (λ x. wantProp-old (d .wants) p)
+            (λ y z above sat t. above .order .has p (wantProp-new (d .wants) p sat))
+
+        gained-it : T (w .props p) → (T (l .has p) → ⊥) → T (gained l p (k .moves))
+        gained-it wanted lacks =
+            or-cases (l .has p) (gained l p (k .moves)) (had-next .each .props p wanted .1) (λ t. absurd (lacks t)) (λ t. t)
+
+        lacks-it : T (w .props p) → (T (l .has p) → ⊥) → goal (takeAdder k l s d (adder k l p))
+        lacks-it wanted lacks =
+            adder-found k l (λ o. goal (takeAdder k l s d o)) p (gained-it wanted lacks)
+            (λ b lt enabled new. taken ok l s b 1 wish good lt enabled
+            (block-had ok l s b lt enabled (good .had))
+            (λ x t. t)
+            (λ y above sat t. relaxed-adds p (moveAt k b) y new)
+            (λ y z above q t. above .order .has p (q t)))
+
+    value-step :
+        (v : ℕ) (d : Descent)
+        → Good k l s d
+        → Step k l s d (descendValue k l s w v d) (λ y. Reached ((layerOf y) .val v) (w .target v))
     unfolding descendValue carryValue takeAchiever next
     value-step v d good = go (w .target v) (had-next .each .targets v)
       where
+        result : ℤ → Descent
+        result z =
+            elim (reaches (l .val v) z) [ true ↦ carryValue d v z | false ↦ takeAchiever k l s d v z (achiever k l v z) ]
+
         go :
-            (t : Target) → EachTarget (λ q. (v < k .vars) × T (reaches (raised l v (k .moves)) q)) t
-            → Step k l s d (elim t [ free ↦ d | least z ↦ elim (reaches (l .val v) z) [ true ↦ carryValue d v z | false ↦ takeAchiever k l s d v z (achiever k l v z) ] ]) (λ y. Reached ((layerOf y) .val v) t)
+            (t : Target)
+            → EachTarget (λ q. (v < k .vars) × T (reaches (raised l v (k .moves)) q)) t
+            → Step k l s d (elim t [ free ↦ d | least z ↦ result z ]) (λ y. Reached ((layerOf y) .val v) t)
         go free had = unwanted k l s d good (λ z. tt)
         go (least z) had =
             elim-cases goal (reaches (l .val v) z) (carryValue d v z) (takeAchiever k l s d v z (achiever k l v z))
-            (λ reached. carried k l s wish good (record { each = wantValue-each (good .had .each) (had .0, reached) })
-            (λ x. wantValue-old (d .wants) v z) (λ y x above sat. reaches-mono z (above .order .val v) (wantValue-new (d .wants) v z sat)))
-            (λ low. achiever-found k l (λ o. goal (takeAchiever k l s d v z o)) v z low (had .1) (λ b lt enabled achieved. effect-step d v z b good lt enabled achieved))
+            (λ reached. carried k l s wish good
+            (record { each = wantValue-each (good .had .each) (had .0, reached) })
+            (λ x. wantValue-old (d .wants) v z)
+            (λ y x above sat. reaches-mono z (above .order .val v) (wantValue-new (d .wants) v z sat)))
+            (λ low. achiever-found k l (λ o. goal (takeAchiever k l s d v z o)) v z low (had .1)
+            (λ b lt enabled achieved. effect-step d v z b good lt enabled achieved))
           where
             wish : State → Type 0
             wish y = T (reaches ((layerOf y) .val v) z)
@@ -106,6 +148,7 @@ module _ {L : Limits} {k : Task} (ok : TaskOk L normal k) (l : Layer) (s : State
 
     -- ---- the layer as a whole
 
+    -- a step for each number below n
     all-steps :
         (f : ℕ → Descent → Descent) (Q : ℕ → State → Type 0)
         → ((i : ℕ) (d : Descent) → Good k l s d → Step k l s d (f i d) (Q i))
@@ -136,17 +179,26 @@ module _ {L : Limits} {k : Task} (ok : TaskOk L normal k) (l : Layer) (s : State
           leads = record {
             leads = λ y z above sat ran. record {
               each = record {
-                props = λ p t. leads-grows k l s (values .grows) (props .leads) .leads y z above sat ran p (had-next .each .props p t .0) t;
-                targets = λ v. in-range v (k .vars) (next (k .moves) l .val v) ((layerOf z) .val v) (w .target v) (had-next .each .targets v) (values .leads .leads y z above sat ran v);
+                props = λ p t.
+                    leads-grows k l s (values .grows) (props .leads) .leads y z above sat ran p (had-next .each .props p t .0) t;
+                targets = λ v.
+                    in-range v (k .vars) (next (k .moves) l .val v) ((layerOf z) .val v) (w .target v)
+                    (had-next .each .targets v) (values .leads .leads y z above sat ran v);
               };
             };
           };
         }
       where
-        props : Step k l s nothing (foldBelow (descendProp k l s w) (k .props) nothing) (λ z. (p : ℕ) → p < k .props → T (w .props p) → T (z .has p))
+        props :
+            Step k l s nothing (foldBelow (descendProp k l s w) (k .props) nothing)
+            (λ z. (p : ℕ) → p < k .props → T (w .props p) → T (z .has p))
         props =
             all-steps (descendProp k l s w) (λ p z. T (w .props p) → T (z .has p)) prop-step (k .props) nothing
-            (record { had = record { each = noWants-each }; move = λ b h. absurd (omega arith); enabled = λ b h. absurd (omega arith) })
+            (record {
+              had = record { each = noWants-each };
+              move = λ b h. absurd (omega arith);
+              enabled = λ b h. absurd (omega arith);
+            })
 
         values :
             Step k l s (foldBelow (descendProp k l s w) (k .props) nothing) (descend k l s w)

@@ -1,8 +1,8 @@
 -- The printed normal form: at most twice as long as the written table, accepted as the normal task, with a state that is
 -- accepted for both tables or for neither. Assumes nothing.
-use Prim.Native.Nat.{ℕ, zero, suc, _+_, _*_, _/_, _≤_}
+use Prim.Native.Nat.{ℕ, _+_, _*_, _/_, _≤_}
 use native.Mathlib.Omega.{arith}
-use mathlib.Core.Path.{_≡_, refl, sym, ap, _∙_}
+use mathlib.Core.Path.{_≡_, refl, ap, _∙_}
 use mathlib.Core.List.{List, [], _∷_, _++_, map}
 use lib.IntN.{ℤ, pos, negℤ, _+ℤ_, _-ℤ_}
 use lib.ListN.{length, length-append, length-map}
@@ -10,7 +10,7 @@ use Rattle.model.specs.Limits.{Limits, paper}
 use Rattle.model.specs.Task.{Form, written, normal, Term, Comparison, atLeast, above, atMost, below, equal, Kind, assign, increase, decrease, Item, need, add, delete, condition, effect, Block, Task}
 use Rattle.model.specs.NormalForm.{negated, signedTerm, signedSum, least, normalCondition, mirrored, normalEffect, normalItem, normalBlock, normalTask}
 use Rattle.model.specs.Command.{openGoal, endTable, codeOf, ruleOf, width, itemBytes, itemsBytes, movesBytes, taskBytes}
-use Rattle.model.specs.Reading.{Head, Table, accepted, only, lengthLimit, reading}
+use Rattle.model.specs.Reading.{Table, accepted, only, lengthLimit, reading}
 use Rattle.model.specs.Calls.{normalBytes}
 use Rattle.model.specs.StateTable.{stateRefusal}
 use Rattle.model.specs.Theorems.WellFormed.{TaskOk}
@@ -36,67 +36,98 @@ length-items (i ∷ b) d =
     omega (arith, length-append (itemBytes i) (itemsBytes (b ++ d)), length-append (itemBytes i) (itemsBytes b), length-items b d)
 
 -- a normal condition, and a normal effect, in front of a block
-length-least : (ts : List Term) (c : ℤ) (b : Block) → length (itemsBytes (least ts c ∷ b)) ≡ 4 * length ts + 6 + length (itemsBytes b)
+length-least :
+    (ts : List Term) (c : ℤ) (b : Block)
+    → length (itemsBytes (least ts c ∷ b)) ≡ 4 * length ts + 6 + length (itemsBytes b)
 unfolding itemsBytes least itemTerms itemCommand width ruleOf
 length-least ts c b =
     omega (arith, length-append (itemBytes (least ts c)) (itemsBytes b), length-item (least ts c), length-signed ts)
 
-length-effect : (k : Kind) (v : ℕ) (ts : List Term) (c : ℤ) (b : Block) → length (itemsBytes (effect (record { kind = k; var = v; terms = signedSum ts; base = c }) ∷ b)) ≡ 4 * length ts + 7 + length (itemsBytes b)
+length-effect :
+    (k : Kind) (v : ℕ) (ts : List Term) (c : ℤ) (b : Block)
+    → length (itemsBytes (effect (record { kind = k; var = v; terms = signedSum ts; base = c }) ∷ b))
+    ≡ 4 * length ts + 7 + length (itemsBytes b)
 unfolding itemsBytes itemTerms itemCommand width ruleOf
 length-effect k v ts c b =
     let i : Item = effect (record { kind = k; var = v; terms = signedSum ts; base = c }) in
     omega (arith, length-append (itemBytes i) (itemsBytes b), length-item i, length-signed ts)
 
-condition-length : (o : Comparison) (ts : List Term) (c : ℤ) → length (itemsBytes (normalCondition o ts c)) ≤ 2 * (4 * length ts + 6)
+condition-length :
+    (o : Comparison) (ts : List Term) (c : ℤ)
+    → length (itemsBytes (normalCondition o ts c)) ≤ 2 * (4 * length ts + 6)
 unfolding normalCondition itemsBytes
 condition-length atLeast ts c = omega (arith, length-least ts c [])
 condition-length above ts c = omega (arith, length-least ts (c +ℤ pos 1) [])
 condition-length atMost ts c = omega (arith, length-least (negated ts) (negℤ c) [], length-negated ts)
 condition-length below ts c = omega (arith, length-least (negated ts) (pos 1 -ℤ c) [], length-negated ts)
 condition-length equal ts c =
-    omega (arith, length-least ts c (least (negated ts) (negℤ c) ∷ []), length-least (negated ts) (negℤ c) [], length-negated ts)
+    let second = least (negated ts) (negℤ c) in
+    omega (arith, length-least ts c (second ∷ []), length-least (negated ts) (negℤ c) [], length-negated ts)
 
-mirrored-length : (k : Kind) (v : ℕ) (ts : List Term) (c : ℤ) → length (itemsBytes (mirrored k v ts c)) ≡ 2 * (4 * length ts + 7)
+mirrored-length :
+    (k : Kind) (v : ℕ) (ts : List Term) (c : ℤ)
+    → length (itemsBytes (mirrored k v ts c)) ≡ 2 * (4 * length ts + 7)
 unfolding mirrored itemsBytes
 mirrored-length k v ts c =
     let mirror : Item = effect (record { kind = k; var = 2 * v + 1; terms = signedSum (negated ts); base = negℤ c }) in
-    omega (arith, length-effect k (2 * v) ts c (mirror ∷ []), length-effect k (2 * v + 1) (negated ts) (negℤ c) [], length-negated ts)
+    omega
+    (arith, length-effect k (2 * v) ts c (mirror ∷ []), length-effect k (2 * v + 1) (negated ts) (negℤ c) [], length-negated ts)
 
-effect-length : (k : Kind) (v : ℕ) (ts : List Term) (c : ℤ) → length (itemsBytes (normalEffect k v ts c)) ≡ 2 * (4 * length ts + 7)
+effect-length :
+    (k : Kind) (v : ℕ) (ts : List Term) (c : ℤ)
+    → length (itemsBytes (normalEffect k v ts c)) ≡ 2 * (4 * length ts + 7)
 unfolding normalEffect
 effect-length assign v ts c = mirrored-length assign v ts c
 effect-length increase v ts c = mirrored-length increase v ts c
-effect-length decrease v ts c = mirrored-length increase v (negated ts) (negℤ c) ∙ ap (λ (n : ℕ). 2 * (4 * n + 7)) (length-negated ts)
+effect-length decrease v ts c =
+    mirrored-length increase v (negated ts) (negℤ c) ∙ ap (λ (n : ℕ). 2 * (4 * n + 7)) (length-negated ts)
 
 item-length : (i : Item) → length (itemsBytes (normalItem i)) ≤ 2 * length (itemBytes i)
 unfolding normalItem itemBytes itemsBytes itemTerms itemCommand width ruleOf
-item-length (need p) = omega (arith, length-item (need p))
-item-length (add p) = omega (arith, length-item (add p))
-item-length (delete p) = omega (arith, length-item (delete p))
+item-length (need p) = omega arith
+item-length (add p) = omega arith
+item-length (delete p) = omega arith
 item-length (condition c) = omega (arith, condition-length (c .comparison) (c .terms) (c .bound), length-item (condition c))
 item-length (effect e) = omega (arith, effect-length (e .kind) (e .var) (e .terms) (e .base), length-item (effect e))
 
 block-length : (b : Block) → length (itemsBytes (normalBlock b)) ≤ 2 * length (itemsBytes b)
 unfolding normalBlock itemsBytes
 block-length [] = omega arith
-block-length (i ∷ b) = omega (arith, length-items (normalItem i) (normalBlock b), length-append (itemBytes i) (itemsBytes b), item-length i, block-length b)
+block-length (i ∷ b) =
+    omega
+    (arith, length-items (normalItem i) (normalBlock b), length-append (itemBytes i) (itemsBytes b), item-length i, block-length b)
 
 moves-length : (bs : List Block) → length (movesBytes (map normalBlock bs)) ≤ 2 * length (movesBytes bs)
 unfolding movesBytes
 moves-length [] = omega arith
-moves-length (b ∷ bs) = omega (arith, length-append (itemsBytes (normalBlock b)) (movesBytes (map normalBlock bs)), length-append (itemsBytes b) (movesBytes bs), block-length b, moves-length bs)
+moves-length (b ∷ bs) =
+    let normal-rest = movesBytes (map normalBlock bs) in
+    omega (
+      arith,
+      length-append (itemsBytes (normalBlock b)) normal-rest,
+      length-append (itemsBytes b) (movesBytes bs),
+      block-length b,
+      moves-length bs,
+    )
 
-length-task : (f : Form) (k : Task) → length (taskBytes f k) ≡ 6 + length (movesBytes (k .moves)) + length (itemsBytes (k .goal))
+length-task :
+    (f : Form) (k : Task)
+    → length (taskBytes f k) ≡ 6 + length (movesBytes (k .moves)) + length (itemsBytes (k .goal))
 unfolding taskBytes
 length-task f k =
+    let moves = movesBytes (k .moves) in
     let goal = codeOf openGoal ∷ itemsBytes (k .goal) in
-    omega (arith, length-append (movesBytes (k .moves) ++ goal) (codeOf endTable ∷ []), length-append (movesBytes (k .moves)) goal)
+    omega (arith, length-append (moves ++ goal) (codeOf endTable ∷ []), length-append moves goal)
 
 -- A printed normal form is at most twice as long as the written table.
 pub normal-length : (k : Task) → length (normalBytes k) ≤ 2 * length (taskBytes written k)
 unfolding normalBytes normalTask
 normal-length k =
     omega (arith, length-task written k, length-task normal (normalTask k), moves-length (k .moves), block-length (k .goal))
+
+-- "written 32,000, normal 64,000 bytes at most": the normal form of a written table is never too long
+pub normal-fits : (k : Task) → length (taskBytes written k) ≤ 32_000 → length (normalBytes k) ≤ 64_000
+normal-fits k short = omega (arith, normal-length k)
 
 -- ---- the normal form is accepted
 
@@ -140,6 +171,8 @@ normal-accepted k ok short = normal-read k paper-small (omega arith) ok short
 
 -- "then one 4-byte value a written variable (V, or N/2)": a state is accepted for a written table and for its normal form, or
 -- refused for both, with the same number and place.
-pub normal-state : (L : Limits) (k : Task) (bs : List ℕ) → stateRefusal L (normalTask k .props) (normalTask k .vars / 2) bs ≡ stateRefusal L (k .props) (k .vars) bs
+pub normal-state :
+    (L : Limits) (k : Task) (bs : List ℕ)
+    → stateRefusal L (normalTask k .props) (normalTask k .vars / 2) bs ≡ stateRefusal L (k .props) (k .vars) bs
 unfolding normalTask
 normal-state L k bs = ap (λ (n : ℕ). stateRefusal L (k .props) n bs) (omega arith)

@@ -2,7 +2,7 @@
 -- command, that one left out"): they are the bytes of the block's items behind its command. Assumes nothing.
 use Prim.Native.Nat.{ℕ, suc, _+_, _≤_, _<_}
 use native.Mathlib.Omega.{arith}
-use mathlib.Core.Path.{_≡_, refl, sym, ap, _∙_, subst}
+use mathlib.Core.Path.{_≡_, sym, ap, _∙_, subst}
 use mathlib.Core.List.{List, [], _∷_, _++_, append-assoc}
 use lib.ListN.{length, getD, take, drop, length-append}
 use lib.Seq.{slice, split-at, take-append-add, take-append-seam, take-append-le, take-length, take-all, take-suc, drop-append-seam}
@@ -10,9 +10,9 @@ use Rattle.integer.specs.BigEndian.{AllBytes}
 use Rattle.model.specs.Limits.{Limits}
 use Rattle.model.specs.Task.{Form, Block, Task}
 use Rattle.model.specs.Command.{head, openMove, openGoal, endTable, codeOf, itemsBytes, movesBytes, taskBytes}
-use Rattle.model.specs.Reading.{Wanted, Table, accepted, reading}
+use Rattle.model.specs.Reading.{Wanted, Table}
 use Rattle.model.specs.Theorems.Appending.{movesBytes-append, movesBytes-snoc}
-use Rattle.model.specs.Theorems.Marks.{starts, starts-at}
+use Rattle.model.specs.Theorems.Marks.{starts-at}
 use Rattle.model.specs.Theorems.Accepted.{Accepted}
 
 -- the middle of three parts

@@ -1,30 +1,53 @@
 -- The plan's list solves the relaxed task (document 01, "Plan"). Assumes nothing.
-use Prim.Native.Nat.{ℕ, zero, suc, _≤_, _<_}
+use Prim.Native.Nat.{ℕ, zero, suc, _+_, _≤_, _<_}
 use native.Mathlib.Omega.{arith}
 use mathlib.Core.Path.{_≡_, refl, sym, subst}
+use mathlib.Core.Option.{Option, none, some}
 use mathlib.Core.List.{List, [], _∷_, _++_, append-nil, append-assoc}
 use lib.Dec.{T, eqb, eqb→eq}
+use lib.IntN.{ℤ}
 use lib.ListN.{length, replicate}
 use Rattle.model.specs.Limits.{Limits}
-use Rattle.model.specs.Task.{normal, Task}
+use Rattle.model.specs.Task.{Effect, effectOn, normal, Task}
 use Rattle.model.specs.Move.{State, applicable, relaxed, moveAt, Solves}
-use Rattle.model.specs.Layer.{Layer, layerOf, layer, layerAt, meetsGoal}
-use Rattle.model.specs.Plan.{Wants, noWants, wantBlock, Descent, descend, Record, layerRecords, recordsFrom, records, planList}
+use Rattle.model.specs.Layer.{reaches, layerValue, Layer, layerOf, layer, layerAt, meetsGoal}
+use Rattle.model.specs.Plan.{achieves, runs, takeEffect, takeAchiever, Wants, noWants, wantBlock, Descent, descend, Record, layerRecords, recordsFrom, records, planList}
 use Rattle.model.specs.Theorems.WellFormed.{TaskOk}
 use Rattle.model.specs.Theorems.Searching.{below-suc}
 use Rattle.model.specs.Theorems.Order.{usable-state}
-use Rattle.model.specs.Theorems.Layers.{move-ok}
-use Rattle.model.specs.Theorems.Targets.{noWants-each, Sat, sat-mono}
-use Rattle.model.specs.Theorems.Wanting.{Above}
+use Rattle.model.specs.Theorems.Layers.{layer-mono, move-ok}
+use Rattle.model.specs.Theorems.Targets.{Above, above-refl, above-trans, noWants-each, Sat, sat-mono}
 use Rattle.model.specs.Theorems.Conditions.{Had, had-sat, wantBlock-had, wantBlock-enough}
-use Rattle.model.specs.Theorems.Supporting.{repeated, above-refl, above-trans, relaxed-above, repeated-above}
-use Rattle.model.specs.Theorems.Taking.{Ran, Step, nothing}
+use Rattle.model.specs.Theorems.Supporting.{runs-positive, repeated, relaxed-above, repeated-above}
+use Rattle.model.specs.Theorems.Taking.{counted-new, RanOne, Ran, Step, nothing}
 use Rattle.model.specs.Theorems.Descending.{elim-cases, descend-step}
+
+-- ---- counts
+
+module _ (k : Task) (s : State) (t : ℕ) where
+  -- "Count: 1; for += (T − state value of v)/d rounded up": a move taken at layer t for a target that the layer has not reached
+  -- has a count of 1 or more, so it has a record
+  pub taken-count :
+      (d : Descent) (v : ℕ) (z : ℤ) (b : ℕ)
+      → (T (reaches ((layerAt k s t) .val v) z) → ⊥)
+      → T (achieves (layerAt k s t) z (effectOn v (moveAt k b)))
+      → 1 ≤ (takeAchiever k (layerAt k s t) s d v z (some b)) .count b
+  unfolding takeAchiever takeEffect achieves layerAt layer
+  taken-count d v z b low achieved = go (effectOn v (moveAt k b)) achieved
+    where
+      go : (o : Option Effect) → T (achieves (layerAt k s t) z o) → 1 ≤ (takeEffect k (layerAt k s t) s d v z b o) .count b
+      go none a = absurd a
+      go (some e) a =
+          let above = layer-mono (k .moves) s {t = 0} {u = t} (omega arith) in
+          let n = runs (e .kind) z (s .val v) (layerValue (layerAt k s t) e) in
+          omega (arith, runs-positive (layerAt k s t) s v z e above low a, counted-new (d .count) b n)
 
 -- ---- the list of one layer
 
 -- a layer's list: each move as often as its count, and those that are not counted not at all
-layer-list : (t : ℕ) (count : ℕ → ℕ) (b n : ℕ) → planList (layerRecords t count b (suc n)) ≡ replicate (count b) b ++ planList (layerRecords t count (suc b) n)
+layer-list :
+    (t : ℕ) (count : ℕ → ℕ) (b n : ℕ)
+    → planList (layerRecords t count b (suc n)) ≡ replicate (count b) b ++ planList (layerRecords t count (suc b) n)
 unfolding layerRecords planList
 layer-list t count b n =
     elim-cases (λ rs. planList rs ≡ replicate (count b) b ++ planList (layerRecords t count (suc b) n)) (eqb (count b) 0)
@@ -35,7 +58,8 @@ layer-list t count b n =
 planList-append : (rs qs : List Record) → planList (rs ++ qs) ≡ planList rs ++ planList qs
 unfolding planList
 planList-append [] qs = refl
-planList-append (r ∷ rs) qs = rw (planList-append rs qs) (sym (append-assoc (replicate (r .count) (r .move)) (planList rs) (planList qs)))
+planList-append (r ∷ rs) qs =
+    rw (planList-append rs qs) (sym (append-assoc (replicate (r .count) (r .move)) (planList rs) (planList qs)))
 
 module _ (k : Task) where
   -- a move whose conditions hold in y and above is run n times in a row
@@ -47,12 +71,15 @@ module _ (k : Task) where
       → Solves relaxed k y (replicate n b ++ rest)
   unfolding repeated
   replicate-solves zero b y rest lt enabled solves = solves
-  replicate-solves (suc n) b y rest lt enabled solves = (
-    lt (omega arith),
-    enabled (omega arith) y (above-refl y),
-    replicate-solves n b (relaxed (moveAt k b) y) rest (λ h. lt (omega arith)) (λ h z above. enabled (omega arith) z (above-trans (relaxed-above (moveAt k b) y) above)) solves,
-  )
+  replicate-solves (suc n) b y rest lt enabled solves =
+      let once = relaxed-above (moveAt k b) y in (
+        lt (omega arith),
+        enabled (omega arith) y (above-refl y),
+        replicate-solves n b (relaxed (moveAt k b) y) rest
+            (λ h. lt (omega arith)) (λ h z above. enabled (omega arith) z (above-trans once above)) solves,
+      )
 
+  -- the moves counted, from b on, run one after the other
   layer-solves :
       (t : ℕ) (count : ℕ → ℕ) (b n : ℕ) (y : State) (rest : List ℕ)
       → ((c : ℕ) → 1 ≤ count c → c < length (k .moves))
@@ -60,22 +87,32 @@ module _ (k : Task) where
       → ((z : State) → Ran k count b n y z → Solves relaxed k z rest)
       → Solves relaxed k y (planList (layerRecords t count b n) ++ rest)
   unfolding layerRecords planList
-  layer-solves t count b zero y rest lt enabled after = after y (record { above = above-refl y; each = λ c low high. absurd (omega arith) })
+  layer-solves t count b zero y rest lt enabled after =
+      after y (record { above = above-refl y; each = λ c low high. absurd (omega arith) })
   layer-solves t count b (suc n) y rest lt enabled after =
-      rw (layer-list t count b n, append-assoc (replicate (count b) b) (planList (layerRecords t count (suc b) n)) rest)
-      (replicate-solves (count b) b y (planList (layerRecords t count (suc b) n) ++ rest) (lt b) (enabled b)
-      (layer-solves t count (suc b) n x rest lt (λ c h z above. enabled c h z (above-trans y-x above)) (λ z ran. after z (record {
-        above = above-trans y-x (ran .above);
-        each = λ c low high. below-suc b c (omega arith)
-            (λ later. let one = ran .each c later (omega arith) in record { before = one .before; start = above-trans y-x (one .start); end = one .end })
-            (λ same. record { before = y; start = above-refl y; end = subst (λ (a : ℕ). Above (repeated (count a) (moveAt k a) y) z) same (ran .above) });
-      }))))
+      rw (layer-list t count b n, append-assoc (replicate (count b) b) later rest)
+      (replicate-solves (count b) b y (later ++ rest) (lt b) (enabled b)
+      (layer-solves t count (suc b) n x rest lt (λ c h z above. enabled c h z (above-trans y-x above))
+      (λ z ran. after z (record { above = above-trans y-x (ran .above); each = ran-each z ran }))))
     where
+      later : List ℕ
+      later = planList (layerRecords t count (suc b) n)
+
       x : State
       x = repeated (count b) (moveAt k b) y
 
       y-x : Above y x
       y-x = repeated-above (count b) (moveAt k b) y
+
+      ran-each : (z : State) → Ran k count (suc b) n x z → (c : ℕ) → b ≤ c → c < b + suc n → RanOne k count c y z
+      ran-each z ran c low high =
+          below-suc b c (omega arith)
+          (λ after-b.
+          let one = ran .each c after-b (omega arith) in
+          record { before = one .before; start = above-trans y-x (one .start); end = one .end })
+          (λ same.
+          let end = subst (λ (a : ℕ). Above (repeated (count a) (moveAt k a) y) z) same (ran .above) in
+          record { before = y; start = above-refl y; end = end })
 
 -- ---- the list of all layers
 
@@ -89,29 +126,36 @@ module _ {L : Limits} {k : Task} (ok : TaskOk L normal k) (s : State) where
   unfolding recordsFrom planList layerAt layer moveAt
   layers-solve zero w rest had after = after s (above-refl s) (had-sat had)
   layers-solve (suc t) w rest had after =
-      rw (planList-append (recordsFrom k s t (d .wants)) (layerRecords t (d .count) 0 moves), append-assoc (planList (recordsFrom k s t (d .wants))) (planList (layerRecords t (d .count) 0 moves)) rest)
-      (layers-solve t (d .wants) (planList (layerRecords t (d .count) 0 moves) ++ rest) (step .good .had)
-      (λ y above sat. layer-solves k t (d .count) 0 moves y rest (step .good .move)
-      (λ c h z up. subst T (usable-state z (move-ok ok c (step .good .move c h))) (step .good .enabled c h z (above-trans above up) (sat-mono sat (up .order))))
+      rw (planList-append below here, append-assoc (planList below) (planList here) rest)
+      (layers-solve t (d .wants) (planList here ++ rest) (step .good .had)
+      (λ y above sat. layer-solves k t (d .count) 0 (length (k .moves)) y rest (step .good .move)
+      (λ c h z up.
+      let enabled = step .good .enabled c h z (above-trans above up) (sat-mono sat (up .order)) in
+      subst T (usable-state z (move-ok ok c (step .good .move c h))) enabled)
       (λ z ran. after z (above-trans above (ran .above)) (step .leads .leads y z above sat ran))))
     where
-      moves : ℕ
-      moves = length (k .moves)
-
       d : Descent
       d = descend k (layerAt k s t) s w
+
+      below : List Record
+      below = recordsFrom k s t (d .wants)
+
+      here : List Record
+      here = layerRecords t (d .count) 0 (length (k .moves))
 
       step : Step k (layerAt k s t) s nothing d (λ z. Sat w (layerOf z))
       step = descend-step ok (layerAt k s t) s had
 
-  -- "A list solves a task if each move's conditions hold when it runs and the goal holds at the end": if layer m meets the goal, the
-  -- plan's list, "its records in order, each move written as many times in a row as its count", solves the relaxed task
+  -- "A plan's list is its records in order, each move written as many times in a row as its count." If layer m meets the goal,
+  -- the plan's list solves the relaxed task: "each move's conditions hold when it runs and the goal holds at the end"
   pub plan-solves : (m : ℕ) → T (meetsGoal k s m) → Solves relaxed k s (planList (records k s m))
   unfolding records meetsGoal
   plan-solves m met =
       rw append-nil at (layers-solve m goal []
       (wantBlock-had L (k .props) (k .vars) l s noWants (k .goal) (ok .goal .items) met (record { each = noWants-each }))
-      (λ y above sat. subst T (usable-state y (ok .goal)) (wantBlock-enough L (k .props) (k .vars) l s noWants (k .goal) (ok .goal .items) above met sat)))
+      (λ y above sat.
+      let enough = wantBlock-enough L (k .props) (k .vars) l s noWants (k .goal) (ok .goal .items) above met sat in
+      subst T (usable-state y (ok .goal)) enough))
     where
       l : Layer
       l = layerAt k s m

@@ -3,87 +3,30 @@
 use Prim.Native.Nat.{ℕ, suc, _+_, _*_, _≤_}
 use native.Mathlib.Omega.{arith}
 use mathlib.Core.Path.{_≡_, refl, ap}
-use mathlib.Core.Bool.{true, false}
+use mathlib.Core.Bool.{true, false, not}
 use mathlib.Core.List.{List, [], _∷_, _++_}
 use mathlib.Core.Option.{some}
-use lib.Dec.{T, leb, lt→ltb, le→leb}
-use lib.IntN.{ℤ, pos, negℤ, natAbs}
+use lib.Dec.{T, lt→ltb, le→leb}
+use lib.IntN.{ℤ, natAbs}
 use lib.ListN.{length, length-append}
-use lib.Signed.{leZ}
 use Rattle.integer.specs.BigEndian.{signedBytes, half, length-signedBytes}
-use Rattle.integer.specs.Linear.{zlin, le-leZ, size-within, neg-up, neg-dn}
 use Rattle.model.specs.Limits.{Limits}
 use Rattle.model.specs.Lists.{any}
-use Rattle.model.specs.Task.{Form, written, normal, Term, Comparison, atLeast, above, atMost, below, equal, Condition, Kind, assign, increase, decrease, Effect, Item, need, add, delete, condition, effect, clashes}
-use Rattle.model.specs.Command.{Command, needProp, addProp, deleteProp, closeCondition, closeEffect, codeOf, commands, withCode, commandOf, ruleOf, width, comparisonCode, kindCode, termBytes, itemBytes}
-use Rattle.model.specs.Reading.{Wanted, Seen, byteAfter, numberAfter, comparisonOf, kindOf, itemAt, headWanted, leavesOpen, wrong6, wrong5, weightInRange, comparisonInRange, kindInRange, baseInRange, boundInRange, operands, namedAgain, withItem, advance}
-use Rattle.model.specs.Theorems.WellFormed.{All, WeightOk, SumOk, ComparisonOk, KindOk, BoundOk, ConditionOk, EffectOk, ItemOk}
-use Rattle.model.specs.Theorems.Booleans.{true-T, and-both}
+use Rattle.model.specs.Task.{Form, Term, Condition, Effect, Item, need, add, delete, condition, effect, clashes}
+use Rattle.model.specs.Command.{Command, needProp, addProp, deleteProp, closeCondition, closeEffect, codeOf, ruleOf, width, comparisonCode, kindCode, termBytes, itemBytes}
+use Rattle.model.specs.Reading.{Wanted, Seen, byteAfter, numberAfter, itemAt, headWanted, leavesOpen, wrong6, wrong5, baseInRange, operands, namedAgain, withItem, advance}
+use Rattle.model.specs.Theorems.WellFormed.{All, SumOk, ConditionOk, EffectOk, ItemOk}
+use Rattle.model.specs.Theorems.PrintedOperands.{comparison-back, kind-back, comparison-range, kind-range, bound-range, bound-size}
 use Rattle.model.specs.Theorems.Passing.{Left, left-byte, left-skip, left-number, SmallLimits, may-follow}
-
--- ---- operands
-
-pub comparison-back : (o : Comparison) → comparisonOf (comparisonCode o) ≡ o
-unfolding comparisonOf comparisonCode
-comparison-back atLeast = refl
-comparison-back above = refl
-comparison-back atMost = refl
-comparison-back below = refl
-comparison-back equal = refl
-
-pub kind-back : (k : Kind) → kindOf (kindCode k) ≡ k
-unfolding kindOf kindCode
-kind-back assign = refl
-kind-back increase = refl
-kind-back decrease = refl
-
-pub comparison-range : (f : Form) (o : Comparison) → ComparisonOk f o → T (comparisonInRange f (comparisonCode o))
-unfolding comparisonInRange comparisonCode
-comparison-range written atLeast ok = tt
-comparison-range written above ok = tt
-comparison-range written atMost ok = tt
-comparison-range written below ok = tt
-comparison-range written equal ok = tt
-comparison-range normal atLeast ok = tt
-comparison-range normal above ok = absurd ok
-comparison-range normal atMost ok = absurd ok
-comparison-range normal below ok = absurd ok
-comparison-range normal equal ok = absurd ok
-
-pub kind-range : (f : Form) (k : Kind) → KindOk f k → T (kindInRange f (kindCode k))
-unfolding kindInRange kindCode
-kind-range written assign ok = tt
-kind-range written increase ok = tt
-kind-range written decrease ok = tt
-kind-range normal assign ok = tt
-kind-range normal increase ok = tt
-kind-range normal decrease ok = absurd ok
-
-module _ (L : Limits) where
-  pub weight-range : (f : Form) (z : ℤ) → WeightOk L f z → T (weightInRange L f z)
-  unfolding weightInRange
-  weight-range written z ok = and-both (leb 1 (natAbs z)) (leb (natAbs z) (L .weight)) (le→leb 1 (natAbs z) (ok .0)) (le→leb (natAbs z) (L .weight) (ok .1))
-  weight-range normal z ok = and-both (leZ (pos 1) z) (leb (natAbs z) (L .weight)) (true-T (le-leZ (ok .0))) (le→leb (natAbs z) (L .weight) (ok .1))
-
-  pub bound-range : (f : Form) (z : ℤ) → BoundOk L f z → T (boundInRange L f z)
-  unfolding boundInRange
-  bound-range written z ok = le→leb (natAbs z) (L .constant) ok
-  bound-range normal z ok = and-both (leZ (negℤ (pos (L .constant))) z) (leZ z (pos (L .constant + 1))) (true-T (le-leZ (ok .0))) (true-T (le-leZ (ok .1)))
-
-  pub weight-size : (f : Form) (z : ℤ) → WeightOk L f z → natAbs z ≤ L .weight
-  weight-size written z ok = ok .1
-  weight-size normal z ok = ok .1
-
-  pub bound-size : (f : Form) (z : ℤ) → BoundOk L f z → natAbs z ≤ L .constant + 1
-  bound-size written z ok = omega arith
-  bound-size normal z ok = size-within z (L .constant + 1) (omega (zlin, neg-up (pos (L .constant)), neg-dn (pos (L .constant)), neg-up (pos (L .constant + 1)), neg-dn (pos (L .constant + 1)))) (ok .1)
 
 -- ---- terms
 
 pub length-terms : (ts : List Term) → length (termBytes ts) ≡ 4 * length ts
 unfolding termBytes
 length-terms [] = refl
-length-terms (u ∷ ts) = omega (arith, length-append (signedBytes 2 (u .weight)) (termBytes ts), length-signedBytes 2 (u .weight), length-terms ts)
+length-terms (u ∷ ts) =
+    let weight = signedBytes 2 (u .weight) in
+    omega (arith, length-append weight (termBytes ts), length-signedBytes 2 (u .weight), length-terms ts)
 
 -- ---- an item as its terms and the command that closes it
 
@@ -116,14 +59,6 @@ item-parts (delete p) = refl
 item-parts (condition c) = refl
 item-parts (effect e) = refl
 
-pub item-known : (i : Item) → commandOf (codeOf (itemCommand i)) ≡ itemCommand i
-unfolding itemCommand commandOf withCode commands codeOf
-item-known (need p) = refl
-item-known (add p) = refl
-item-known (delete p) = refl
-item-known (condition c) = refl
-item-known (effect e) = refl
-
 pub item-wanted : (w : Wanted) (i : Item) → headWanted w (itemCommand i) ≡ true
 unfolding itemCommand headWanted
 item-wanted w (need p) = refl
@@ -132,13 +67,13 @@ item-wanted w (delete p) = refl
 item-wanted w (condition c) = refl
 item-wanted w (effect e) = refl
 
-pub item-counted : (s : Seen) (i : Item) → wrong6 s (itemCommand i) ≡ false
+pub item-counted : (s : Seen) (i : Item) → T (not (wrong6 s (itemCommand i)))
 unfolding itemCommand wrong6
-item-counted s (need p) = refl
-item-counted s (add p) = refl
-item-counted s (delete p) = refl
-item-counted s (condition c) = refl
-item-counted s (effect e) = refl
+item-counted s (need p) = tt
+item-counted s (add p) = tt
+item-counted s (delete p) = tt
+item-counted s (condition c) = tt
+item-counted s (effect e) = tt
 
 pub item-width : (i : Item) → suc (length (itemOperands i)) ≡ width (itemCommand i)
 unfolding itemCommand itemOperands width ruleOf
@@ -150,10 +85,14 @@ item-width (effect e) = rw (length-signedBytes 4 (e .base)) refl
 
 pub length-item : (i : Item) → length (itemBytes i) ≡ 4 * length (itemTerms i) + width (itemCommand i)
 length-item i =
+    let closing = codeOf (itemCommand i) ∷ itemOperands i in
     rw (item-parts i)
-    (omega (arith, length-append (termBytes (itemTerms i)) (codeOf (itemCommand i) ∷ itemOperands i), length-terms (itemTerms i), item-width i))
+    (omega (arith, length-append (termBytes (itemTerms i)) closing, length-terms (itemTerms i), item-width i))
 
-pub item-sum : (L : Limits) (f : Form) (props vars : ℕ) (i : Item) → ItemOk L f props vars i → SumOk L f vars (itemTerms i)
+pub item-sum :
+    (L : Limits) (f : Form) (props vars : ℕ) (i : Item)
+    → ItemOk L f props vars i
+    → SumOk L f vars (itemTerms i)
 unfolding itemTerms
 item-sum L f props vars (need p) ok = record { terms = tt; few = omega arith; rising = tt }
 item-sum L f props vars (add p) ok = record { terms = tt; few = omega arith; rising = tt }
@@ -171,15 +110,21 @@ item-closes s (condition c) e = may-follow s closeCondition refl
 item-closes s (effect f) e = may-follow s closeEffect refl
 
 -- 5: an item that no seen item clashes with is not "named again"
-pub item-fresh : (L : Limits) (t : List ℕ) (s : Seen) (i : Item) → itemAt t s (itemCommand i) ≡ some i → any (λ j. clashes j i) (s .items) ≡ false → wrong5 L t s (itemCommand i) ≡ false
+pub item-fresh :
+    (L : Limits) (t : List ℕ) (s : Seen) (i : Item)
+    → itemAt t s (itemCommand i) ≡ some i
+    → T (not (any (λ j. clashes j i) (s .items)))
+    → T (not (wrong5 L t s (itemCommand i)))
 unfolding itemCommand wrong5 namedAgain
 item-fresh L t s (need p) e n = rw e n
 item-fresh L t s (add p) e n = rw e n
 item-fresh L t s (delete p) e n = rw e n
-item-fresh L t s (condition c) e n = refl
+item-fresh L t s (condition c) e n = tt
 item-fresh L t s (effect f) e n = rw e n
 
-pub item-advance : (t : List ℕ) (s : Seen) (i : Item) → advance t s (itemCommand i) ≡ withItem s (width (itemCommand i)) (itemAt t s (itemCommand i))
+pub item-advance :
+    (t : List ℕ) (s : Seen) (i : Item)
+    → advance t s (itemCommand i) ≡ withItem s (width (itemCommand i)) (itemAt t s (itemCommand i))
 unfolding itemCommand advance
 item-advance t s (need p) = refl
 item-advance t s (add p) = refl
@@ -188,18 +133,35 @@ item-advance t s (condition c) = refl
 item-advance t s (effect e) = refl
 
 module _ {L : Limits} (small : SmallLimits L) {t : List ℕ} (s : Seen) (rest : List ℕ) where
-  constant-back : (i : ℕ) (z : ℤ) → Left t (s .at + i) (signedBytes 4 z ++ rest) → natAbs z ≤ L .constant + 1 → numberAfter 4 t s i ≡ z
+  constant-back :
+      (i : ℕ) (z : ℤ)
+      → Left t (s .at + i) (signedBytes 4 z ++ rest)
+      → natAbs z ≤ L .constant + 1
+      → numberAfter 4 t s i ≡ z
   unfolding numberAfter half
   constant-back i z here b = left-number 4 z rest here (omega arith) (omega (arith, small .constant))
 
-  bound-back : (c : Condition) → Left t (s .at) (codeOf closeCondition ∷ comparisonCode (c .comparison) ∷ (signedBytes 4 (c .bound) ++ rest)) → ConditionOk L (s .header .form) (s .header .vars) c → numberAfter 4 t s 2 ≡ c .bound
+  bound-back :
+      (c : Condition)
+      → Left t (s .at) (codeOf closeCondition ∷ comparisonCode (c .comparison) ∷ (signedBytes 4 (c .bound) ++ rest))
+      → ConditionOk L (s .header .form) (s .header .vars) c
+      → numberAfter 4 t s 2 ≡ c .bound
   bound-back c here ok = constant-back 2 (c .bound) (left-skip here 2) (bound-size L (s .header .form) (c .bound) (ok .bound))
 
-  base-back : (e : Effect) → Left t (s .at) (codeOf closeEffect ∷ kindCode (e .kind) ∷ e .var ∷ (signedBytes 4 (e .base) ++ rest)) → EffectOk L (s .header .form) (s .header .vars) e → numberAfter 4 t s 3 ≡ e .base
+  base-back :
+      (e : Effect)
+      → Left t (s .at) (codeOf closeEffect ∷ kindCode (e .kind) ∷ e .var ∷ (signedBytes 4 (e .base) ++ rest))
+      → EffectOk L (s .header .form) (s .header .vars) e
+      → numberAfter 4 t s 3 ≡ e .base
   base-back e here ok = constant-back 3 (e .base) (left-skip here 3) (omega (arith, ok .base))
 
   -- the operands that follow an item's command read back as the item
-  pub item-back : (i : Item) → Left t (s .at) (codeOf (itemCommand i) ∷ (itemOperands i ++ rest)) → s .terms ≡ itemTerms i → ItemOk L (s .header .form) (s .header .props) (s .header .vars) i → itemAt t s (itemCommand i) ≡ some i
+  pub item-back :
+      (i : Item)
+      → Left t (s .at) (codeOf (itemCommand i) ∷ (itemOperands i ++ rest))
+      → s .terms ≡ itemTerms i
+      → ItemOk L (s .header .form) (s .header .props) (s .header .vars) i
+      → itemAt t s (itemCommand i) ≡ some i
   unfolding itemCommand itemOperands itemTerms itemAt byteAfter
   item-back (need p) here e ok = ap (λ (q : ℕ). some (need q)) (left-byte here 1)
   item-back (add p) here e ok = ap (λ (q : ℕ). some (add q)) (left-byte here 1)
@@ -208,7 +170,11 @@ module _ {L : Limits} (small : SmallLimits L) {t : List ℕ} (s : Seen) (rest : 
   item-back (effect f) here e ok = rw (base-back f here ok, left-byte here 1, left-byte here 2, kind-back (f .kind), e) refl
 
   -- and are in range
-  pub item-ranges : (i : Item) → Left t (s .at) (codeOf (itemCommand i) ∷ (itemOperands i ++ rest)) → ItemOk L (s .header .form) (s .header .props) (s .header .vars) i → All (λ o. T (o .inRange)) (operands L t s (itemCommand i))
+  pub item-ranges :
+      (i : Item)
+      → Left t (s .at) (codeOf (itemCommand i) ∷ (itemOperands i ++ rest))
+      → ItemOk L (s .header .form) (s .header .props) (s .header .vars) i
+      → All (λ o. T (o .inRange)) (operands L t s (itemCommand i))
   unfolding itemCommand itemOperands operands byteAfter baseInRange
   item-ranges (need p) here ok = (rw (left-byte here 1) (lt→ltb p (s .header .props) ok), tt)
   item-ranges (add p) here ok = (rw (left-byte here 1) (lt→ltb p (s .header .props) ok), tt)

@@ -1,30 +1,25 @@
 -- Printed moves, the goal and the end of a table read back: the reading passes each 41, 47 and 45 with its block, counts the
 -- moves and keeps their offsets. Assumes nothing.
-use Prim.Native.Nat.{ℕ, zero, suc, _+_, _≤_, _<_}
+use Prim.Native.Nat.{ℕ, suc, _+_, _<_}
 use native.Mathlib.Nat.{add-zero}
 use native.Mathlib.Omega.{arith}
-use mathlib.Core.Path.{_≡_, refl}
-use mathlib.Core.Bool.{true, false}
+use mathlib.Core.Path.{_≡_, refl, _∙_}
+use mathlib.Core.Bool.{true, not}
 use mathlib.Core.List.{List, [], _∷_, _++_, append-nil, append-assoc}
-use lib.Dec.{leb, ltb, ltb→lt, leb→le}
+use lib.Dec.{T, not-T, leb, ltb, ltb→lt, leb→le}
 use lib.ListN.{length, length-append}
 use Rattle.model.specs.Limits.{Limits}
 use Rattle.model.specs.Task.{Item, need, add, delete, condition, effect, Block}
-use Rattle.model.specs.Command.{Command, term, openMove, openGoal, endTable, codeOf, commands, withCode, commandOf, ruleOf, width, itemsBytes, movesBytes}
-use Rattle.model.specs.Reading.{Head, Verdict, Wanted, Place, preamble, inMove, inGoal, finished, Seen, inPlace, headWanted, leavesOpen, wrong6, wrong5, operands, opened, closed, withMark, advance, tableOf, verdictOf, atEnd, readCommand, continue, readFrom}
+use Rattle.model.specs.Command.{Command, term, openMove, openGoal, endTable, codeOf, ruleOf, width, itemsBytes, movesBytes}
+use Rattle.model.specs.Reading.{Head, Verdict, Wanted, Place, preamble, inMove, inGoal, finished, Seen, inPlace, headWanted, leavesOpen, wrong6, wrong5, operands, opened, closed, withMark, advance, tableOf, verdictOf, atEnd}
 use Rattle.model.specs.Theorems.WellFormed.{All, BlockOk, GoalItem}
-use Rattle.model.specs.Theorems.Booleans.{not-false}
 use Rattle.model.specs.Theorems.Searching.{All-map}
-use Rattle.model.specs.Theorems.Passing.{Left, left-length, left-after, SmallLimits, Passes, Ends, passed}
+use Rattle.model.specs.Theorems.Commands.{Passes, readCommand-end}
+use Rattle.model.specs.Theorems.Reads.{verdictFrom, verdict-done}
+use Rattle.model.specs.Theorems.Marks.{starts}
+use Rattle.model.specs.Theorems.Passing.{Left, left-length, left-code, left-after, SmallLimits, well-placed, passed}
 use Rattle.model.specs.Theorems.PrintedItems.{itemCommand}
 use Rattle.model.specs.Theorems.PrintedBlocks.{within, before-none, Apart, read-items}
-
--- the offsets of the 41 commands of moves printed from an offset on
-unfoldable pub moveMarks : ℕ → List Block → List ℕ
-moveMarks at [] = []
-moveMarks at (b ∷ bs) = at ∷ moveMarks (at + suc (length (itemsBytes b))) bs
-
--- ---- places
 
 move-takes : (i : Item) → inPlace inMove (itemCommand i) ≡ true
 unfolding itemCommand inPlace ruleOf
@@ -58,39 +53,56 @@ unfolding closed opened inPlace ruleOf
 gap-move ms b = record { closes = refl; counts = omega (arith, length-append ms (b ∷ [])); moveNext = refl; goalNext = refl }
 
 -- 41, 47 and 45: no operands, and no term open before them
-mark-passes : {L : Limits} {w : Wanted} {t : List ℕ} (s : Seen) (c : Command) (rest : List ℕ) → Left t (s .at) (codeOf c ∷ rest) → s .terms ≡ [] → width c ≡ 1 → headWanted w c ≡ true → operands L t s c ≡ [] → wrong5 L t s c ≡ false → inPlace (s .place) c ≡ true → wrong6 s c ≡ false → Passes L w t s c
+mark-passes :
+    {L : Limits} {w : Wanted} {t : List ℕ} (s : Seen) (c : Command) (rest : List ℕ)
+    → Left t (s .at) (codeOf c ∷ rest)
+    → s .terms ≡ []
+    → width c ≡ 1
+    → headWanted w c ≡ true
+    → operands L t s c ≡ []
+    → T (not (wrong5 L t s c))
+    → inPlace (s .place) c ≡ true
+    → T (not (wrong6 s c))
+    → Passes L w t s c
 unfolding leavesOpen
-mark-passes s c rest here none-open one-byte wanted no-operands fresh place counted =
+mark-passes {w} s c rest here none-open one-byte wanted no-operands fresh place counted =
     record {
-      place = place;
-      wanted = wanted;
-      closes = rw none-open refl;
-      whole = omega (arith, left-length here);
+      code = left-code here;
+      placed = well-placed w s c place wanted (rw none-open refl);
+      uncut = omega (arith, left-length here);
       counted = counted;
-      ranges = rw no-operands tt;
+      ranged = rw no-operands tt;
       fresh = fresh;
     }
 
-module _ {L : Limits} {w : Wanted} {t : List ℕ} {v : Verdict} (small : SmallLimits L) (h : Head) where
-  module _ {p : Place} {ms : List Block} {marks : List ℕ} {at : ℕ} {b : Block} {ds : List Block} (gap : Gap p ms b ds) where
+module _ (L : Limits) (w : Wanted) (t : List ℕ) (small : SmallLimits L) (h : Head) where
+  -- the verdict from a place and an offset on, with moves, marks and items seen and no term open
+  abbrev from : Place → List Block → List ℕ → ℕ → Block → Verdict
+  from p ms marks at b = verdictFrom L w t (within p h ms marks at b [])
+
+  abbrev Fits : Block → Type 0
+  Fits m = BlockOk L (h .form) (h .props) (h .vars) m
+
+  module _ (p : Place) (ms : List Block) (marks : List ℕ) (at : ℕ) (b : Block) (ds : List Block) (gap : Gap p ms b ds) where
+    s : Seen
+    s = within p h ms marks at b []
+
     -- a command that opens a block at the place q, and the items of the block
     read-block :
         (c : Command) (q : Place) (m : Block) (rest : List ℕ)
         → Left t at (codeOf c ∷ (itemsBytes m ++ rest))
-        → commandOf (codeOf c) ≡ c
-        → Passes L w t (within p h ms marks at b []) c
-        → advance t (within p h ms marks at b []) c ≡ withMark (within p h ms marks at b []) q (closed p ms b) []
+        → Passes L w t s c
+        → advance t s c ≡ withMark s q (closed p ms b) []
         → inPlace q term ≡ true
         → All (λ i. inPlace q (itemCommand i) ≡ true) m
-        → BlockOk L (h .form) (h .props) (h .vars) m
-        → Ends L w t v (within q h ds (marks ++ (at ∷ [])) (at + suc (length (itemsBytes m))) m [])
-        → Ends L w t v (within p h ms marks at b [])
-    unfolding withMark
-    read-block c q m rest here known passes opens inside places ok e =
-        passed (within p h ms marks at b []) c (itemsBytes m ++ rest) here known passes (rw opens (omega arith))
-        (rw (opens, gap .closes)
-        (read-items small inside m (at + 1) [] rest (left-after (codeOf c ∷ []) (itemsBytes m ++ rest) here refl) places (ok .items) (ok .once)
-        (before-none Apart m) (rw behind e)))
+        → Fits m
+        → from p ms marks at b ≡ from q ds (marks ++ (at ∷ [])) (at + suc (length (itemsBytes m))) m
+    unfolding withMark s
+    read-block c q m rest here passes opens inside places ok =
+        passed passes
+        ∙ rw (opens, gap .closes, ← behind)
+        (read-items L w t small q inside h ds (marks ++ (at ∷ [])) m (at + 1) [] rest
+        (left-after (codeOf c ∷ []) (itemsBytes m ++ rest) here refl) places (ok .items) (ok .once) (before-none Apart m))
       where
         behind : at + 1 + length (itemsBytes m) ≡ at + suc (length (itemsBytes m))
         behind = omega arith
@@ -98,68 +110,75 @@ module _ {L : Limits} {w : Wanted} {t : List ℕ} {v : Verdict} (small : SmallLi
     read-move :
         (m : Block) (rest : List ℕ)
         → Left t at (codeOf openMove ∷ (itemsBytes m ++ rest))
-        → BlockOk L (h .form) (h .props) (h .vars) m
+        → Fits m
         → length ds < h .moves
-        → Ends L w t v (within inMove h ds (marks ++ (at ∷ [])) (at + suc (length (itemsBytes m))) m [])
-        → Ends L w t v (within p h ms marks at b [])
-    unfolding commandOf withCode commands codeOf width ruleOf headWanted operands wrong5 wrong6 inPlace advance
-    read-move m rest here ok room e =
-        read-block openMove inMove m rest here refl
-        (mark-passes (within p h ms marks at b []) openMove (itemsBytes m ++ rest) here refl refl refl refl refl (gap .moveNext) (rw (gap .counts) (not-false (leb (h .moves) (length ds)) (λ full. omega (arith, leb→le (h .moves) (length ds) full)))))
-        refl refl (All-map m (λ i x. move-takes i) (ok .items)) ok e
+        → from p ms marks at b ≡ from inMove ds (marks ++ (at ∷ [])) (at + suc (length (itemsBytes m))) m
+    unfolding s width ruleOf headWanted operands wrong5 wrong6 inPlace advance
+    read-move m rest here ok room =
+        read-block openMove inMove m rest here
+        (mark-passes s openMove (itemsBytes m ++ rest) here refl refl refl refl tt (gap .moveNext)
+        (rw (gap .counts)
+        (not-T (leb (h .moves) (length ds)) (λ full. omega (arith, leb→le (h .moves) (length ds) full)))))
+        refl refl (All-map m (λ i x. move-takes i) (ok .items)) ok
 
-    pub read-goal :
+    read-goal :
         (g : Block) (rest : List ℕ)
         → Left t at (codeOf openGoal ∷ (itemsBytes g ++ rest))
-        → BlockOk L (h .form) (h .props) (h .vars) g
+        → Fits g
         → All GoalItem g
         → length ds ≡ h .moves
-        → Ends L w t v (within inGoal h ds (marks ++ (at ∷ [])) (at + suc (length (itemsBytes g))) g [])
-        → Ends L w t v (within p h ms marks at b [])
-    unfolding commandOf withCode commands codeOf width ruleOf headWanted operands wrong5 wrong6 inPlace advance
-    read-goal g rest here ok items full e =
-        read-block openGoal inGoal g rest here refl
-        (mark-passes (within p h ms marks at b []) openGoal (itemsBytes g ++ rest) here refl refl refl refl refl (gap .goalNext)
-        (rw (gap .counts) (not-false (ltb (length ds) (h .moves)) (λ few. omega (arith, ltb→lt (length ds) (h .moves) few)))))
-        refl refl (All-map g goal-takes items) ok e
+        → from p ms marks at b ≡ from inGoal ds (marks ++ (at ∷ [])) (at + suc (length (itemsBytes g))) g
+    unfolding s width ruleOf headWanted operands wrong5 wrong6 inPlace advance
+    read-goal g rest here ok items full =
+        read-block openGoal inGoal g rest here
+        (mark-passes s openGoal (itemsBytes g ++ rest) here refl refl refl refl tt (gap .goalNext)
+        (rw (gap .counts)
+        (not-T (ltb (length ds) (h .moves)) (λ few. omega (arith, ltb→lt (length ds) (h .moves) few)))))
+        refl refl (All-map g goal-takes items) ok
 
-  pub read-moves :
-      (bs : List Block) (p : Place) (ms : List Block) (marks : List ℕ) (at : ℕ) (b : Block) (ds : List Block) (rest : List ℕ)
+  -- From where moves and the goal stand printed, the reading goes on behind them, with these blocks and their offsets seen.
+  pub read-blocks :
+      (bs : List Block) (p : Place) (ms : List Block) (marks : List ℕ) (at : ℕ) (b : Block) (ds : List Block) (g : Block)
+      (rest : List ℕ)
       → Gap p ms b ds
-      → Left t at (movesBytes bs ++ rest)
-      → All (BlockOk L (h .form) (h .props) (h .vars)) bs
-      → length ds + length bs ≤ h .moves
-      → ((q : Place) (ns : List Block) (c : Block) → Gap q ns c (ds ++ bs) → Ends L w t v (within q h ns (marks ++ moveMarks at bs) (at + length (movesBytes bs)) c []))
-      → Ends L w t v (within p h ms marks at b [])
-  unfolding movesBytes moveMarks
-  read-moves [] p ms marks at b ds rest gap here ok room e =
-      rw (append-nil marks, add-zero at) at (e p ms b (rw (append-nil ds) gap))
-  read-moves (m ∷ bs) p ms marks at b ds rest gap here ok room e =
-      read-move gap m (movesBytes bs ++ rest) here′ (ok .0) (omega arith)
-      (read-moves bs inMove ds (marks ++ (at ∷ [])) (at + suc (length (itemsBytes m))) m (ds ++ (m ∷ [])) rest (gap-move ds m)
-      (left-after (codeOf openMove ∷ itemsBytes m) (movesBytes bs ++ rest) here′ refl) (ok .1) (omega (arith, length-append ds (m ∷ [])))
-      (λ q ns c g. rw (append-assoc marks (at ∷ []) (moveMarks (at + suc (length (itemsBytes m))) bs), place) (e q ns c (rw (append-assoc ds (m ∷ []) bs) at g))))
+      → Left t at (movesBytes bs ++ (codeOf openGoal ∷ (itemsBytes g ++ rest)))
+      → All Fits bs
+      → Fits g
+      → All GoalItem g
+      → length ds + length bs ≡ h .moves
+      → from p ms marks at b
+      ≡ from inGoal (ds ++ bs) (marks ++ starts at bs) (at + length (movesBytes bs) + suc (length (itemsBytes g))) g
+  unfolding movesBytes starts
+  read-blocks [] p ms marks at b ds g rest gap here ok goal items full =
+      read-goal p ms marks at b ds gap g rest here goal items (omega arith) ∙ rw (append-nil ds, add-zero at) refl
+  read-blocks (m ∷ bs) p ms marks at b ds g rest gap here ok goal items full =
+      read-move p ms marks at b ds gap m (movesBytes bs ++ after) here′ (ok .0) (omega arith)
+      ∙ read-blocks bs inMove ds (marks ++ (at ∷ [])) next m (ds ++ (m ∷ [])) g rest (gap-move ds m)
+      (left-after (codeOf openMove ∷ itemsBytes m) (movesBytes bs ++ after) here′ refl) (ok .1) goal items
+      (omega (arith, length-append ds (m ∷ [])))
+      ∙ rw (append-assoc ds (m ∷ []) bs, append-assoc marks (at ∷ []) (starts next bs), behind) refl
     where
-      here′ : Left t at (codeOf openMove ∷ (itemsBytes m ++ (movesBytes bs ++ rest)))
-      here′ = rw (append-assoc (itemsBytes m) (movesBytes bs) rest) at here
+      after : List ℕ
+      after = codeOf openGoal ∷ (itemsBytes g ++ rest)
 
-      place : at + suc (length (itemsBytes m)) + length (movesBytes bs) ≡ at + length (movesBytes (m ∷ bs))
-      place = omega (arith, length-append (itemsBytes m) (movesBytes bs))
+      next : ℕ
+      next = at + suc (length (itemsBytes m))
+
+      here′ : Left t at (codeOf openMove ∷ (itemsBytes m ++ (movesBytes bs ++ after)))
+      here′ = rw (append-assoc (itemsBytes m) (movesBytes bs) after) at here
+
+      behind : next + length (movesBytes bs) ≡ at + length (movesBytes (m ∷ bs))
+      behind = omega (arith, length-append (itemsBytes m) (movesBytes bs))
 
   -- 45 as the last byte
   pub read-end :
       (ds : List Block) (marks : List ℕ) (at : ℕ) (g : Block)
       → Left t at (codeOf endTable ∷ [])
-      → verdictOf (tableOf (within finished h ds (marks ++ (at ∷ [])) (at + 1) g [])) ≡ v
-      → Ends L w t v (within inGoal h ds marks at g [])
-  unfolding commandOf withCode commands codeOf width ruleOf headWanted operands wrong5 wrong6 inPlace advance withMark readFrom readCommand continue atEnd
-  read-end ds marks at g here e =
-      passed s endTable [] here refl (mark-passes s endTable [] here refl refl refl refl refl refl refl) (omega arith)
-      (record { ends = go })
+      → from inGoal ds marks at g ≡ verdictOf (tableOf (within finished h ds (marks ++ (at ∷ [])) (at + 1) g []))
+  unfolding width ruleOf headWanted operands wrong5 wrong6 inPlace advance withMark atEnd
+  read-end ds marks at g here =
+      passed (mark-passes (within inGoal h ds marks at g []) endTable [] here refl refl refl refl tt refl tt)
+      ∙ verdict-done L w t e (readCommand-end L w t e (omega (arith, left-length here)))
     where
-      s : Seen
-      s = within inGoal h ds marks at g []
-
-      go : (n : ℕ) → length t < at + 1 + n → readFrom L w t n (within finished h ds (marks ++ (at ∷ [])) (at + 1) g []) ≡ v
-      go zero l = absurd (omega (arith, left-length here))
-      go (suc n) l = rw (not-false (ltb (at + 1) (length t)) (λ x. omega (arith, ltb→lt (at + 1) (length t) x, left-length here)), readCommand) e
+      e : Seen
+      e = within finished h ds (marks ++ (at ∷ [])) (at + 1) g []

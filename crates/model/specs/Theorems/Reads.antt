@@ -2,34 +2,19 @@
 -- command keeps holds at the end of an accepted table. Assumes nothing.
 use Prim.Native.Nat.{ℕ, zero, suc, _+_, _-_, _≤_, _<_}
 use native.Mathlib.Omega.{arith}
-use mathlib.Core.Path.{_≡_, refl, sym, ap, _∙_, subst}
+use mathlib.Core.Path.{_≡_, refl, ap, _∙_, subst}
 use mathlib.Core.Bool.{Bool, true, false, not}
-use mathlib.Core.List.{List, [], _∷_}
+use mathlib.Core.List.{List}
 use lib.Dec.{T, ltb, ltb→lt, lt→ltb, nltb→le}
 use lib.ListN.{length}
-use Rattle.model.specs.declared.Refusal.{Refusal}
 use Rattle.model.specs.Limits.{Limits}
 use Rattle.model.specs.Command.{Command, head, openMove, openGoal, endTable, needProp, addProp, deleteProp, term, closeCondition, closeEffect, unknown, ruleOf, width}
 use Rattle.model.specs.Reading.{Wanted, Place, start, preamble, inMove, inGoal, finished, Seen, nothingSeen, itemAt, withHead, withMark, withTerm, withItem, advance, Table, tableOf, Verdict, accepted, refused, verdictOf, atEnd, Step, more, done, readCommand, continue, readFrom, lengthLimit, reading}
 use Rattle.model.specs.Circle.{circular}
 use Rattle.model.specs.Theorems.Booleans.{T-true, not-false}
-use Rattle.model.specs.Theorems.Commands.{Passes, readCommand-cases, unknown-refused}
+use Rattle.model.specs.Theorems.Commands.{Passes, readCommand-cases, unknown-refused, width-positive}
 
--- ---- every command moves on by its width, which is at least one byte
-
-pub width-positive : (c : Command) → 0 < width c
-unfolding width ruleOf
-width-positive (head f) = omega arith
-width-positive openMove = omega arith
-width-positive openGoal = omega arith
-width-positive endTable = omega arith
-width-positive needProp = omega arith
-width-positive addProp = omega arith
-width-positive deleteProp = omega arith
-width-positive term = omega arith
-width-positive closeCondition = omega arith
-width-positive closeEffect = omega arith
-width-positive unknown = omega arith
+-- ---- every command moves on by its width
 
 pub moves-on : {L : Limits} {w : Wanted} {t : List ℕ} {s : Seen} (c : Command) → Passes L w t s c → advance t s c .at ≡ s .at + width c
 unfolding advance withHead withMark withTerm withItem itemAt width ruleOf
@@ -48,6 +33,19 @@ moves-on unknown h = absurd (unknown-refused h)
 -- so that fewer bytes are left
 pub fewer-left : {L : Limits} {w : Wanted} {t : List ℕ} {s : Seen} (c : Command) → Passes L w t s c → length t - advance t s c .at < length t - s .at
 fewer-left c p = omega (arith, moves-on c p, width-positive c, p .uncut)
+
+-- R holds of the table, if the verdict accepts it
+abbrev IfAccepted : (Table → Type 0) → Verdict → Type 0
+IfAccepted R (accepted k) = R k
+IfAccepted R (refused r) = Unit {0}
+
+verdict-cases : (R : Table → Type 0) (k : Table) → (circular (k .task) ≡ false → R k) → IfAccepted R (verdictOf k)
+unfolding verdictOf
+verdict-cases R k right = go (circular (k .task)) (not-false (circular (k .task)))
+  where
+    go : (b : Bool) → ((T b → ⊥) → circular (k .task) ≡ false) → IfAccepted R (elim b [ true ↦ refused (record { number = 7; place = 0 }) | false ↦ accepted k ])
+    go true f = tt
+    go false f = right (f (λ a. a))
 
 module _ (L : Limits) (w : Wanted) (t : List ℕ) where
   -- ---- turns
@@ -78,6 +76,14 @@ module _ (L : Limits) (w : Wanted) (t : List ℕ) where
       (λ c p. turns-enough (length t - s .at) (suc (length t - advance t s c .at)) (advance t s c) (fewer-left c p) (omega arith))
       (λ e. refl)
 
+  pub verdict-more : (s : Seen) {d : Seen} → readCommand L w t s ≡ more d → verdictFrom s ≡ verdictFrom d
+  unfolding continue
+  verdict-more s e = verdict-unrolls s ∙ ap (continue verdictFrom) e
+
+  pub verdict-done : (s : Seen) {v : Verdict} → readCommand L w t s ≡ done v → verdictFrom s ≡ v
+  unfolding continue
+  verdict-done s e = verdict-unrolls s ∙ ap (continue verdictFrom) e
+
   -- "table, whole | 1 | too long | 0", then command by command
   pub reading-long : lengthLimit L w t < length t → reading L w t ≡ refused (record { number = 1; place = 0 })
   unfolding reading
@@ -91,18 +97,6 @@ module _ (L : Limits) (w : Wanted) (t : List ℕ) where
       (turns-enough (suc (length t)) (suc (length t - 0)) nothingSeen (omega arith) (omega arith))
 
   -- ---- induction over the commands of an accepted table
-
-  abbrev IfAccepted : (Table → Type 0) → Verdict → Type 0
-  IfAccepted R (accepted k) = R k
-  IfAccepted R (refused r) = Unit {0}
-
-  verdict-cases : (R : Table → Type 0) (k : Table) → (circular (k .task) ≡ false → R k) → IfAccepted R (verdictOf k)
-  unfolding verdictOf
-  verdict-cases R k right = go (circular (k .task)) (not-false (circular (k .task)))
-    where
-      go : (b : Bool) → ((T b → ⊥) → circular (k .task) ≡ false) → IfAccepted R (elim b [ true ↦ refused (record { number = 7; place = 0 }) | false ↦ accepted k ])
-      go true f = tt
-      go false f = right (f (λ a. a))
 
   end-cases : (R : Table → Type 0) (s : Seen) (p : Place) → (p ≡ finished → circular (tableOf s .task) ≡ false → R (tableOf s)) → IfAccepted R (atEnd t s p)
   unfolding atEnd

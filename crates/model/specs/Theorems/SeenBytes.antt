@@ -1,24 +1,21 @@
 -- The bytes read so far are the bytes of what has been seen: as many for any list of numbers, and the same where all are bytes.
 -- One relation says both, so that each command is looked at once. Assumes nothing.
-use Prim.Native.Nat.{ℕ, zero, suc, _+_, _≤_, _<_}
+use Prim.Native.Nat.{ℕ, suc, _+_, _≤_, _<_}
 use native.Mathlib.Nat.{add-suc, add-zero}
 use native.Mathlib.Omega.{arith}
 use mathlib.Core.Path.{_≡_, refl, sym, ap, ap₂, _∙_, subst}
 use mathlib.Core.List.{List, [], _∷_, _++_, append-assoc, append-nil}
-use mathlib.Core.Option.{some}
 use lib.Dec.{T}
 use lib.ListN.{length, getD, take, drop, length-append, length-drop}
 use lib.Seq.{drop-cons, take-add, length-take-le}
 use Rattle.integer.specs.BigEndian.{AllBytes, all-take, all-drop, signed, signedBytes, length-signedBytes, signedBytes-signed}
 use Rattle.model.specs.Limits.{Limits}
-use Rattle.model.specs.Task.{Form, Term, Item, need, add, delete, condition, effect, Block}
-use Rattle.model.specs.Command.{Command, head, openMove, openGoal, endTable, needProp, addProp, deleteProp, term, closeCondition, closeEffect, unknown, ruleOf, codeOf, width, termBytes, itemBytes, itemsBytes, movesBytes}
-use Rattle.model.specs.Reading.{Wanted, Head, Place, start, preamble, inMove, inGoal, finished, Seen, closed, inPlace, operands, byteAfter, numberAfter, termAt, itemAt, withHead, withMark, withTerm, withItem, advance}
+use Rattle.model.specs.Task.{Form, Term, Item, Block}
+use Rattle.model.specs.Command.{Command, head, openMove, openGoal, endTable, term, ruleOf, codeOf, width, termBytes, itemBytes, itemsBytes, movesBytes}
+use Rattle.model.specs.Reading.{Wanted, Head, Place, start, preamble, inMove, inGoal, finished, Seen, closed, inPlace}
 use Rattle.model.specs.Theorems.Appending.{termBytes-snoc, itemsBytes-snoc, movesBytes-snoc}
-use Rattle.model.specs.Theorems.Ranges.{comparison-in-range, kind-in-range}
 use Rattle.model.specs.Theorems.Commands.{Passes}
-use Rattle.model.specs.Theorems.Checks.{in-place, terms-closed, InBlock, Between, ItemRead, need-read, add-read, delete-read, condition-read, effect-read, openMove-read, openGoal-read, endTable-read}
-use Rattle.model.specs.Theorems.Soundness.{Sound, openMove-between}
+use Rattle.model.specs.Theorems.Checks.{InBlock, Between}
 
 -- xs is as long as ys; it is ys where t consists of bytes
 pub record Prints (t xs ys : List ℕ) : Type 0 where

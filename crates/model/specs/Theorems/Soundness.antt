@@ -1,20 +1,20 @@
 -- What has been seen of a table is well formed after every command that passes its checks: ranges, rising terms, each thing
--- named once, as many moves as the head says before the goal, conditions only in the goal. Assumes nothing.
-use Prim.Native.Nat.{ℕ, zero, suc, _+_, _≤_, _<_}
+-- named once, as many moves as the head says before the goal, nothing but conditions in the goal. Assumes nothing.
+use Prim.Native.Nat.{ℕ, _≤_, _<_}
 use native.Mathlib.Omega.{arith}
-use mathlib.Core.Path.{_≡_, refl, sym, ap, _∙_, subst}
+use mathlib.Core.Path.{_≡_, refl, ap, subst}
 use mathlib.Core.List.{List, [], _∷_, _++_}
 use mathlib.Core.Option.{some}
 use lib.Dec.{T}
 use lib.ListN.{length, length-append}
 use Rattle.model.specs.Limits.{Limits}
-use Rattle.model.specs.Task.{Form, Term, Item, need, add, delete, condition, effect, Block, Task}
+use Rattle.model.specs.Task.{Form, Term, Item, Block}
 use Rattle.model.specs.Command.{Command, head, openMove, openGoal, endTable, needProp, addProp, deleteProp, term, closeCondition, closeEffect, unknown, ruleOf, width}
 use Rattle.model.specs.Reading.{Wanted, Head, Place, start, preamble, inMove, inGoal, finished, Seen, nothingSeen, byteAfter, inPlace, opened, closed, termAt, itemAt, withHead, withMark, withTerm, withItem, advance}
 use Rattle.model.specs.Theorems.WellFormed.{All, TermOk, SumOk, BlockOk, GoalItem, ItemOk}
 use Rattle.model.specs.Theorems.Appending.{All-snoc, Rising-snoc, Once-snoc}
 use Rattle.model.specs.Theorems.Commands.{Passes}
-use Rattle.model.specs.Theorems.Checks.{HeadOk, InBlock, Between, ItemRead, in-place, head-read, need-read, add-read, delete-read, condition-read, effect-read, term-read, openMove-read, openGoal-read, endTable-read, conditionAt, effectAt}
+use Rattle.model.specs.Theorems.Checks.{HeadOk, InBlock, Between, ItemRead, in-place, head-read, need-read, add-read, delete-read, condition-read, effect-read, term-read, openMove-read, openGoal-read, endTable-read}
 
 -- what the place says of the head, of the number of moves that are closed, and of the open block
 abbrev pub Stage : Limits → Wanted → Place → Head → List Block → Block → Type 0

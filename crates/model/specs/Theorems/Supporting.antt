@@ -2,7 +2,7 @@
 -- (document 01, "Plan"). Assumes nothing.
 use Prim.Native.Nat.{ℕ, zero, suc, _*_, _≤_, _<_}
 use native.Mathlib.Omega.{arith}
-use mathlib.Core.Path.{_≡_, refl, subst}
+use mathlib.Core.Path.{_≡_, refl}
 use mathlib.Core.Bool.{Bool, _&&_}
 use mathlib.Core.Logic.{_⊎_, inl, inr}
 use mathlib.Core.Option.{Option, none, some}
@@ -14,46 +14,72 @@ use Rattle.integer.specs.Linear.{zlin, up, diff, larger-left, larger-right, *-m
 use Rattle.integer.specs.Linear as Linear
 use Rattle.integer.specs.Ceiling.{ceiling, ceiling-enough, ceiling-pos}
 use Rattle.model.specs.Limits.{Limits}
+use Rattle.model.specs.Lists.{firstFrom}
 use Rattle.model.specs.Task.{normal, Kind, assign, increase, decrease, Effect, Block, Task, adds, effectOn}
 use Rattle.model.specs.Move.{State, value, changed, changedBy, relaxed, moveAt}
 use Rattle.model.specs.Layer.{Value, finite, unbounded, Layer, reaches, usable, layerValue, offer, offered, gained, raised, layerOf}
 use Rattle.model.specs.Plan.{lowValue, adder, achieves, achiever, demand, stepSize, runs}
 use Rattle.model.specs.Theorems.WellFormed.{KindOk, EffectOk}
-use Rattle.model.specs.Theorems.Booleans.{T-stable, and-left, and-right, and-both, or-left, or-right, cond-cases}
+use Rattle.model.specs.Theorems.Booleans.{and-left, and-right, and-both, or-left, or-right, cond-cases}
 use Rattle.model.specs.Theorems.Searching.{firstFrom-cases}
-use Rattle.model.specs.Theorems.Order.{finite-⊑, ⊑-trans, ⊑-reaches, _≼_, ≼-refl, ≼-trans}
+use Rattle.model.specs.Theorems.Order.{finite-⊑, ⊑-trans, ⊑-reaches, _≼_}
 use Rattle.model.specs.Theorems.Layers.{raised-cases, gained-cases}
 use Rattle.model.specs.Theorems.Relaxation.{value-mono, val-mono}
-use Rattle.model.specs.Theorems.Wanting.{Above, positive-size, low-reaches}
+use Rattle.model.specs.Theorems.Targets.{Above, above-refl, above-trans, low-reaches}
+use Rattle.model.specs.Theorems.Wanting.{positive-size}
 
 -- ---- a move is always found
 
 module _ (k : Task) (l : Layer) where
-  -- "a proposition in t and not in t−1 was added by a move usable in t−1"
+  -- "try the moves usable in t−1 in rising order and take the first": if not all of them fail the test, one is found
+  first-found :
+      (P : Option ℕ → Type 0) (test : Block → Bool)
+      → (((b : ℕ) → b < length (k .moves) → T (usable l (moveAt k b)) → T (test (moveAt k b)) → ⊥) → ⊥)
+      → ((b : ℕ) → b < length (k .moves) → T (usable l (moveAt k b)) → T (test (moveAt k b)) → P (some b))
+      → P (firstFrom (λ b. usable l (moveAt k b) && test (moveAt k b)) 0 (length (k .moves)))
+  first-found P test not-all-fail found =
+      firstFrom-cases (λ b. usable l (moveAt k b) && test (moveAt k b)) P 0 (length (k .moves))
+      (λ b low high t before. found b (omega arith) (left b t) (right b t))
+      (λ nobody. absurd (not-all-fail (λ b lt u t. nobody b (omega arith) (omega arith) (both b u t))))
+    where
+      both : (b : ℕ) → T (usable l (moveAt k b)) → T (test (moveAt k b)) → T (usable l (moveAt k b) && test (moveAt k b))
+      both b = and-both (usable l (moveAt k b)) (test (moveAt k b))
+
+      left : (b : ℕ) → T (usable l (moveAt k b) && test (moveAt k b)) → T (usable l (moveAt k b))
+      left b = and-left (usable l (moveAt k b)) (test (moveAt k b))
+
+      right : (b : ℕ) → T (usable l (moveAt k b) && test (moveAt k b)) → T (test (moveAt k b))
+      right b = and-right (usable l (moveAt k b)) (test (moveAt k b))
+
+  -- a proposition that the next layer gains is added by a move usable in this one
   pub adder-found :
       (P : Option ℕ → Type 0) (p : ℕ)
       → T (gained l p (k .moves))
       → ((b : ℕ) → b < length (k .moves) → T (usable l (moveAt k b)) → T (adds p (moveAt k b)) → P (some b))
       → P (adder k l p)
   unfolding adder moveAt
-  adder-found P p t found =
-      firstFrom-cases (λ b. usable l (moveAt k b) && adds p (moveAt k b)) P 0 (length (k .moves))
-      (λ b low high both before. found b (omega arith) (and-left (usable l (moveAt k b)) (adds p (moveAt k b)) both) (and-right (usable l (moveAt k b)) (adds p (moveAt k b)) both))
-      (λ nobody. absurd (gained-cases l p (k .moves) t (λ b lt u a. nobody b (omega arith) (omega arith) (and-both (usable l (moveAt k b)) (adds p (moveAt k b)) u a))))
+  adder-found P p t found = first-found P (adds p) (λ nobody. gained-cases l p (k .moves) t nobody) found
 
-  offered-achieves : (v : ℕ) (z : ℤ) (o : Option Effect) → (T (reaches (l .val v) z) → ⊥) → T (reaches (offered l v o) z) → T (achieves l z o)
+  -- what reaches a target that the variable does not is a := with such a value, or a += with a value above 0
+  offered-achieves :
+      (v : ℕ) (z : ℤ) (o : Option Effect)
+      → (T (reaches (l .val v) z) → ⊥)
+      → T (reaches (offered l v o) z)
+      → T (achieves l z o)
   unfolding offered achieves offer demand
   offered-achieves v z none low t = low t
   offered-achieves v z (some e) low t = by-kind (e .kind) t
     where
+      gains : Bool
+      gains = reaches (layerValue l e) (pos 1)
+
       by-kind : (d : Kind) → T (reaches (offer l v d (layerValue l e)) z) → T (reaches (layerValue l e) (demand d z))
       by-kind assign t = t
       by-kind increase t =
-          T-stable (reaches (layerValue l e) (pos 1))
-          (λ no-gain. low (cond-cases (λ x. T (reaches x z) → T (reaches (l .val v) z)) (reaches (layerValue l e) (pos 1)) unbounded (l .val v) (λ gain. absurd (no-gain gain)) (λ n r. r) t))
+          cond-cases (λ x. T (reaches x z) → T gains) gains unbounded (l .val v) (λ gain r. gain) (λ no-gain r. absurd (low r)) t
       by-kind decrease t = absurd (low t)
 
-  -- a target that the next layer reaches and this one does not: a := has a value that reaches it, or a += a value above 0
+  -- a target that the next layer reaches and this one does not is achieved by a move usable in this one
   pub achiever-found :
       (P : Option ℕ → Type 0) (v : ℕ) (z : ℤ)
       → (T (reaches (l .val v) z) → ⊥)
@@ -62,13 +88,10 @@ module _ (k : Task) (l : Layer) where
       → P (achiever k l v z)
   unfolding achiever moveAt
   achiever-found P v z low t found =
-      firstFrom-cases test P 0 (length (k .moves))
-      (λ b from to both before. found b (omega arith) (and-left (usable l (moveAt k b)) (achieves l z (effectOn v (moveAt k b))) both) (and-right (usable l (moveAt k b)) (achieves l z (effectOn v (moveAt k b))) both))
-      (λ nobody. absurd (raised-cases l v (λ x. T (reaches x z) → ⊥) (k .moves) low
-      (λ b lt u r. nobody b (omega arith) (omega arith) (and-both (usable l (moveAt k b)) (achieves l z (effectOn v (moveAt k b))) u (offered-achieves v z (effectOn v (moveAt k b)) low r))) t))
-    where
-      test : ℕ → Bool
-      test b = usable l (moveAt k b) && achieves l z (effectOn v (moveAt k b))
+      first-found P (λ m. achieves l z (effectOn v m))
+      (λ nobody. raised-cases l v (λ x. T (reaches x z) → ⊥) (k .moves) low
+      (λ b lt u r. nobody b lt u (offered-achieves v z (effectOn v (moveAt k b)) low r)) t)
+      found
 
 -- ---- runs of a move
 
@@ -76,12 +99,6 @@ module _ (k : Task) (l : Layer) where
 unfoldable pub repeated : ℕ → Block → State → State
 repeated zero b s = s
 repeated (suc n) b s = repeated n b (relaxed b s)
-
-pub above-refl : (s : State) → Above s s
-above-refl s = record { order = ≼-refl (layerOf s) }
-
-pub above-trans : {s x y : State} → Above s x → Above x y → Above s y
-above-trans h k = record { order = ≼-trans (h .order) (k .order) }
 
 pub relaxed-above : (b : Block) (s : State) → Above s (relaxed b s)
 unfolding relaxed layerOf
@@ -98,7 +115,7 @@ unfolding repeated
 repeated-above zero b s = above-refl s
 repeated-above (suc n) b s = above-trans (relaxed-above b s) (repeated-above n b (relaxed b s))
 
--- "the larger count does no harm"
+-- a larger count does no harm
 pub repeated-more : (n m : ℕ) (b : Block) (s : State) → n ≤ m → Above (repeated n b s) (repeated m b s)
 unfolding repeated
 repeated-more zero m b s h = repeated-above m b s
@@ -127,21 +144,29 @@ unfolding reaches stepSize lowValue
 step-low (finite z) t = positive-size z (record { le = t })
 step-low unbounded t = (refl, omega arith)
 
-module _ {L : Limits} {vars : ℕ} {e : Effect} (ok : EffectOk L normal vars e) (b : Block) (v : ℕ) (at-v : effectOn v b ≡ some e) where
-  relaxed-gives : (y : State) → changed (e .kind) (y .val v) (value y e) ≤ℤ (relaxed b y) .val v
+module _
+    {L : Limits} {vars : ℕ} {e : Effect} (ok : EffectOk L normal vars e)
+    (b : Block) (v : ℕ) (at-v : effectOn v b ≡ some e) where
+  relaxed-gives : (y : State) {d : Kind} → e .kind ≡ d → changed d (y .val v) (value y e) ≤ℤ (relaxed b y) .val v
   unfolding relaxed changedBy
-  relaxed-gives y = rw at-v (larger-right (y .val v) (changedBy y v (some e)))
+  relaxed-gives y i = rw (at-v, ← i) (larger-right (y .val v) (changedBy y v (some e)))
 
   -- n runs of a += whose value is g or more add n · g or more
-  times-lift : (n g : ℕ) (y : State) → e .kind ≡ increase → pos g ≤ℤ value y e → (y .val v +ℤ pos (n * g)) ≤ℤ (repeated n b y) .val v
+  times-lift :
+      (n g : ℕ) (y : State)
+      → e .kind ≡ increase
+      → pos g ≤ℤ value y e
+      → (y .val v +ℤ pos (n * g)) ≤ℤ (repeated n b y) .val v
   unfolding repeated changed
   times-lift zero g y i h = omega (zlin, Linear.sum (y .val v) (pos (0 * g)))
   times-lift (suc n) g y i h =
-      let once : (y .val v +ℤ value y e) ≤ℤ (relaxed b y) .val v = subst (λ (d : Kind). changed d (y .val v) (value y e) ≤ℤ (relaxed b y) .val v) i (relaxed-gives y) in
-      let later = times-lift n g (relaxed b y) i (≤-trans h (value-mono ok y (relaxed b y) (relaxed-above b y .order))) in
-      omega (zlin, Linear.sum (y .val v) (value y e), Linear.sum (y .val v) (pos (suc n * g)), Linear.sum ((relaxed b y) .val v) (pos (n * g)))
+      let x = relaxed b y in
+      let once : (y .val v +ℤ value y e) ≤ℤ x .val v = relaxed-gives y i in
+      let later = times-lift n g x i (≤-trans h (value-mono ok y x (relaxed-above b y .order))) in
+      let sum = Linear.sum in
+      omega (zlin, sum (y .val v) (value y e), sum (y .val v) (pos (suc n * g)), sum (x .val v) (pos (n * g)))
 
-  -- "a := run once gives ≥ T; a += run (T − state)/d times gives state + count × d ≥ T"
+  -- a := run once gives T or more; a += run (T − state value of v)/d times gives the state's value and count × d, or more
   pub runs-reach :
       (x : Value) (z : ℤ) {s y : State}
       → T (reaches x (demand (e .kind) z))
@@ -152,20 +177,24 @@ module _ {L : Limits} {vars : ℕ} {e : Effect} (ok : EffectOk L normal vars e) 
   runs-reach x z {s} {y} t above h = by-kind (e .kind) refl (ok .kind) t h
     where
       by-kind :
-          (d : Kind) → e .kind ≡ d → KindOk normal d
-          → T (reaches x (demand d z)) → lowValue x (demand d z) ≤ℤ value y e
+          (d : Kind)
+          → e .kind ≡ d
+          → KindOk normal d
+          → T (reaches x (demand d z))
+          → lowValue x (demand d z) ≤ℤ value y e
           → z ≤ℤ (repeated (runs d z (s .val v) x) b y) .val v
-      by-kind assign i d-ok t h = ≤-trans (≤-trans (low-reaches x z t) h) (subst (λ (d : Kind). changed d (y .val v) (value y e) ≤ℤ (relaxed b y) .val v) i (relaxed-gives y))
+      by-kind assign i d-ok t h = ≤-trans (≤-trans (low-reaches x z t) h) (relaxed-gives y i)
       by-kind increase i d-ok t h =
           let g = stepSize x in
           let n = up (ceiling (z -ℤ s .val v) g) in
           let lift = times-lift n g y i (rw (step-low x t .0) h) in
-          omega (zlin, lift, enough-runs z (s .val v) g (step-low x t .1), val-mono s y (above .order) v, Linear.sum (y .val v) (pos (n * g)), Linear.sum (s .val v) (pos (n * g)))
+          let way = enough-runs z (s .val v) g (step-low x t .1) in
+          omega (zlin, val-mono s y (above .order) v, Linear.sum (y .val v) (pos (n * g)), Linear.sum (s .val v) (pos (n * g)))
       by-kind decrease i d-ok t h = absurd d-ok
 
 -- ---- counts
 
--- "Count: 1; for += (T − state value of v)/d rounded up": at least 1, since the layer has not reached T and is not below the state
+-- "Count: 1; for += (T − state value of v)/d rounded up": at least 1, for the layer is no lower than the state and has not reached T
 pub runs-positive :
     (l : Layer) (s : State) (v : ℕ) (z : ℤ) (e : Effect)
     → layerOf s ≼ l

@@ -1,14 +1,16 @@
 -- Wants as facts: what each wanted proposition and each target has, what one want more adds, and when a layer, or a state seen as
 -- a layer, meets the wants (document 01, "Plan"). Assumes nothing.
 use Prim.Native.Nat.{ℕ}
+use mathlib.Core.Path.{_≡_, refl}
 use lib.Dec.{T, eqb, eqb→eq, eqb-refl}
-use lib.IntN.{ℤ}
+use lib.IntN.{ℤ, _+ℤ_, _-ℤ_}
 use lib.Signed.{_≤ℤ_}
-use Rattle.integer.specs.Linear.{larger-cases, larger-left, larger-right}
-use Rattle.model.specs.Layer.{Value, Layer, reaches}
-use Rattle.model.specs.Plan.{Target, free, least, Wants, noWants, raiseTarget, wantProp, wantValue}
+use Rattle.integer.specs.Linear.{zlin, sum, diff, ≤-refl, larger-cases, larger-left, larger-right}
+use Rattle.model.specs.Move.{State}
+use Rattle.model.specs.Layer.{Value, finite, unbounded, Layer, plus, reaches, layerOf}
+use Rattle.model.specs.Plan.{Target, free, least, Wants, noWants, raiseTarget, wantProp, wantValue, lowValue, low}
 use Rattle.model.specs.Theorems.Booleans.{or-left, or-right, or-cases, cond-cases}
-use Rattle.model.specs.Theorems.Order.{finite-⊑, ⊑-trans, reaches-⊑, ⊑-reaches, reaches-mono, _≼_}
+use Rattle.model.specs.Theorems.Order.{finite-⊑, ⊑-unbounded, ⊑-refl, ⊑-trans, reaches-⊑, ⊑-reaches, reaches-mono, _≼_, ≼-refl, ≼-trans}
 
 -- ---- each wanted proposition has P, each target on v has Q v
 
@@ -29,7 +31,12 @@ target-map : {Q R : ℤ → Type 0} → ((z : ℤ) → Q z → R z) → (t : Tar
 target-map f free h = tt
 target-map f (least z) h = f z h
 
-pub each-map : {P R : ℕ → Type 0} {Q S : ℕ → ℤ → Type 0} {w : Wants} → ((p : ℕ) → P p → R p) → ((v : ℕ) (z : ℤ) → Q v z → S v z) → Each P Q w → Each R S w
+pub each-map :
+    {P R : ℕ → Type 0} {Q S : ℕ → ℤ → Type 0} {w : Wants}
+    → ((p : ℕ) → P p → R p)
+    → ((v : ℕ) (z : ℤ) → Q v z → S v z)
+    → Each P Q w
+    → Each R S w
 each-map {w} f g h = record { props = λ p t. f p (h .props p t); targets = λ v. target-map (g v) (w .target v) (h .targets v) }
 
 module _ {P : ℕ → Type 0} {Q : ℕ → ℤ → Type 0} where
@@ -96,7 +103,8 @@ module _ {x : Layer} where
         each = record {
           props = h .each .props;
           targets =
-              λ u. cond-cases (λ t. Reached (x .val u) t → Reached (x .val u) (w .target u)) (eqb u v) (raiseTarget (w .target u) z) (w .target u)
+              λ u. cond-cases (λ t. Reached (x .val u) t → Reached (x .val u) (w .target u)) (eqb u v)
+              (raiseTarget (w .target u) z) (w .target u)
               (λ e. raise-old (x .val u) (w .target u) z) (λ e r. r) (h .each .targets u);
         };
       }
@@ -106,3 +114,41 @@ module _ {x : Layer} where
   wantValue-new w v z h =
       cond-cases (λ t. Reached (x .val v) t → T (reaches (x .val v) z)) (eqb v v) (raiseTarget (w .target v) z) (w .target v)
       (λ e. raise-new (x .val v) (w .target v) z) (λ e. absurd (e (eqb-refl v))) (h .each .targets v)
+
+-- ---- the order of states
+
+-- y is at least as high as s: it has all propositions of s, and no value is smaller
+pub record Above (s y : State) : Type 0 where
+  pub order : layerOf s ≼ layerOf y
+
+pub above-refl : (s : State) → Above s s
+above-refl s = record { order = ≼-refl (layerOf s) }
+
+pub above-trans : {s x y : State} → Above s x → Above x y → Above s y
+above-trans h k = record { order = ≼-trans (h .order) (k .order) }
+
+-- ---- what a layer's value is known to reach, and the number that stands for it
+
+pub reaches-own : {x : Value} {z : ℤ} → x ≡ finite z → T (reaches x z)
+reaches-own {z} e = rw e (⊑-reaches (⊑-refl (finite z)))
+
+pub reaches-any : {x : Value} (z : ℤ) → x ≡ unbounded → T (reaches x z)
+reaches-any z e = rw e (⊑-reaches (⊑-unbounded (finite z)))
+
+pub low-plus : (a : ℤ) (x : Value) (c : ℤ) → lowValue (plus (finite a) x) c ≡ a +ℤ lowValue x (c -ℤ a)
+unfolding plus lowValue
+low-plus a (finite z) c = refl
+low-plus a unbounded c = omega (zlin, diff c a, sum a (c -ℤ a))
+
+pub low-reaches : (x : Value) (c : ℤ) → T (reaches x c) → c ≤ℤ lowValue x c
+unfolding reaches lowValue
+low-reaches (finite z) c t = record { le = t }
+low-reaches unbounded c t = ≤-refl c
+
+pub low-finite : (l : Layer) (s : State) (v : ℕ) {z : ℤ} → l .val v ≡ finite z → low l s v ≡ z
+unfolding low lowValue
+low-finite l s v e = rw e
+
+pub low-unbounded : (l : Layer) (s : State) (v : ℕ) → l .val v ≡ unbounded → low l s v ≡ s .val v
+unfolding low lowValue
+low-unbounded l s v e = rw e

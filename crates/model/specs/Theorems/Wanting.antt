@@ -1,5 +1,5 @@
--- What is wanted of a layer for a sum, a condition or a whole block: the layer meets it, and every state that meets it, not below
--- the first state, has the condition (document 01, "Plan"). Assumes nothing.
+-- What is wanted of a layer for "sum ≥ c": the layer meets it, every state at least as high as the first that meets it has the
+-- sum, and it is what document 01 says in its own words ("Plan"). Assumes nothing.
 use Prim.Native.Nat.{ℕ, _<_, _≤_}
 use native.Mathlib.Omega.{arith}
 use mathlib.Core.Path.{_≡_, refl, ap, _∙_}
@@ -17,59 +17,91 @@ use Rattle.model.specs.Move.{State, sum}
 use Rattle.model.specs.Layer.{Value, finite, unbounded, Layer, plus, times, layerSum, reaches, layerOf}
 use Rattle.model.specs.Plan.{Wants, wantValue, wantFinite, wantSum, low, lowValue}
 use Rattle.model.specs.Theorems.WellFormed.{All, Rising}
-use Rattle.model.specs.Theorems.Order.{finite-⊑, ⊑-finite, ⊑-refl, ⊑-unbounded, reaches-⊑, ⊑-reaches, times-mono, _≼_}
+use Rattle.model.specs.Theorems.Order.{finite-⊑, ⊑-finite, reaches-⊑, times-mono}
 use Rattle.model.specs.Theorems.Relaxation.{val-mono}
-use Rattle.model.specs.Theorems.Targets.{Each, wantValue-each, Sat, wantValue-old, wantValue-new}
+use Rattle.model.specs.Theorems.Targets.{Above, reaches-own, reaches-any, low-plus, low-finite, low-unbounded, Each, wantValue-each, Sat, wantValue-old, wantValue-new}
 
--- ---- what is wanted for a sum can be had in the layer
+-- ---- what a term adds to the wants of a sum
 
 -- a value is finite or unbounded
-value-cases : {A : Type 0} (P : A → Type 0) (x : Value) (f : ℤ → A) (a : A) → ((z : ℤ) → x ≡ finite z → P (f z)) → (x ≡ unbounded → P a) → P (elim x [ finite z ↦ f z | unbounded ↦ a ])
+value-cases :
+    {A : Type 0} (P : A → Type 0) (x : Value) (f : ℤ → A) (a : A)
+    → ((z : ℤ) → x ≡ finite z → P (f z))
+    → (x ≡ unbounded → P a)
+    → P (elim x [ finite z ↦ f z | unbounded ↦ a ])
 value-cases P (finite z) f a g h = g z refl
 value-cases P unbounded f a g h = h refl
+
+-- what the unbounded variable of the first term gets
+abbrev share : Layer → State → Term → List Term → ℤ → ℤ
+share l s t ts c = ceiling (c -ℤ sum (low l s) ts) (natAbs (t .weight))
+
+module _ (l : Layer) (w : Wants) (t : Term) (ts : List Term) (P : Wants → Type 0) where
+  wantFinite-cases :
+      ((z : ℤ) → l .val (t .var) ≡ finite z → P (wantFinite l (wantValue w (t .var) z) ts))
+      → (l .val (t .var) ≡ unbounded → P (wantFinite l w ts))
+      → P (wantFinite l w (t ∷ ts))
+  unfolding wantFinite
+  wantFinite-cases f g =
+      value-cases P (l .val (t .var)) (λ z. wantFinite l (wantValue w (t .var) z) ts) (wantFinite l w ts) f g
+
+  wantSum-cases :
+      (s : State) (c : ℤ)
+      → ((z : ℤ) → l .val (t .var) ≡ finite z → P (wantSum l s (wantValue w (t .var) z) ts (c -ℤ (t .weight *ℤ z))))
+      → (l .val (t .var) ≡ unbounded → P (wantValue (wantFinite l w ts) (t .var) (share l s t ts c)))
+      → P (wantSum l s w (t ∷ ts) c)
+  unfolding wantSum
+  wantSum-cases s c f g =
+      value-cases P (l .val (t .var)) (λ z. wantSum l s (wantValue w (t .var) z) ts (c -ℤ (t .weight *ℤ z)))
+      (wantValue (wantFinite l w ts) (t .var) (share l s t ts c)) f g
+
+-- ---- what is wanted for a sum can be had in the layer
 
 -- Q holds of all that the layer reaches at the term's variable
 abbrev pub Offered : (ℕ → ℤ → Type 0) → Layer → Term → Type 0
 Offered Q l t = (z : ℤ) → T (reaches (l .val (t .var)) z) → Q (t .var) z
 
-module _ {P : ℕ → Type 0} {Q : ℕ → ℤ → Type 0} where
-  pub wantFinite-each : (l : Layer) (w : Wants) (ts : List Term) → All (Offered Q l) ts → Each P Q w → Each P Q (wantFinite l w ts)
+module _ {P : ℕ → Type 0} {Q : ℕ → ℤ → Type 0} (l : Layer) where
+  wantFinite-each : (w : Wants) (ts : List Term) → All (Offered Q l) ts → Each P Q w → Each P Q (wantFinite l w ts)
   unfolding wantFinite
-  wantFinite-each l w [] a h = h
-  wantFinite-each l w (t ∷ ts) a h =
-      value-cases (Each P Q) (l .val (t .var)) (λ z. wantFinite l (wantValue w (t .var) z) ts) (wantFinite l w ts)
-      (λ z e. wantFinite-each l (wantValue w (t .var) z) ts (a .1) (wantValue-each h (a .0 z (rw e (⊑-reaches (⊑-refl (finite z)))))))
-      (λ e. wantFinite-each l w ts (a .1) h)
+  wantFinite-each w [] a h = h
+  wantFinite-each w (t ∷ ts) a h =
+      wantFinite-cases l w t ts (Each P Q)
+      (λ z e. wantFinite-each (wantValue w (t .var) z) ts (a .1) (wantValue-each h (a .0 z (reaches-own e))))
+      (λ e. wantFinite-each w ts (a .1) h)
 
-  -- what a wanted sum adds the layer reaches
-  pub wantSum-each : (l : Layer) (s : State) (w : Wants) (ts : List Term) (c : ℤ) → All (Offered Q l) ts → Each P Q w → Each P Q (wantSum l s w ts c)
+  pub wantSum-each :
+      (s : State) (w : Wants) (ts : List Term) (c : ℤ)
+      → All (Offered Q l) ts
+      → Each P Q w
+      → Each P Q (wantSum l s w ts c)
   unfolding wantSum
-  wantSum-each l s w [] c a h = h
-  wantSum-each l s w (t ∷ ts) c a h =
-      value-cases (Each P Q) (l .val (t .var)) (λ z. wantSum l s (wantValue w (t .var) z) ts (c -ℤ (t .weight *ℤ z)))
-      (wantValue (wantFinite l w ts) (t .var) (ceiling (c -ℤ sum (low l s) ts) (natAbs (t .weight))))
-      (λ z e. wantSum-each l s (wantValue w (t .var) z) ts (c -ℤ (t .weight *ℤ z)) (a .1) (wantValue-each h (a .0 z (rw e (⊑-reaches (⊑-refl (finite z)))))))
-      (λ e. wantValue-each (wantFinite-each l w ts (a .1) h) (a .0 (ceiling (c -ℤ sum (low l s) ts) (natAbs (t .weight))) (rw e (⊑-reaches (⊑-unbounded _)))))
+  wantSum-each s w [] c a h = h
+  wantSum-each s w (t ∷ ts) c a h =
+      wantSum-cases l w t ts (Each P Q) s c
+      (λ z e. wantSum-each s (wantValue w (t .var) z) ts (c -ℤ (t .weight *ℤ z)) (a .1)
+      (wantValue-each h (a .0 z (reaches-own e))))
+      (λ e. wantValue-each (wantFinite-each w ts (a .1) h) (a .0 (share l s t ts c) (reaches-any (share l s t ts c) e)))
 
 -- ---- what was wanted before stays wanted
 
-module _ {x : Layer} where
-  pub wantFinite-old : (l : Layer) (w : Wants) (ts : List Term) → Sat (wantFinite l w ts) x → Sat w x
+module _ {x : Layer} (l : Layer) where
+  wantFinite-old : (w : Wants) (ts : List Term) → Sat (wantFinite l w ts) x → Sat w x
   unfolding wantFinite
-  wantFinite-old l w [] h = h
-  wantFinite-old l w (t ∷ ts) h =
-      value-cases (λ u. Sat u x → Sat w x) (l .val (t .var)) (λ z. wantFinite l (wantValue w (t .var) z) ts) (wantFinite l w ts)
-      (λ z e k. wantValue-old w (t .var) z (wantFinite-old l (wantValue w (t .var) z) ts k))
-      (λ e. wantFinite-old l w ts) h
+  wantFinite-old w [] h = h
+  wantFinite-old w (t ∷ ts) h =
+      wantFinite-cases l w t ts (λ u. Sat u x → Sat w x)
+      (λ z e k. wantValue-old w (t .var) z (wantFinite-old (wantValue w (t .var) z) ts k))
+      (λ e. wantFinite-old w ts)
+      h
 
-  pub wantSum-old : (l : Layer) (s : State) (w : Wants) (ts : List Term) (c : ℤ) → Sat (wantSum l s w ts c) x → Sat w x
+  pub wantSum-old : (s : State) (w : Wants) (ts : List Term) (c : ℤ) → Sat (wantSum l s w ts c) x → Sat w x
   unfolding wantSum
-  wantSum-old l s w [] c h = h
-  wantSum-old l s w (t ∷ ts) c h =
-      value-cases (λ u. Sat u x → Sat w x) (l .val (t .var)) (λ z. wantSum l s (wantValue w (t .var) z) ts (c -ℤ (t .weight *ℤ z)))
-      (wantValue (wantFinite l w ts) (t .var) (ceiling (c -ℤ sum (low l s) ts) (natAbs (t .weight))))
-      (λ z e k. wantValue-old w (t .var) z (wantSum-old l s (wantValue w (t .var) z) ts (c -ℤ (t .weight *ℤ z)) k))
-      (λ e k. wantFinite-old l w ts (wantValue-old (wantFinite l w ts) (t .var) (ceiling (c -ℤ sum (low l s) ts) (natAbs (t .weight))) k))
+  wantSum-old s w [] c h = h
+  wantSum-old s w (t ∷ ts) c h =
+      wantSum-cases l w t ts (λ u. Sat u x → Sat w x) s c
+      (λ z e k. wantValue-old w (t .var) z (wantSum-old s (wantValue w (t .var) z) ts (c -ℤ (t .weight *ℤ z)) k))
+      (λ e k. wantFinite-old w ts (wantValue-old (wantFinite l w ts) (t .var) (share l s t ts c) k))
       h
 
 -- ---- meeting what is wanted is enough
@@ -93,71 +125,66 @@ lifted c r w h =
     let k : (c -ℤ r) ≤ℤ (w *ℤ q) = rw (positive-size w h .0) at (ceiling-enough (c -ℤ r) (natAbs w) (positive-size w h .1)) in
     omega (zlin, diff c r, Linear.sum (w *ℤ q) r)
 
-low-plus : (a : ℤ) (x : Value) (c : ℤ) → lowValue (plus (finite a) x) c ≡ a +ℤ lowValue x (c -ℤ a)
-unfolding plus lowValue
-low-plus a (finite z) c = refl
-low-plus a unbounded c = omega (zlin, diff c a, Linear.sum a (c -ℤ a))
-
-pub low-reaches : (x : Value) (c : ℤ) → T (reaches x c) → c ≤ℤ lowValue x c
-unfolding reaches lowValue
-low-reaches (finite z) c t = record { le = t }
-low-reaches unbounded c t = ≤-refl c
-
--- the state y is not below s
-pub record Above (s y : State) : Type 0 where
-  pub order : layerOf s ≼ layerOf y
-
 module _ (l : Layer) {s y : State} (above : Above s y) where
-  state-reaches : (v : ℕ) (z : ℤ) → T (reaches ((layerOf y) .val v) z) → z ≤ℤ y .val v
+  -- the target z on the variable of a term, met
+  term-enough :
+      (t : Term) (z : ℤ)
+      → Positive t
+      → T (reaches ((layerOf y) .val (t .var)) z)
+      → (t .weight *ℤ z) ≤ℤ (t .weight *ℤ y .val (t .var))
   unfolding layerOf
-  state-reaches v z t = ⊑-finite (reaches-⊑ (finite (y .val v)) z t)
+  term-enough t z ok r = weighted ok (⊑-finite (reaches-⊑ (finite (y .val (t .var))) z r))
 
-  wantFinite-enough : (w : Wants) (ts : List Term) → All Positive ts → Sat (wantFinite l w ts) (layerOf y) → sum (low l s) ts ≤ℤ sum (y .val) ts
-  unfolding wantFinite sum low lowValue
+  wantFinite-enough :
+      (w : Wants) (ts : List Term)
+      → All Positive ts
+      → Sat (wantFinite l w ts) (layerOf y)
+      → sum (low l s) ts ≤ℤ sum (y .val) ts
+  unfolding wantFinite sum
   wantFinite-enough w [] ok h = ≤-refl (pos 0)
-  wantFinite-enough w (t ∷ ts) ok h = go (l .val v) h (λ u. wantFinite-enough u ts (ok .1))
-    where
-      v : ℕ
-      v = t .var
+  wantFinite-enough w (t ∷ ts) ok h =
+      wantFinite-cases l w t ts (λ u. Sat u (layerOf y) → sum (low l s) (t ∷ ts) ≤ℤ sum (y .val) (t ∷ ts))
+      (λ z e k.
+      let u = wantValue w (t .var) z in
+      rw (low-finite l s (t .var) e)
+      (+-mono
+      (term-enough t z (ok .0) (wantValue-new w (t .var) z (wantFinite-old l u ts k)))
+      (wantFinite-enough u ts (ok .1) k)))
+      (λ e k. rw (low-unbounded l s (t .var) e)
+      (+-mono (weighted (ok .0) (val-mono s y (above .order) (t .var))) (wantFinite-enough w ts (ok .1) k)))
+      h
 
-      go : (x : Value) → Sat (elim x [ finite z ↦ wantFinite l (wantValue w v z) ts | unbounded ↦ wantFinite l w ts ]) (layerOf y) → ((u : Wants) → Sat (wantFinite l u ts) (layerOf y) → sum (low l s) ts ≤ℤ sum (y .val) ts) → ((t .weight *ℤ lowValue x (s .val v)) +ℤ sum (low l s) ts) ≤ℤ sum (y .val) (t ∷ ts)
-      go (finite z) k later =
-          +-mono (weighted (ok .0) (state-reaches v z (wantValue-new w v z (wantFinite-old l (wantValue w v z) ts k)))) (later (wantValue w v z) k)
-      go unbounded k later = +-mono (weighted (ok .0) (val-mono s y (above .order) v)) (later w k)
-
-  -- in every state, not below the first one, that has the targets, the sum is at least the layer's if that is finite, and at least c if it is not
-  pub wantSum-enough : (w : Wants) (ts : List Term) (c : ℤ) → All Positive ts → Sat (wantSum l s w ts c) (layerOf y) → lowValue (layerSum (l .val) ts) c ≤ℤ sum (y .val) ts
+  -- in every state at least as high as the first that has the targets, the sum is at least the layer's if that is finite, and
+  -- at least c if it is not
+  pub wantSum-enough :
+      (w : Wants) (ts : List Term) (c : ℤ)
+      → All Positive ts
+      → Sat (wantSum l s w ts c) (layerOf y)
+      → lowValue (layerSum (l .val) ts) c ≤ℤ sum (y .val) ts
   unfolding wantSum sum layerSum plus times lowValue
   wantSum-enough w [] c ok h = ≤-refl (pos 0)
-  wantSum-enough w (t ∷ ts) c ok h = go (l .val v) h (λ u d. wantSum-enough u ts d (ok .1))
-    where
-      v : ℕ
-      v = t .var
-
-      rest : ℤ
-      rest = sum (low l s) ts
-
-      q : ℤ
-      q = ceiling (c -ℤ rest) (natAbs (t .weight))
-
-      go :
-          (x : Value) → Sat (elim x [ finite z ↦ wantSum l s (wantValue w v z) ts (c -ℤ (t .weight *ℤ z)) | unbounded ↦ wantValue (wantFinite l w ts) v q ]) (layerOf y)
-          → ((u : Wants) (d : ℤ) → Sat (wantSum l s u ts d) (layerOf y) → lowValue (layerSum (l .val) ts) d ≤ℤ sum (y .val) ts)
-          → lowValue (plus (times (t .weight) x) (layerSum (l .val) ts)) c ≤ℤ sum (y .val) (t ∷ ts)
-      go (finite z) k later =
-          rw (low-plus (t .weight *ℤ z) (layerSum (l .val) ts) c)
-          (+-mono
-          (weighted (ok .0) (state-reaches v z (wantValue-new w v z (wantSum-old l s (wantValue w v z) ts (c -ℤ (t .weight *ℤ z)) k))))
-          (later (wantValue w v z) (c -ℤ (t .weight *ℤ z)) k))
-      go unbounded k later =
-          ≤-trans (lifted c rest (t .weight) (ok .0))
-          (+-mono
-          (weighted (ok .0) (state-reaches v q (wantValue-new (wantFinite l w ts) v q k)))
-          (wantFinite-enough w ts (ok .1) (wantValue-old (wantFinite l w ts) v q k)))
+  wantSum-enough w (t ∷ ts) c ok h =
+      wantSum-cases l w t ts (λ u. Sat u (layerOf y) → lowValue (layerSum (l .val) (t ∷ ts)) c ≤ℤ sum (y .val) (t ∷ ts)) s c
+      (λ z e k.
+      let u = wantValue w (t .var) z in
+      let d = c -ℤ (t .weight *ℤ z) in
+      rw (e, low-plus (t .weight *ℤ z) (layerSum (l .val) ts) c)
+      (+-mono
+      (term-enough t z (ok .0) (wantValue-new w (t .var) z (wantSum-old l s u ts d k)))
+      (wantSum-enough u ts d (ok .1) k)))
+      (λ e k.
+      let u = wantFinite l w ts in
+      let q = share l s t ts c in
+      rw e
+      (≤-trans (lifted c (sum (low l s) ts) (t .weight) (ok .0))
+      (+-mono
+      (term-enough t q (ok .0) (wantValue-new u (t .var) q k))
+      (wantFinite-enough w ts (ok .1) (wantValue-old u (t .var) q k)))))
+      h
 
 -- ---- the sentence in its own words
 
--- "the rest using layer values for finite and state values for other unbounded ones": the sum over the terms of the other variables
+-- "the rest using layer values for finite and state values for other unbounded ones": the sum over the other variables' terms
 unfoldable pub rest : Layer → State → ℕ → List Term → ℤ
 rest l s v [] = pos 0
 rest l s v (t ∷ ts) = cond (eqb (t .var) v) (pos 0) (t .weight *ℤ low l s (t .var)) +ℤ rest l s v ts
@@ -179,44 +206,38 @@ module _ (l : Layer) (s : State) where
   rest-after v [] a = refl
   rest-after v (t ∷ ts) a = rw (ne-eqb (t .var) v (λ e. omega arith), rest-after v ts (a .1))
 
-  low-finite : (v : ℕ) {z : ℤ} → l .val v ≡ finite z → low l s v ≡ z
-  unfolding low lowValue
-  low-finite v e = rw e
-
   -- "each finite variable's target is its layer value", where no variable is unbounded
-  pub want-sum-finite : (w : Wants) (ts : List Term) (c : ℤ) → All (λ (u : Term). l .val (u .var) ≡ unbounded → ⊥) ts → wantSum l s w ts c ≡ wantFinite l w ts
+  pub want-sum-finite :
+      (w : Wants) (ts : List Term) (c : ℤ)
+      → All (λ (u : Term). l .val (u .var) ≡ unbounded → ⊥) ts
+      → wantSum l s w ts c ≡ wantFinite l w ts
   unfolding wantSum wantFinite
   want-sum-finite w [] c a = refl
-  want-sum-finite w (t ∷ ts) c a = go (l .val (t .var)) refl (λ u d. want-sum-finite u ts d (a .1))
-    where
-      go : (x : Value) → l .val (t .var) ≡ x → ((u : Wants) (d : ℤ) → wantSum l s u ts d ≡ wantFinite l u ts) → wantSum l s w (t ∷ ts) c ≡ wantFinite l w (t ∷ ts)
-      go (finite z) e later = rw (e, wantSum, wantFinite) (later (wantValue w (t .var) z) (c -ℤ (t .weight *ℤ z)))
-      go unbounded e later = absurd (a .0 e)
+  want-sum-finite w (t ∷ ts) c a =
+      wantSum-cases l w t ts (λ u. u ≡ wantFinite l w (t ∷ ts)) s c
+      (λ z e. rw (e, wantFinite) (want-sum-finite (wantValue w (t .var) z) ts (c -ℤ (t .weight *ℤ z)) (a .1)))
+      (λ e. absurd (a .0 e))
 
-  -- "each finite variable's target is its layer value; the lowest unbounded one, weight w, gets (c − the rest)/w rounded up to a
-  -- whole number": t is the lowest unbounded one
+  -- "To want "sum ≥ c" in layer t: each finite variable's target is its layer value; the lowest unbounded one, weight w, gets
+  -- (c − the rest)/w rounded up to a whole number": t is the lowest unbounded one
   pub want-sum-literal :
       (w : Wants) (ts : List Term) (c : ℤ) (t : Term)
-      → Rising ts → Among t ts
-      → l .val (t .var) ≡ unbounded → All (λ (u : Term). l .val (u .var) ≡ unbounded → t .var ≤ u .var) ts
+      → Rising ts
+      → Among t ts
+      → l .val (t .var) ≡ unbounded
+      → All (λ (u : Term). l .val (u .var) ≡ unbounded → t .var ≤ u .var) ts
       → wantSum l s w ts c ≡ wantValue (wantFinite l w ts) (t .var) (ceiling (c -ℤ rest l s (t .var) ts) (natAbs (t .weight)))
   unfolding wantSum wantFinite rest
   want-sum-literal w ts c t rising (here {ts = us}) e lowest =
       rw (e, wantSum, wantFinite, eq-eqb (t .var) (t .var) refl, rest-after (t .var) us (rising .0), zero-+ (sum (low l s) us))
   want-sum-literal w ts c t rising (there {u = u} {ts = us} m) e lowest =
-      go (l .val (u .var)) refl (λ v d. want-sum-literal v us d t (rising .1) m e (lowest .1))
-    where
-      before : u .var < t .var
-      before = among-All (λ r. u .var < r .var) m (rising .0)
-
-      q : ℤ → ℤ
-      q d = ceiling d (natAbs (t .weight))
-
-      go :
-          (x : Value) → l .val (u .var) ≡ x
-          → ((v : Wants) (d : ℤ) → wantSum l s v us d ≡ wantValue (wantFinite l v us) (t .var) (q (d -ℤ rest l s (t .var) us)))
-          → wantSum l s w (u ∷ us) c ≡ wantValue (wantFinite l w (u ∷ us)) (t .var) (q (c -ℤ rest l s (t .var) (u ∷ us)))
-      go (finite z) f later =
-          rw (f, wantSum, wantFinite, ne-eqb (u .var) (t .var) (λ same. omega (arith, before)), low-finite (u .var) f)
-          (later (wantValue w (u .var) z) (c -ℤ (u .weight *ℤ z)) ∙ ap (λ d. wantValue (wantFinite l (wantValue w (u .var) z) us) (t .var) (q d)) (sub-sub c (u .weight *ℤ z) (rest l s (t .var) us)))
-      go unbounded f later = absurd (omega (arith, before, lowest .0 f))
+      let before : u .var < t .var = among-All (λ r. u .var < r .var) m (rising .0) in
+      let goal : Wants → ℤ → Wants = λ v d. wantValue v (t .var) (ceiling d (natAbs (t .weight))) in
+      wantSum-cases l w u us (λ v. v ≡ goal (wantFinite l w (u ∷ us)) (c -ℤ rest l s (t .var) (u ∷ us))) s c
+      (λ z f.
+      let x = u .weight *ℤ z in
+      let v = wantValue w (u .var) z in
+      rw (f, wantFinite, ne-eqb (u .var) (t .var) (λ same. omega arith), low-finite l s (u .var) f)
+      (want-sum-literal v us (c -ℤ x) t (rising .1) m e (lowest .1)
+      ∙ ap (goal (wantFinite l v us)) (sub-sub c x (rest l s (t .var) us))))
+      (λ f. absurd (omega (arith, lowest .0 f)))
