@@ -1,0 +1,232 @@
+-- The answer of a state's check as an optional refusal; the search of the first wrong place; what an accepted state is.
+-- Assumes nothing.
+use Prim.Native.Nat.{ℕ, zero, suc, _+_, _-_, _*_, _≤_, _<_}
+use native.Mathlib.Numerals.{add-one}
+use native.Mathlib.Omega.{arith}
+use mathlib.Core.Path.{_≡_, refl, sym, ap, _∙_}
+use mathlib.Core.Bool.{Bool, true, false, not}
+use mathlib.Core.List.{List}
+use mathlib.Core.Option.{Option, none, some}
+use borrow.Author.Tests.{leb-true, not-false, le-leb, lt-leb, eq-eqb, ne-eqb}
+use lib.Dec.{T, eqb, leb, eqb→eq}
+use lib.IntN.{ℤ, pos, negsuc, natAbs}
+use lib.ListN.{length, getD}
+use lib.Signed.{leZ, _≤ℤ_, _<ℤ_}
+use Rattle.integer.specs.Linear.{le-in, lt-in}
+use Rattle.state.specs.declared.StateCheck.{StateCheck}
+use Rattle.state.specs.declared.StateCheck.the-variants.{Accepted, Refused}
+use Rattle.model.specs.declared.Refusal.{Refusal}
+use Rattle.model.specs.Limits.{Limits, paper}
+use Rattle.model.specs.Lists.{firstFrom}
+use Rattle.model.specs.StateTable.{valueOffset, stateValue, valueInRange, refusedValue, refusedByte, stateRefusal}
+use Rattle.model.specs.Theorems.Booleans.{true-T, T-cases, false-not, not-false as fails}
+use Rattle.model.specs.Theorems.Searching.{firstFrom-cases}
+
+unfoldable pub checkOf : StateCheck → Option Refusal
+checkOf Accepted = none
+checkOf (Refused r) = some r
+
+-- what a check's outcome says of the refusal that it equals
+pub check-accepted : {c : StateCheck} {o : Option Refusal} → checkOf c ≡ o → c ≡ Accepted → o ≡ none
+unfolding checkOf
+check-accepted e a = sym e ∙ ap checkOf a
+
+pub check-refused : {c : StateCheck} {o : Option Refusal} {r : Refusal} → checkOf c ≡ o → c ≡ Refused r → o ≡ some r
+unfolding checkOf
+check-refused e a = sym e ∙ ap checkOf a
+
+some-none : {A : Type 0} {a : A} → some a ≡ none → ⊥
+some-none e = let z : _≡_ {A = ℕ} 0 1 = cc in omega arith
+
+-- ---- the first number below n that passes a test
+
+-- none below i passes it, so the search goes on from i
+pub record Searched (f : ℕ → Bool) (n i : ℕ) : Type 0 where
+  pub within : i ≤ n
+  pub same : firstFrom f 0 n ≡ firstFrom f i (n - i)
+
+pub searched-start : (f : ℕ → Bool) (n : ℕ) → Searched f n 0
+searched-start f n = record { within = omega arith; same = ap (firstFrom f 0) (omega arith) }
+
+module _ {f : ℕ → Bool} {n i : ℕ} (s : Searched f n i) where
+  pub searched-next : i < n → f i ≡ false → Searched f n (i + 1)
+  unfolding firstFrom
+  searched-next h t =
+      let e : n - i ≡ suc (n - (i + 1)) = omega arith in
+      record { within = omega arith; same = s .same ∙ rw (e, firstFrom, t, add-one i) refl }
+
+  pub searched-found : i < n → f i ≡ true → firstFrom f 0 n ≡ some i
+  unfolding firstFrom
+  searched-found h t = let e : n - i ≡ suc (n - suc i) = omega arith in s .same ∙ rw (e, firstFrom, t) refl
+
+  pub searched-all : n ≤ i → firstFrom f 0 n ≡ none
+  unfolding firstFrom
+  searched-all h = let e : n - i ≡ 0 = omega arith in s .same ∙ rw e refl
+
+-- ---- the two tests
+
+-- a truth byte that is neither 0 nor 1, a value beyond ±1,000,000
+unfoldable pub wrongTruth : List ℕ → ℕ → Bool
+wrongTruth bs p = not (leb (getD bs p 0) 1)
+
+unfoldable pub wrongValue : ℕ → List ℕ → ℕ → Bool
+wrongValue props bs v = not (valueInRange paper (stateValue props bs v))
+
+pub range-low : (z : ℤ) → z <ℤ negsuc 999_999 → valueInRange paper z ≡ false
+unfolding valueInRange paper
+range-low (pos n) h = absurd (h .lt)
+range-low (negsuc n) h = lt-leb (suc n) 1_000_000 (omega (arith, lt-in (negsuc n) (negsuc 999_999) h))
+
+pub range-high : (z : ℤ) → negsuc 999_999 ≤ℤ z → valueInRange paper z ≡ leZ z (pos 1_000_000)
+unfolding valueInRange paper
+range-high (pos n) h = refl
+range-high (negsuc n) h = le-leb (suc n) 1_000_000 (omega (arith, le-in (negsuc 999_999) (negsuc n) h))
+
+pub range-size : (z : ℤ) → valueInRange paper z ≡ true → natAbs z ≤ 1_000_000
+unfolding valueInRange paper
+range-size z e = leb-true (natAbs z) 1_000_000 e
+
+module _ (bs : List ℕ) (p : ℕ) where
+  pub truth-wrong : 1 < getD bs p 0 → wrongTruth bs p ≡ true
+  unfolding wrongTruth
+  truth-wrong h = rw (lt-leb (getD bs p 0) 1 h) refl
+
+  pub truth-right : getD bs p 0 ≤ 1 → wrongTruth bs p ≡ false
+  unfolding wrongTruth
+  truth-right h = rw (le-leb (getD bs p 0) 1 h) refl
+
+  truth-small : wrongTruth bs p ≡ false → getD bs p 0 ≤ 1
+  unfolding wrongTruth
+  truth-small e = leb-true (getD bs p 0) 1 (not-false (leb (getD bs p 0) 1) e)
+
+module _ (props : ℕ) (bs : List ℕ) (v : ℕ) where
+  -- by a flag that tells whether the value is in range
+  pub value-flag : (t : Bool) → t ≡ valueInRange paper (stateValue props bs v) → wrongValue props bs v ≡ not t
+  unfolding wrongValue
+  value-flag t e = ap not (sym e)
+
+  value-small : wrongValue props bs v ≡ false → natAbs (stateValue props bs v) ≤ 1_000_000
+  unfolding wrongValue
+  value-small e =
+      range-size (stateValue props bs v) (not-false (valueInRange paper (stateValue props bs v)) e)
+
+  value-right : natAbs (stateValue props bs v) ≤ 1_000_000 → wrongValue props bs v ≡ false
+  unfolding wrongValue valueInRange paper
+  value-right h = rw (le-leb (natAbs (stateValue props bs v)) 1_000_000 h) refl
+
+-- ---- the check by its parts
+
+unfoldable pub truthsRefusal : ℕ → List ℕ → Option Refusal → Option Refusal
+truthsRefusal props bs r = refusedByte (firstFrom (wrongTruth bs) 0 props) r
+
+unfoldable pub valuesRefusal : ℕ → ℕ → List ℕ → Option Refusal
+valuesRefusal props vars bs = refusedValue props (firstFrom (wrongValue props bs) 0 vars)
+
+module _ (props vars : ℕ) (bs : List ℕ) where
+  pub length-refused : (length bs ≡ props + 4 * vars → ⊥) → stateRefusal paper props vars bs ≡ some (record { number = 8; place = 0 })
+  unfolding stateRefusal valueOffset
+  length-refused h = rw (stateRefusal, ne-eqb (length bs) (props + 4 * vars) h) refl
+
+  pub length-right : length bs ≡ props + 4 * vars → stateRefusal paper props vars bs ≡ truthsRefusal props bs (valuesRefusal props vars bs)
+  unfolding stateRefusal valueOffset truthsRefusal valuesRefusal wrongTruth wrongValue
+  length-right h = rw (stateRefusal, eq-eqb (length bs) (props + 4 * vars) h) refl
+
+-- what the searches found
+module _ (props : ℕ) (bs : List ℕ) where
+  pub truths-found : (a : Option Refusal) {p : ℕ} → firstFrom (wrongTruth bs) 0 props ≡ some p → some (record { number = 9; place = p }) ≡ truthsRefusal props bs a
+  unfolding truthsRefusal refusedByte
+  truths-found a e = rw e refl
+
+  pub truths-none : (a : Option Refusal) → firstFrom (wrongTruth bs) 0 props ≡ none → a ≡ truthsRefusal props bs a
+  unfolding truthsRefusal refusedByte
+  truths-none a e = rw e refl
+
+  pub values-found : (vars : ℕ) {v : ℕ} → firstFrom (wrongValue props bs) 0 vars ≡ some v → some (record { number = 9; place = props + 4 * v }) ≡ valuesRefusal props vars bs
+  unfolding valuesRefusal refusedValue valueOffset
+  values-found vars e = rw e refl
+
+  pub values-none : (vars : ℕ) → firstFrom (wrongValue props bs) 0 vars ≡ none → none ≡ valuesRefusal props vars bs
+  unfolding valuesRefusal refusedValue
+  values-none vars e = rw e refl
+
+-- the first refusal decides
+pub truths-refused : (props : ℕ) (bs : List ℕ) (a : Option Refusal) (r : Refusal) → some r ≡ truthsRefusal props bs none → some r ≡ truthsRefusal props bs a
+unfolding truthsRefusal refusedByte
+truths-refused props bs a r e = by (firstFrom (wrongTruth bs) 0 props) e
+  where
+    by : (o : Option ℕ) → some r ≡ refusedByte o none → some r ≡ refusedByte o a
+    by none h = absurd (some-none h)
+    by (some p) h = h
+
+pub truths-accepted : (props : ℕ) (bs : List ℕ) (a : Option Refusal) → none ≡ truthsRefusal props bs none → a ≡ truthsRefusal props bs a
+unfolding truthsRefusal refusedByte
+truths-accepted props bs a e = by (firstFrom (wrongTruth bs) 0 props) e
+  where
+    by : (o : Option ℕ) → none ≡ refusedByte o none → a ≡ refusedByte o a
+    by none h = refl
+    by (some p) h = absurd (some-none (sym h))
+
+-- ---- what an accepted state is
+
+none-all : (f : ℕ → Bool) (n : ℕ) → firstFrom f 0 n ≡ none → (i : ℕ) → i < n → f i ≡ false
+none-all f n =
+    firstFrom-cases f (λ (o : Option ℕ). o ≡ none → (i : ℕ) → i < n → f i ≡ false) 0 n
+    (λ j h k t before e i l. absurd (some-none e))
+    (λ all-fail e i l. fails (f i) (all-fail i (omega arith) (omega arith)))
+
+all-none : (f : ℕ → Bool) (n : ℕ) → ((i : ℕ) → i < n → f i ≡ false) → firstFrom f 0 n ≡ none
+all-none f n h =
+    firstFrom-cases f (λ (o : Option ℕ). o ≡ none) 0 n
+    (λ j k l t before. absurd (false-not (h j (omega arith)) t))
+    (λ all-fail. refl)
+
+-- the length, the truth bytes and the values of an accepted state
+pub record AcceptedState (props vars : ℕ) (bs : List ℕ) : Type 0 where
+  pub length-is : length bs ≡ props + 4 * vars
+  pub truths : (p : ℕ) → p < props → getD bs p 0 ≤ 1
+  pub values : (v : ℕ) → v < vars → natAbs (stateValue props bs v) ≤ 1_000_000
+
+module _ (props vars : ℕ) (bs : List ℕ) where
+  parts : truthsRefusal props bs (valuesRefusal props vars bs) ≡ none → (firstFrom (wrongTruth bs) 0 props ≡ none) × (firstFrom (wrongValue props bs) 0 vars ≡ none)
+  unfolding truthsRefusal valuesRefusal refusedByte refusedValue
+  parts e = by (firstFrom (wrongTruth bs) 0 props) (firstFrom (wrongValue props bs) 0 vars) e
+    where
+      by : (o v : Option ℕ) → refusedByte o (refusedValue props v) ≡ none → (o ≡ none) × (v ≡ none)
+      by none none h = (refl, refl)
+      by none (some v) h = absurd (some-none h)
+      by (some p) v h = absurd (some-none h)
+
+  pub accepted-state : stateRefusal paper props vars bs ≡ none → AcceptedState props vars bs
+  accepted-state e =
+      T-cases (eqb (length bs) (props + 4 * vars))
+      (λ t.
+      let l : length bs ≡ props + 4 * vars = eqb→eq (length bs) (props + 4 * vars) t in
+      let q = parts (sym (length-right props vars bs l) ∙ e) in
+      record {
+        length-is = l;
+        truths = λ p h. truth-small bs p (none-all (wrongTruth bs) props (q .0) p h);
+        values = λ v h. value-small props bs v (none-all (wrongValue props bs) vars (q .1) v h);
+      })
+      (λ no-t.
+      absurd
+      (some-none
+      (sym (length-refused props vars bs (λ l. no-t (true-T (eq-eqb (length bs) (props + 4 * vars) l)))) ∙ e)))
+
+  pub accepted-length : stateRefusal paper props vars bs ≡ none → length bs ≡ props + 4 * vars
+  accepted-length e = accepted-state e .length-is
+
+  pub accepted-truths : stateRefusal paper props vars bs ≡ none → (p : ℕ) → p < props → getD bs p 0 ≤ 1
+  accepted-truths e = accepted-state e .truths
+
+  pub accepted-values : stateRefusal paper props vars bs ≡ none → (v : ℕ) → v < vars → natAbs (stateValue props bs v) ≤ 1_000_000
+  accepted-values e = accepted-state e .values
+
+  -- and nothing else is asked
+  pub state-accepted : AcceptedState props vars bs → stateRefusal paper props vars bs ≡ none
+  state-accepted a =
+      length-right props vars bs (a .length-is)
+      ∙ sym
+      (truths-none props bs (valuesRefusal props vars bs)
+      (all-none (wrongTruth bs) props (λ p h. truth-right bs p (a .truths p h))))
+      ∙ sym
+      (values-none props bs vars (all-none (wrongValue props bs) vars (λ v h. value-right props bs v (a .values v h))))

@@ -1,0 +1,5 @@
+pub mod Overwriting
+pub mod Checking
+pub mod Loading
+pub mod Storing
+pub mod RoundTrip
