@@ -1,0 +1,146 @@
+//! What calls answer, whichever engine runs them.
+
+use std::fmt;
+
+/// Why a call turns back. The discriminant is the number of the refusal.
+#[derive(Clone, Copy, Debug, PartialEq, Eq)]
+#[repr(u8)]
+pub enum Reason {
+    TableTooLong = 1,
+    Cut = 2,
+    Misplaced = 3,
+    OperandRange = 4,
+    NamedAgain = 5,
+    MoveCount = 6,
+    Circle = 7,
+    StateLength = 8,
+    StateRange = 9,
+    NoSuchBlock = 10,
+    ConditionsFail = 11,
+    ResultRange = 12,
+    OutputShort = 13,
+    MemoryShort = 14,
+    ValueRange = 15,
+}
+
+impl Reason {
+    pub const ALL: [Reason; 15] = [
+        Reason::TableTooLong,
+        Reason::Cut,
+        Reason::Misplaced,
+        Reason::OperandRange,
+        Reason::NamedAgain,
+        Reason::MoveCount,
+        Reason::Circle,
+        Reason::StateLength,
+        Reason::StateRange,
+        Reason::NoSuchBlock,
+        Reason::ConditionsFail,
+        Reason::ResultRange,
+        Reason::OutputShort,
+        Reason::MemoryShort,
+        Reason::ValueRange,
+    ];
+
+    pub fn number(self) -> u8 {
+        self as u8
+    }
+
+    pub fn from_number(number: u8) -> Option<Reason> {
+        Self::ALL.into_iter().find(|r| r.number() == number)
+    }
+
+    /// The refusal for this reason at a place.
+    pub fn at(self, place: usize) -> Refusal {
+        Refusal {
+            reason: self,
+            place: place as u64,
+        }
+    }
+}
+
+/// A call turned back: a number and a place.
+#[derive(Clone, Copy, Debug, PartialEq, Eq)]
+pub struct Refusal {
+    pub reason: Reason,
+    pub place: u64,
+}
+
+impl fmt::Display for Refusal {
+    fn fmt(&self, f: &mut fmt::Formatter<'_>) -> fmt::Result {
+        write!(f, "refusal {} place {}", self.reason.number(), self.place)
+    }
+}
+
+impl std::error::Error for Refusal {}
+
+/// What `read` answers: the head's kind byte and its three counts.
+#[derive(Clone, Copy, Debug, PartialEq, Eq)]
+pub struct Head {
+    pub kind: u8,
+    pub p: u8,
+    pub v_or_n: u8,
+    pub a: u8,
+}
+
+/// The answer shared by `decide` and `plan`.
+#[derive(Clone, Copy, Debug, PartialEq, Eq)]
+pub enum Answer {
+    Layer(u64),
+    NoPlan,
+}
+
+impl fmt::Display for Answer {
+    fn fmt(&self, f: &mut fmt::Formatter<'_>) -> fmt::Result {
+        match self {
+            Answer::Layer(m) => write!(f, "plan layer {m}"),
+            Answer::NoPlan => write!(f, "no plan"),
+        }
+    }
+}
+
+/// What `decide` answers, with the number of the last stored layer.
+#[derive(Clone, Copy, Debug, PartialEq, Eq)]
+pub struct Decision {
+    pub answer: Answer,
+    pub layers: u64,
+}
+
+impl fmt::Display for Decision {
+    fn fmt(&self, f: &mut fmt::Formatter<'_>) -> fmt::Result {
+        write!(f, "{} layers {}", self.answer, self.layers)
+    }
+}
+
+/// What `plan` answers; bit b of `first` is set if move b is taken at layer 0.
+#[derive(Clone, Copy, Debug, PartialEq, Eq)]
+pub struct Plan {
+    pub answer: Answer,
+    pub layers: u64,
+    pub records: u64,
+    pub first: u64,
+}
+
+impl fmt::Display for Plan {
+    fn fmt(&self, f: &mut fmt::Formatter<'_>) -> fmt::Result {
+        write!(
+            f,
+            "{} layers {} records {} first {}",
+            self.answer, self.layers, self.records, self.first
+        )
+    }
+}
+
+#[cfg(test)]
+mod tests {
+    use super::*;
+
+    #[test]
+    fn reasons_are_numbered_from_1_to_15() {
+        let numbers: Vec<u8> = Reason::ALL.iter().map(|r| r.number()).collect();
+        assert_eq!(numbers, (1..=15).collect::<Vec<u8>>());
+        assert_eq!(Reason::from_number(14), Some(Reason::MemoryShort));
+        assert_eq!(Reason::from_number(0), None);
+        assert_eq!(Reason::from_number(16), None);
+    }
+}

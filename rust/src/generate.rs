@@ -1,0 +1,17 @@
+//! Inputs from a seed: tasks, damaged tables, bytes at random, and calls.
+
+mod call;
+mod damage;
+mod rng;
+mod task;
+mod tuned;
+
+pub use crate::call::hex;
+pub use call::{call, sized_calls};
+pub use damage::{
+    command_string, deletions, insertions, random_bytes, single_byte_changes, spoil, truncations,
+    wrong_state,
+};
+pub use rng::Rng;
+pub use task::{state_for, task, Task};
+pub use tuned::{at_value_limit, full_length, waves};

@@ -1,0 +1,228 @@
+//! Calls with inputs of all sorts, for comparing engines.
+
+use super::damage::{command_string, random_bytes, spoil, wrong_state};
+use super::rng::Rng;
+use super::task::{state_for, task, Task};
+use super::tuned::{at_value_limit, waves};
+use crate::answer::Plan;
+use crate::call::Call;
+use crate::reference::table::{Kind, Table};
+use crate::reference::{normal_form, parse_table, plan};
+
+/// A call of any kind.
+pub fn call(rng: &mut Rng) -> Call {
+    let kind = *rng.pick(&[Kind::Written, Kind::Normal]);
+    let Task { table, state } = any_task(rng, kind);
+    let state = if rng.chance(1, 8) {
+        wrong_state(rng, &state)
+    } else {
+        state
+    };
+    match (kind, rng.below(8)) {
+        (_, 0) => Call::Read { table },
+        (_, 1) => Call::Block {
+            block: any_index(rng, &table),
+            table,
+        },
+        (Kind::Written, 2 | 3) => Call::Listing { task: table, state },
+        (Kind::Written, 4 | 5) => normalise_call(rng, table),
+        (Kind::Written, _) => Call::Step {
+            mv: any_index(rng, &table),
+            room: around(rng, state.len()),
+            table,
+            state,
+        },
+        (Kind::Normal, _) => planning_call(rng, table, state),
+    }
+}
+
+/// `decide` and `plan` of a task with every size of memory and of output that matters:
+/// one short of each layer and of the records, exactly enough, and more.
+pub fn sized_calls(task: &Task) -> Vec<Call> {
+    let Needs {
+        entries,
+        layer,
+        plan,
+    } = Needs::of(&task.table, &task.state);
+    let layers = plan.map_or(0, |plan| plan.layers as usize);
+    let records = plan.map_or(0, |plan| 10 * plan.records as usize);
+    let exact = entries + layer * (layers + 1);
+    let mut calls = Vec::new();
+    for layers in 1..=layers + 1 {
+        let short = (entries + layer * layers).saturating_sub(1);
+        calls.push(decide_call(task, short));
+        calls.push(plan_call(task, short, records));
+    }
+    for numbers in [exact, exact + 5] {
+        calls.push(decide_call(task, numbers));
+        for room in [records.saturating_sub(1), records, records + 3] {
+            calls.push(plan_call(task, numbers, room));
+        }
+    }
+    calls
+}
+
+fn decide_call(task: &Task, numbers: usize) -> Call {
+    Call::Decide {
+        table: task.table.clone(),
+        state: task.state.clone(),
+        numbers,
+    }
+}
+
+fn plan_call(task: &Task, numbers: usize, room: usize) -> Call {
+    Call::Plan {
+        table: task.table.clone(),
+        state: task.state.clone(),
+        numbers,
+        room,
+    }
+}
+
+/// A table that is mostly accepted and of the given kind, with a state.
+fn any_task(rng: &mut Rng, kind: Kind) -> Task {
+    let task = match rng.below(24) {
+        0 => at_value_limit(rng),
+        1 => {
+            let (half, gates) = (1 + rng.below(4), 1 + rng.below(6));
+            waves(rng, kind, 2 * half, gates)
+        }
+        2 => Task {
+            table: random_bytes(rng, 60),
+            state: Vec::new(),
+        },
+        3..=6 => spoilt_task(rng, kind),
+        _ => task(rng, kind),
+    };
+    if kind == Kind::Normal && rng.chance(1, 2) {
+        return normalised(task);
+    }
+    task
+}
+
+/// The task with the normal form of its table, if that is a written one.
+fn normalised(task: Task) -> Task {
+    match parse_table(&task.table) {
+        Ok(table) if table.kind == Kind::Written => Task {
+            table: normal_form(&table).encode(),
+            state: task.state,
+        },
+        _ => task,
+    }
+}
+
+fn spoilt_task(rng: &mut Rng, kind: Kind) -> Task {
+    match rng.below(3) {
+        0 => command_task(rng),
+        1 => byte_spoilt_task(rng, kind),
+        _ => entry_spoilt_task(rng, kind),
+    }
+}
+
+fn command_task(rng: &mut Rng) -> Task {
+    let table = command_string(rng);
+    let state = match parse_table(&table) {
+        Ok(table) => state_for(rng, &table),
+        Err(_) => random_bytes(rng, 12),
+    };
+    Task { table, state }
+}
+
+fn byte_spoilt_task(rng: &mut Rng, kind: Kind) -> Task {
+    let mut task = task(rng, kind);
+    let at = rng.below(task.table.len());
+    match rng.below(4) {
+        0 => task.table.truncate(at),
+        1 => task.table.insert(at, rng.byte()),
+        2 => task.table[at] = rng.byte(),
+        _ => task.table[at] ^= 1 << rng.below(8),
+    }
+    task
+}
+
+fn entry_spoilt_task(rng: &mut Rng, kind: Kind) -> Task {
+    let mut task = task(rng, kind);
+    let mut table = parse_table(&task.table).expect("a generated table is accepted");
+    spoil(rng, &mut table);
+    task.table = table.encode();
+    task
+}
+
+/// A block or move that mostly exists.
+fn any_index(rng: &mut Rng, table: &[u8]) -> u64 {
+    if rng.chance(1, 16) {
+        return *rng.pick(&[255, 256, 1 << 32, u64::MAX]);
+    }
+    let moves = table.get(3).copied().unwrap_or(0);
+    rng.below(usize::from(moves) + 2) as u64
+}
+
+fn normalise_call(rng: &mut Rng, table: Vec<u8>) -> Call {
+    let length = match parse_table(&table) {
+        Ok(written) if written.kind == Kind::Written => normal_form(&written).encode().len(),
+        _ => table.len(),
+    };
+    Call::Normalise {
+        room: around(rng, length),
+        table,
+    }
+}
+
+fn planning_call(rng: &mut Rng, table: Vec<u8>, state: Vec<u8>) -> Call {
+    let Needs {
+        entries,
+        layer,
+        plan,
+    } = Needs::of(&table, &state);
+    let layers = plan.map_or(4, |plan| plan.layers as usize + 1);
+    let numbers = match rng.below(6) {
+        0 => around(rng, entries + layer),
+        1 => rng.below(entries + layer * layers + 4),
+        _ => around(rng, entries + layer * layers),
+    };
+    let records = plan.map_or(2, |plan| plan.records as usize);
+    if rng.chance(1, 3) {
+        return Call::Decide {
+            table,
+            state,
+            numbers,
+        };
+    }
+    Call::Plan {
+        table,
+        state,
+        numbers,
+        room: around(rng, 10 * records),
+    }
+}
+
+/// A size at or around the one that is needed.
+fn around(rng: &mut Rng, needed: usize) -> usize {
+    match rng.below(8) {
+        0 => needed.saturating_sub(1),
+        1 => rng.below(needed + 1),
+        2..=4 => needed,
+        _ => needed + rng.below(20),
+    }
+}
+
+/// The memory a task needs: the entries, each layer, and its plan if it has an answer.
+struct Needs {
+    entries: usize,
+    layer: usize,
+    plan: Option<Plan>,
+}
+
+impl Needs {
+    fn of(table: &[u8], state: &[u8]) -> Needs {
+        let counts = |table: Table| (table.propositions + table.moves.len(), table.variables);
+        let (entries, layer) = parse_table(table).map_or((3, 2), counts);
+        let mut memory = vec![0; entries + layer * 4_000];
+        let mut out = vec![0; 10 * 64 * 4_000];
+        Needs {
+            entries,
+            layer,
+            plan: plan(table, state, &mut memory, &mut out).ok(),
+        }
+    }
+}

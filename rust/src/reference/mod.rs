@@ -1,0 +1,132 @@
+//! The specification in plain Rust, one function a call.
+//!
+//! A table is parsed into data first, and every call works on that data alone.
+//! An output is written last, so a refusal leaves it as it was.
+
+#![forbid(unsafe_code)]
+
+mod circle;
+mod layers;
+mod listing;
+mod normal;
+mod parse;
+mod plan;
+pub mod semantics;
+mod state;
+mod step;
+pub mod table;
+
+pub use listing::{listing, record_line, MEMORY_ROOM, NORMAL_ROOM, PLAN_ROOM};
+pub use normal::{normal_conditions, normal_form};
+pub use plan::Record;
+pub use state::State;
+
+use crate::answer::{Decision, Head, Plan, Reason, Refusal};
+use layers::{End, Layers};
+use parse::{parse, Wanted};
+use table::{Kind, Table};
+
+/// Checks a table of either kind and answers its head.
+pub fn read(table: &[u8]) -> Result<Head, Refusal> {
+    parse(table, Wanted::Either)?;
+    Ok(Head {
+        kind: table[0],
+        p: table[1],
+        v_or_n: table[2],
+        a: table[3],
+    })
+}
+
+/// The bytes of block b of a table of either kind.
+pub fn block(table: &[u8], b: u64) -> Result<&[u8], Refusal> {
+    let parsed = parse(table, Wanted::Either)?;
+    let range = usize::try_from(b)
+        .ok()
+        .and_then(|b| parsed.ranges.get(b))
+        .ok_or(Reason::NoSuchBlock.at(0))?;
+    Ok(&table[range.clone()])
+}
+
+/// Writes the normal form of a written table and answers its length.
+pub fn normalise(table: &[u8], out: &mut [u8]) -> Result<usize, Refusal> {
+    let written = parse(table, Wanted::Only(Kind::Written))?.table;
+    deliver(&normal_form(&written).encode(), out)
+}
+
+/// Writes the state after one real move of a written table and answers its length.
+pub fn step(table: &[u8], state: &[u8], mv: u64, out: &mut [u8]) -> Result<usize, Refusal> {
+    let written = parse(table, Wanted::Only(Kind::Written))?.table;
+    let before = State::parse(&written, state)?;
+    let block = usize::try_from(mv)
+        .ok()
+        .and_then(|mv| written.moves.get(mv))
+        .ok_or(Reason::NoSuchBlock.at(0))?;
+    if !step::holds(block, &before) {
+        return Err(Reason::ConditionsFail.at(0));
+    }
+    let after = step::result(block, &before).ok_or(Reason::ResultRange.at(0))?;
+    deliver(&after.encode(), out)
+}
+
+/// Decides the relaxed task of a normal table.
+pub fn decide(table: &[u8], state: &[u8], layers: &mut [i64]) -> Result<Decision, Refusal> {
+    let (_, built) = build_layers(table, state, layers)?;
+    built.decision()
+}
+
+/// Decides the relaxed task of a normal table and writes the records of its plan.
+pub fn plan(
+    table: &[u8],
+    state: &[u8],
+    layers: &mut [i64],
+    out: &mut [u8],
+) -> Result<Plan, Refusal> {
+    let (normal, built) = build_layers(table, state, layers)?;
+    let decision = built.decision()?;
+    let (records, first) = match built.end {
+        End::Goal => plan::extract(&normal, &built.stored),
+        End::Equal | End::Refused(_) => (Vec::new(), 0),
+    };
+    let bytes: Vec<u8> = records.iter().flat_map(|r| r.encode()).collect();
+    deliver(&bytes, out)?;
+    Ok(Plan {
+        answer: decision.answer,
+        layers: decision.layers,
+        records: records.len() as u64,
+        first,
+    })
+}
+
+/// Builds the layers and writes them into the layer memory.
+fn build_layers(
+    table: &[u8],
+    state: &[u8],
+    memory: &mut [i64],
+) -> Result<(Table, Layers), Refusal> {
+    let normal = parse(table, Wanted::Only(Kind::Normal))?.table;
+    let state = State::parse(&normal, state)?;
+    let built = Layers::build(&normal, &state, memory.len())?;
+    built.write(memory);
+    Ok((normal, built))
+}
+
+/// Parses an accepted table and its state, of either kind.
+pub fn parse_task(table: &[u8], state: &[u8]) -> Result<(Table, State), Refusal> {
+    let table = parse(table, Wanted::Either)?.table;
+    let state = State::parse(&table, state)?;
+    Ok((table, state))
+}
+
+/// Parses an accepted table of either kind.
+pub fn parse_table(table: &[u8]) -> Result<Table, Refusal> {
+    parse(table, Wanted::Either).map(|parsed| parsed.table)
+}
+
+/// Writes a result from the start of an output and answers its length.
+fn deliver(result: &[u8], out: &mut [u8]) -> Result<usize, Refusal> {
+    let start = out
+        .get_mut(..result.len())
+        .ok_or(Reason::OutputShort.at(0))?;
+    start.copy_from_slice(result);
+    Ok(result.len())
+}
