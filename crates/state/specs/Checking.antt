@@ -1,6 +1,6 @@
 -- The answer of a state's check as an optional refusal; the search of the first wrong place; what an accepted state is.
 -- Assumes nothing.
-use Prim.Native.Nat.{ℕ, zero, suc, _+_, _-_, _*_, _≤_, _<_}
+use Prim.Native.Nat.{ℕ, suc, _+_, _-_, _*_, _≤_, _<_}
 use native.Mathlib.Numerals.{add-one}
 use native.Mathlib.Omega.{arith}
 use mathlib.Core.Path.{_≡_, refl, sym, ap, _∙_}
@@ -8,7 +8,7 @@ use mathlib.Core.Bool.{Bool, true, false, not}
 use mathlib.Core.List.{List}
 use mathlib.Core.Option.{Option, none, some}
 use borrow.Author.Tests.{leb-true, not-false, le-leb, lt-leb, eq-eqb, ne-eqb}
-use lib.Dec.{T, eqb, leb, eqb→eq}
+use lib.Dec.{eqb, leb, eqb→eq}
 use lib.IntN.{ℤ, pos, negsuc, natAbs}
 use lib.ListN.{length, getD}
 use lib.Signed.{leZ, _≤ℤ_, _<ℤ_}
@@ -16,7 +16,7 @@ use Rattle.integer.specs.Linear.{le-in, lt-in}
 use Rattle.state.specs.declared.StateCheck.{StateCheck}
 use Rattle.state.specs.declared.StateCheck.the-variants.{Accepted, Refused}
 use Rattle.model.specs.declared.Refusal.{Refusal}
-use Rattle.model.specs.Limits.{Limits, paper}
+use Rattle.model.specs.Limits.{paper}
 use Rattle.model.specs.Lists.{firstFrom}
 use Rattle.model.specs.StateTable.{valueOffset, stateValue, valueInRange, refusedValue, refusedByte, stateRefusal}
 use Rattle.model.specs.Theorems.Booleans.{true-T, T-cases, false-not, not-false as fails}
@@ -123,17 +123,24 @@ unfoldable pub valuesRefusal : ℕ → ℕ → List ℕ → Option Refusal
 valuesRefusal props vars bs = refusedValue props (firstFrom (wrongValue props bs) 0 vars)
 
 module _ (props vars : ℕ) (bs : List ℕ) where
-  pub length-refused : (length bs ≡ props + 4 * vars → ⊥) → stateRefusal paper props vars bs ≡ some (record { number = 8; place = 0 })
+  pub length-refused :
+      (length bs ≡ props + 4 * vars → ⊥)
+      → stateRefusal paper props vars bs ≡ some (record { number = 8; place = 0 })
   unfolding stateRefusal valueOffset
   length-refused h = rw (stateRefusal, ne-eqb (length bs) (props + 4 * vars) h) refl
 
-  pub length-right : length bs ≡ props + 4 * vars → stateRefusal paper props vars bs ≡ truthsRefusal props bs (valuesRefusal props vars bs)
+  pub length-right :
+      length bs ≡ props + 4 * vars
+      → stateRefusal paper props vars bs ≡ truthsRefusal props bs (valuesRefusal props vars bs)
   unfolding stateRefusal valueOffset truthsRefusal valuesRefusal wrongTruth wrongValue
   length-right h = rw (stateRefusal, eq-eqb (length bs) (props + 4 * vars) h) refl
 
 -- what the searches found
 module _ (props : ℕ) (bs : List ℕ) where
-  pub truths-found : (a : Option Refusal) {p : ℕ} → firstFrom (wrongTruth bs) 0 props ≡ some p → some (record { number = 9; place = p }) ≡ truthsRefusal props bs a
+  pub truths-found :
+      (a : Option Refusal) {p : ℕ}
+      → firstFrom (wrongTruth bs) 0 props ≡ some p
+      → some (record { number = 9; place = p }) ≡ truthsRefusal props bs a
   unfolding truthsRefusal refusedByte
   truths-found a e = rw e refl
 
@@ -141,7 +148,10 @@ module _ (props : ℕ) (bs : List ℕ) where
   unfolding truthsRefusal refusedByte
   truths-none a e = rw e refl
 
-  pub values-found : (vars : ℕ) {v : ℕ} → firstFrom (wrongValue props bs) 0 vars ≡ some v → some (record { number = 9; place = props + 4 * v }) ≡ valuesRefusal props vars bs
+  pub values-found :
+      (vars : ℕ) {v : ℕ}
+      → firstFrom (wrongValue props bs) 0 vars ≡ some v
+      → some (record { number = 9; place = props + 4 * v }) ≡ valuesRefusal props vars bs
   unfolding valuesRefusal refusedValue valueOffset
   values-found vars e = rw e refl
 
@@ -150,7 +160,10 @@ module _ (props : ℕ) (bs : List ℕ) where
   values-none vars e = rw e refl
 
 -- the first refusal decides
-pub truths-refused : (props : ℕ) (bs : List ℕ) (a : Option Refusal) (r : Refusal) → some r ≡ truthsRefusal props bs none → some r ≡ truthsRefusal props bs a
+pub truths-refused :
+    (props : ℕ) (bs : List ℕ) (a : Option Refusal) (r : Refusal)
+    → some r ≡ truthsRefusal props bs none
+    → some r ≡ truthsRefusal props bs a
 unfolding truthsRefusal refusedByte
 truths-refused props bs a r e = by (firstFrom (wrongTruth bs) 0 props) e
   where
@@ -158,7 +171,10 @@ truths-refused props bs a r e = by (firstFrom (wrongTruth bs) 0 props) e
     by none h = absurd (some-none h)
     by (some p) h = h
 
-pub truths-accepted : (props : ℕ) (bs : List ℕ) (a : Option Refusal) → none ≡ truthsRefusal props bs none → a ≡ truthsRefusal props bs a
+pub truths-accepted :
+    (props : ℕ) (bs : List ℕ) (a : Option Refusal)
+    → none ≡ truthsRefusal props bs none
+    → a ≡ truthsRefusal props bs a
 unfolding truthsRefusal refusedByte
 truths-accepted props bs a e = by (firstFrom (wrongTruth bs) 0 props) e
   where
@@ -187,7 +203,9 @@ pub record AcceptedState (props vars : ℕ) (bs : List ℕ) : Type 0 where
   pub values : (v : ℕ) → v < vars → natAbs (stateValue props bs v) ≤ 1_000_000
 
 module _ (props vars : ℕ) (bs : List ℕ) where
-  parts : truthsRefusal props bs (valuesRefusal props vars bs) ≡ none → (firstFrom (wrongTruth bs) 0 props ≡ none) × (firstFrom (wrongValue props bs) 0 vars ≡ none)
+  parts :
+      truthsRefusal props bs (valuesRefusal props vars bs) ≡ none
+      → (firstFrom (wrongTruth bs) 0 props ≡ none) × (firstFrom (wrongValue props bs) 0 vars ≡ none)
   unfolding truthsRefusal valuesRefusal refusedByte refusedValue
   parts e = by (firstFrom (wrongTruth bs) 0 props) (firstFrom (wrongValue props bs) 0 vars) e
     where
@@ -218,7 +236,11 @@ module _ (props vars : ℕ) (bs : List ℕ) where
   pub accepted-truths : stateRefusal paper props vars bs ≡ none → (p : ℕ) → p < props → getD bs p 0 ≤ 1
   accepted-truths e = accepted-state e .truths
 
-  pub accepted-values : stateRefusal paper props vars bs ≡ none → (v : ℕ) → v < vars → natAbs (stateValue props bs v) ≤ 1_000_000
+  pub accepted-values :
+      stateRefusal paper props vars bs ≡ none
+      → (v : ℕ)
+      → v < vars
+      → natAbs (stateValue props bs v) ≤ 1_000_000
   accepted-values e = accepted-state e .values
 
   -- and nothing else is asked

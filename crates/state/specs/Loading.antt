@@ -1,13 +1,13 @@
 -- The truths and values of a state loaded into arrays, and the signed variables of its normal form.
 -- Assumes nothing.
-use Prim.Native.Nat.{ℕ, suc, _+_, _*_, _/_, _%_, _≤_, _<_}
+use Prim.Native.Nat.{ℕ, _+_, _*_, _/_, _%_, _≤_, _<_}
 use native.Mathlib.Omega.{arith}
 use mathlib.Core.Path.{_≡_, refl, sym, ap, _∙_}
 use mathlib.Core.List.{List}
 use mathlib.Core.Option.{none}
 use lib.Dec.{eqb}
 use lib.IntN.{ℤ, negℤ, natAbs}
-use lib.ListN.{length, set, take, drop, length-set}
+use lib.ListN.{length, set, take, drop}
 use Rattle.integer.specs.BigEndian.{signed}
 use Rattle.integer.specs.Linear.{abs-neg}
 use Rattle.model.specs.Limits.{paper}
@@ -42,7 +42,11 @@ module _ (s : State) (v : ℕ) where
       rw (m, d) refl
 
 -- the signed variables of an accepted state are as small as its values
-half-small : (s : State) (vars j : ℕ) → ((v : ℕ) → v < vars → natAbs (s .val v) ≤ 1_000_000) → j / 2 < vars → natAbs (normalState s .val j) ≤ 1_000_000
+half-small :
+    (s : State) (vars j : ℕ)
+    → ((v : ℕ) → v < vars → natAbs (s .val v) ≤ 1_000_000)
+    → j / 2 < vars
+    → natAbs (normalState s .val j) ≤ 1_000_000
 unfolding normalState
 half-small s vars j h k =
     cond-cases (λ (z : ℤ). natAbs z ≤ 1_000_000) (eqb (j % 2) 0) (s .val (j / 2)) (negℤ (s .val (j / 2)))

@@ -6,7 +6,7 @@ use native.Mathlib.Numerals.{add-one}
 use native.Mathlib.Omega.{arith}
 use mathlib.Core.Path.{_≡_, refl, sym, ap, _∙_}
 use mathlib.Core.List.{List, [], _∷_, _++_, append-assoc}
-use lib.ListN.{length, getD, set, take, drop, length-append, length-drop, List·getD-append}
+use lib.ListN.{length, getD, set, drop, length-append, length-drop, List·getD-append}
 use lib.Seq.{drop-cons, getD-drop, getD-append-add, set-at}
 use Rattle.integer.specs.Store.{put, put-append}
 use Rattle.model.specs.Lists.{tabulate}
@@ -47,7 +47,10 @@ module _ {A : Type 0} (new old : List A) (d : A) where
       rw e
       (getD-append-add new (drop (length new) old) (i - length new) d ∙ getD-drop (length new) old (i - length new) d)
 
-pub length-overwrite : {A : Type 0} (new old : List A) → length new ≤ length old → length (overwrite new old) ≡ length old
+pub length-overwrite :
+    {A : Type 0} (new old : List A)
+    → length new ≤ length old
+    → length (overwrite new old) ≡ length old
 unfolding overwrite
 length-overwrite new old h = rw (length-append new (drop (length new) old), length-drop (length new) old) (omega arith)
 

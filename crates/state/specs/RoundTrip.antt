@@ -1,6 +1,6 @@
 -- What is read from the bytes of a state: the state's truths and values. The bytes of a state in range are accepted.
 -- Assumes nothing.
-use Prim.Native.Nat.{ℕ, zero, suc, _+_, _*_, _^_, _≤_, _<_}
+use Prim.Native.Nat.{ℕ, zero, suc, _+_, _*_, _≤_, _<_}
 use native.Mathlib.Nat.{not-suc-le-zero}
 use native.Mathlib.Omega.{arith}
 use mathlib.Core.Path.{_≡_, refl, sym, ap, _∙_}
@@ -8,10 +8,9 @@ use mathlib.Core.Bool.{Bool, true, false}
 use mathlib.Core.List.{List, [], _∷_, _++_}
 use mathlib.Core.Option.{none}
 use lib.Dec.{eqb}
-use lib.IntN.{ℤ, pos, negℤ, natAbs}
+use lib.IntN.{ℤ, pos, natAbs}
 use lib.ListN.{length, getD, take, drop, List·getD-append}
 use lib.Seq.{take-at, drop-at, drop-drop}
-use lib.Signed.{_≤ℤ_, _<ℤ_}
 use Rattle.integer.specs.BigEndian.{half, signed, signedBytes, length-signedBytes, signed-signedBytes}
 use Rattle.integer.specs.Linear.{zlin, natAbs-split, neg-up, neg-dn}
 use Rattle.model.specs.Limits.{paper}
@@ -19,7 +18,7 @@ use Rattle.model.specs.Lists.{tabulate}
 use Rattle.model.specs.Move.{State}
 use Rattle.model.specs.StateTable.{valueOffset, stateValue, stateOf, stateRefusal, truthByte, valuesBytes, stateBytes}
 use Rattle.model.specs.Theorems.Searching.{length-tabulate, getD-tabulate}
-use Rattle.state.specs.Checking.{AcceptedState, state-accepted}
+use Rattle.state.specs.Checking.{state-accepted}
 use Rattle.state.specs.Storing.{length-stateBytes}
 
 -- ---- one truth, one value
@@ -43,7 +42,10 @@ value-back z h =
 
 -- ---- where they stand
 
-valuesBytes-at : (zs : List ℤ) (v : ℕ) → v < length zs → take 4 (drop (4 * v) (valuesBytes zs)) ≡ signedBytes 4 (getD zs v (pos 0))
+valuesBytes-at :
+    (zs : List ℤ) (v : ℕ)
+    → v < length zs
+    → take 4 (drop (4 * v) (valuesBytes zs)) ≡ signedBytes 4 (getD zs v (pos 0))
 unfolding valuesBytes
 valuesBytes-at [] v h = absurd (not-suc-le-zero h)
 valuesBytes-at (z ∷ zs) zero h = take-at (signedBytes 4 z) (valuesBytes zs) 4 (length-signedBytes 4 z)
@@ -81,11 +83,17 @@ module _ (props vars : ℕ) (s : State) where
   unfolding stateOf
   truths-back p h = ap (λ (n : ℕ). eqb n 1) (byte-at p h) ∙ truth-back (s .has p)
 
-  pub values-back : (v : ℕ) → v < vars → natAbs (s .val v) ≤ 1_000_000 → stateOf props (stateBytes props vars s) .val v ≡ s .val v
+  pub values-back :
+      (v : ℕ)
+      → v < vars
+      → natAbs (s .val v) ≤ 1_000_000
+      → stateOf props (stateBytes props vars s) .val v ≡ s .val v
   unfolding stateOf
   values-back v h k = value-at v h ∙ value-back (s .val v) k
 
-  pub bytes-accepted : ((v : ℕ) → v < vars → natAbs (s .val v) ≤ 1_000_000) → stateRefusal paper props vars (stateBytes props vars s) ≡ none
+  pub bytes-accepted :
+      ((v : ℕ) → v < vars → natAbs (s .val v) ≤ 1_000_000)
+      → stateRefusal paper props vars (stateBytes props vars s) ≡ none
   bytes-accepted small =
       state-accepted props vars (stateBytes props vars s)
       (record {

@@ -1,6 +1,6 @@
 -- The bytes of a state, stored: first the truth bytes, then the values.
 -- Assumes nothing.
-use Prim.Native.Nat.{ℕ, zero, suc, _+_, _*_, _≤_, _<_}
+use Prim.Native.Nat.{ℕ, _+_, _*_, _≤_, _<_}
 use native.Mathlib.Numerals.{add-one}
 use native.Mathlib.Omega.{arith}
 use mathlib.Core.Path.{_≡_, refl, sym, ap, ap₂, _∙_}
@@ -15,7 +15,7 @@ use Rattle.model.specs.Memory.{overwrite}
 use Rattle.model.specs.Move.{State}
 use Rattle.model.specs.StateTable.{truthByte, valuesBytes, stateBytes}
 use Rattle.model.specs.Theorems.Searching.{length-tabulate}
-use Rattle.state.specs.Overwriting.{tabulate-last, tabulate-same, overwrite-put, length-overwrite}
+use Rattle.state.specs.Overwriting.{tabulate-last, tabulate-same, overwrite-put}
 
 -- the state whose truths and values stand in two arrays
 unfoldable pub stateIn : List Bool → List ℤ → State
@@ -128,7 +128,11 @@ module _ (f : ℕ → ℤ) (props n : ℕ) (old : List ℕ) where
               ∙ ap (λ (zs : List ℤ). put old props (valuesBytes zs)) (sym t);
         }
 
-  pub values-end : {new : List ℕ} {i : ℕ} → ValuesStored f props n old new i → n ≤ i → new ≡ put old props (valuesBytes (tabulate f 0 n))
+  pub values-end :
+      {new : List ℕ} {i : ℕ}
+      → ValuesStored f props n old new i
+      → n ≤ i
+      → new ≡ put old props (valuesBytes (tabulate f 0 n))
   values-end {i} w h =
       let e : i ≡ n = omega (arith, w .within) in
       w .is ∙ ap (λ (k : ℕ). put old props (valuesBytes (tabulate f 0 k))) e

@@ -1,7 +1,6 @@
 -- `check` meets its contract: the length, then the truth bytes, then the values. Assumes nothing.
 use native.Mathlib.Omega.{arith}
-use mathlib.Core.Path.{_≡_, sym, ap, _∙_}
-use mathlib.Core.Option.{none}
+use mathlib.Core.Path.{sym, ap, _∙_}
 use borrow.Author.Needs.{needs}
 use Rattle.state.specs.Checking.{checkOf, valuesRefusal, length-refused, length-right, truths-refused, truths-accepted}
 use Rattle.state.proofs.check.Statement.{statement}

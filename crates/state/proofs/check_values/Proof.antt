@@ -3,10 +3,10 @@
 use Prim.Native.Nat.{_-_}
 use native.Mathlib.Omega.{arith}
 use mathlib.Core.Path.{_≡_, _∙_, ap}
-use mathlib.Core.Bool.{Bool, not}
+use mathlib.Core.Bool.{not}
 use Rattle.integer.specs.Linear.{back}
 use Rattle.model.specs.Limits.{paper}
-use Rattle.model.specs.StateTable.{stateValue, valueInRange}
+use Rattle.model.specs.StateTable.{valueInRange}
 use Rattle.state.specs.Checking.{checkOf, Searched, searched-start, searched-next, searched-found, searched-all, wrongValue, value-flag, values-found, values-none}
 use Rattle.state.specs.Loading.{value-read}
 use Rattle.state.proofs.check_values.Statement.{statement}
@@ -34,7 +34,10 @@ in-range-requires : tie.Need-in-range-requires Inv-loop μ-loop
 in-range-requires c κs = tt
 
 -- the flag tells whether the value is in range
-flag : (c : tie.After-in-range Inv-loop μ-loop) → let l = c .before .before .before .loop in let a = c .before .before .before .before .before .args in wrongValue (a .props) (a .state .now) (l .v) ≡ not (c .in-range .result)
+flag :
+    (c : tie.After-in-range Inv-loop μ-loop)
+    → let l = c .before .before .before .loop in
+    let a = c .before .before .before .before .before .args in wrongValue (a .props) (a .state .now) (l .v) ≡ not (c .in-range .result)
 flag c =
     let l = c .before .before .before .loop in
     let a = c .before .before .before .before .before .args in

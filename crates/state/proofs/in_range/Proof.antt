@@ -1,5 +1,5 @@
 -- `in_range` meets its contract: the size by two tests. Assumes nothing.
-use mathlib.Core.Path.{refl, sym}
+use mathlib.Core.Path.{sym}
 use lib.IntN.{negsuc}
 use Rattle.integer.specs.Linear.{back, lt-true, lt-false}
 use Rattle.state.specs.Checking.{range-low, range-high}

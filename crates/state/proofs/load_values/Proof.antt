@@ -2,7 +2,7 @@
 -- Assumes nothing.
 use Prim.Native.Nat.{_-_}
 use native.Mathlib.Omega.{arith}
-use mathlib.Core.Path.{_≡_, _∙_}
+use mathlib.Core.Path.{_∙_}
 use Rattle.integer.specs.Linear.{back}
 use Rattle.model.specs.StateTable.{stateValue}
 use Rattle.state.specs.Loading.{Written, written-start, written-length, written-step, written-end, value-read}

@@ -2,12 +2,9 @@
 -- Assumes nothing.
 use Prim.Native.Nat.{ℕ, _+_, _*_, _-_, _≤_}
 use native.Mathlib.Omega.{arith}
-use mathlib.Core.Path.{_≡_, refl, ap, _∙_}
-use lib.IntN.{ℤ, pos}
+use lib.IntN.{pos}
 use lib.ListN.{length, getD}
-use Rattle.integer.specs.BigEndian.{signedBytes}
 use Rattle.integer.specs.Linear.{back}
-use Rattle.integer.specs.Store.{put}
 use Rattle.state.specs.Storing.{stateIn, ValuesStored, values-start, values-length, values-step, values-end}
 use Rattle.state.proofs.store_values.Statement.{statement}
 use Rattle.state.proofs.store_values.Tie as tie
