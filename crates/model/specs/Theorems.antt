@@ -1,5 +1,5 @@
 -- Theorems about the definitions, in reading order: what an accepted table gives; the trial campaigns; laws of tests and
--- searches; order and relaxation; circles and the bound on layers; the normal form; plans; reading and printing; layer memory;
+-- searches; order and relaxation; circles and the bound on layers; the normal form; plans; reading and printing; layer memory; sizes;
 -- demand 3.
 pub mod WellFormed
 pub mod Campaigns
@@ -57,6 +57,13 @@ pub mod Decimals
 pub mod Building
 pub mod Entries
 pub mod Memories
+pub mod Sizes
+pub mod StateSizes
+pub mod LayerSizes
+pub mod TargetSizes
+pub mod CountSizes
+pub mod DescentSizes
+pub mod PlanSizes
 pub mod Demand3
 pub mod EndToEnd
 pub mod Instance

@@ -1,0 +1,172 @@
+-- Sizes on the way one layer down: where the targets of layer t are at most b, those made for layer t−1 are at most
+-- b + 8,001,000,000 and the counts at most b + 1,000,000, after each step of the way (document 01, "Plan"). Assumes nothing.
+use Prim.Native.Nat.{ℕ, _+_, _≤_, _<_, max}
+use native.Mathlib.Omega.{arith}
+use mathlib.Core.Bool.{true, false, _&&_}
+use mathlib.Core.Option.{some}
+use lib.Dec.{T, eqb}
+use lib.IntN.{ℤ}
+use lib.ListN.{length}
+use Rattle.model.specs.Limits.{paper}
+use Rattle.model.specs.Lists.{foldBelow}
+use Rattle.model.specs.Task.{normal, Effect, Task, adds, effectOn}
+use Rattle.model.specs.Move.{State, moveAt}
+use Rattle.model.specs.Layer.{Layer, reaches, usable, layerValue}
+use Rattle.model.specs.Plan.{Target, free, least, Wants, Descent, counted, adder, takeAdder, achieves, achiever, takeEffect, takeAchiever, carryProp, carryValue, descendProp, descendValue, descend}
+use Rattle.model.specs.Theorems.WellFormed.{EffectOk, ItemOk, TaskOk}
+use Rattle.model.specs.Theorems.Booleans.{and-right, cond-cases}
+use Rattle.model.specs.Theorems.Searching.{firstFrom-cases, foldBelow-induction}
+use Rattle.model.specs.Theorems.Layers.{effectOn-cases, move-ok}
+use Rattle.model.specs.Theorems.Targets.{EachTarget}
+use Rattle.model.specs.Theorems.Taking.{nothing}
+use Rattle.model.specs.Theorems.Descending.{elim-cases}
+use Rattle.model.specs.Theorems.Sizes.{Between, between-wider, sum-few}
+use Rattle.model.specs.Theorems.StateSizes.{SmallState}
+use Rattle.model.specs.Theorems.LayerSizes.{SmallLayer}
+use Rattle.model.specs.Theorems.TargetSizes.{SmallWants, noWants-small, wantProp-small, wantValue-small, wantSum-small, wantBlock-small}
+use Rattle.model.specs.Theorems.CountSizes.{unreached-between, wanted-between, runs-most}
+
+-- the wants and counts of one layer while they are made; b bounds the targets of the layer above
+pub record SmallDescent (b : ℕ) (d : Descent) : Type 0 where
+  pub wants : SmallWants (b + 8_001_000_000) (d .wants)
+  pub count : (c : ℕ) → d .count c ≤ b + 1_000_000
+
+counted-most : {f : ℕ → ℕ} {n most : ℕ} (b : ℕ) → ((c : ℕ) → f c ≤ most) → n ≤ most → (c : ℕ) → counted f b n c ≤ most
+unfolding counted
+counted-most {f} {n} {most} b h k c =
+    cond-cases (λ m. m ≤ most) (eqb c b) (max (f c) n) (f c) (λ e. omega (arith, h c)) (λ e. h c)
+
+module _ {b : ℕ} where
+  -- at the start
+  pub nothing-small : SmallDescent b nothing
+  nothing-small = record { wants = noWants-small; count = λ c. omega arith }
+
+  -- "what layer t−1 already has is carried down"
+  pub carryProp-small : {d : Descent} (p : ℕ) → SmallDescent b d → SmallDescent b (carryProp d p)
+  unfolding carryProp
+  carryProp-small p h = record { wants = wantProp-small p (h .wants); count = h .count }
+
+  pub carryValue-small :
+      {d : Descent} {z : ℤ} (v : ℕ)
+      → Between 9_000_000_000_000_000 b z
+      → SmallDescent b d
+      → SmallDescent b (carryValue d v z)
+  unfolding carryValue
+  carryValue-small v i h =
+      record { wants = wantValue-small v (between-wider (omega arith) (omega arith) i) (h .wants); count = h .count }
+
+module _
+    {k : Task} {l : Layer} {s : State} {b : ℕ} (ok : TaskOk paper normal k)
+    (small : SmallLayer (k .vars) l) (start : SmallState (k .vars) s) (large : 1_000_000_000_000 ≤ b) where
+  -- "take the first that adds the proposition"
+  pub takeAdder-small :
+      {d : Descent} (m : ℕ)
+      → m < length (k .moves)
+      → SmallDescent b d
+      → SmallDescent b (takeAdder k l s d (some m))
+  unfolding takeAdder moveAt
+  takeAdder-small {d} m lt h =
+      record {
+        wants = wantBlock-small small start (omega arith) (move-ok ok m lt) (h .wants);
+        count = counted-most m (h .count) (omega arith);
+      }
+
+  -- "or whose effect on v has value ≥ target T (:=) or > 0 (+=)"
+  pub takeEffect-small :
+      {d : Descent} {e : Effect} {z : ℤ} (v m : ℕ)
+      → v < k .vars
+      → m < length (k .moves)
+      → EffectOk paper normal (k .vars) e
+      → Between 1_000_000 b z
+      → T (achieves l z (some e))
+      → SmallDescent b d
+      → SmallDescent b (takeEffect k l s d v z m (some e))
+  unfolding takeEffect moveAt achieves
+  takeEffect-small {d} {e} {z} v m v-lt m-lt e-ok near t h =
+      record {
+        wants =
+            wantSum-small small start (omega arith) (sum-few (e-ok .sum)) (wanted-between large near e-ok) (omega arith)
+            (wantBlock-small small start (omega arith) (move-ok ok m m-lt) (h .wants));
+        count = counted-most m (h .count) (runs-most large near start v-lt (e .kind) (layerValue l e) t);
+      }
+
+  -- the move that is found for a target
+  pub takeAchiever-small :
+      {d : Descent} {z : ℤ} (v m : ℕ)
+      → v < k .vars
+      → m < length (k .moves)
+      → Between 1_000_000 b z
+      → T (achieves l z (effectOn v (moveAt k m)))
+      → SmallDescent b d
+      → SmallDescent b (takeAchiever k l s d v z (some m))
+  unfolding takeAchiever takeEffect achieves moveAt
+  takeAchiever-small {d} {z} v m v-lt m-lt near t h =
+      effectOn-cases (λ o. T (achieves l z o) → SmallDescent b (takeEffect k l s d v z m o))
+      (ItemOk paper normal (k .props) (k .vars)) v (moveAt k m) (move-ok ok m m-lt .items)
+      (λ none. absurd none)
+      (λ e at-v e-ok achieved. takeEffect-small v m v-lt m-lt e-ok near achieved h)
+      t
+
+  -- one proposition that is wanted in the layer above, or not
+  pub descendProp-small : (w : Wants) {d : Descent} (p : ℕ) → SmallDescent b d → SmallDescent b (descendProp k l s w p d)
+  unfolding descendProp takeAdder adder
+  descendProp-small w {d} p h =
+      elim-cases (SmallDescent b) (w .props p)
+      (elim (l .has p) [ true ↦ carryProp d p | false ↦ takeAdder k l s d (adder k l p) ]) d
+      (λ wanted. elim-cases (SmallDescent b) (l .has p) (carryProp d p) (takeAdder k l s d (adder k l p))
+      (λ has. carryProp-small p h)
+      (λ lacks. firstFrom-cases (λ m. usable l (moveAt k m) && adds p (moveAt k m))
+      (λ o. SmallDescent b (takeAdder k l s d o)) 0 (length (k .moves))
+      (λ m low high passes before. takeAdder-small m (omega arith) h)
+      (λ nobody. h)))
+      (λ unwanted. h)
+
+  -- one target of the layer above
+  pub descendValue-small :
+      {w : Wants} {d : Descent} (v : ℕ)
+      → v < k .vars
+      → SmallWants b w
+      → SmallDescent b d
+      → SmallDescent b (descendValue k l s w v d)
+  unfolding descendValue takeAchiever achiever
+  descendValue-small {w} {d} v lt wanted h = go (w .target v) (wanted .each .targets v)
+    where
+      go :
+          (t : Target)
+          → EachTarget (Between 9_000_000_000_000_000 b) t
+          → SmallDescent b (elim t [
+            | free ↦ d
+            | least z ↦
+                elim (reaches (l .val v) z) [ true ↦ carryValue d v z | false ↦ takeAchiever k l s d v z (achiever k l v z) ]
+          ])
+      go free i = h
+      go (least z) i =
+          elim-cases (SmallDescent b) (reaches (l .val v) z) (carryValue d v z) (takeAchiever k l s d v z (achiever k l v z))
+          (λ reached. carryValue-small v i h)
+          (λ low. firstFrom-cases (λ m. usable l (moveAt k m) && achieves l z (effectOn v (moveAt k m)))
+          (λ o. SmallDescent b (takeAchiever k l s d v z o)) 0 (length (k .moves))
+          (λ m from to passes before.
+          takeAchiever-small v m lt (omega arith) (unreached-between (l .val v) (small .values v lt) low (i .to))
+          (and-right (usable l (moveAt k m)) (achieves l z (effectOn v (moveAt k m))) passes) h)
+          (λ nobody. h))
+
+  -- after the propositions below n, and after the variables below n
+  pub descendProps-small : (w : Wants) (n : ℕ) → SmallDescent b (foldBelow (descendProp k l s w) n nothing)
+  descendProps-small w n =
+      foldBelow-induction (descendProp k l s w) (λ i d. SmallDescent b d) n nothing nothing-small
+      (λ i d lt h. descendProp-small w i h)
+
+  pub descendValues-small :
+      {w : Wants} {d : Descent} (n : ℕ)
+      → n ≤ k .vars
+      → SmallWants b w
+      → SmallDescent b d
+      → SmallDescent b (foldBelow (descendValue k l s w) n d)
+  descendValues-small {w} {d} n most wanted h =
+      foldBelow-induction (descendValue k l s w) (λ i e. SmallDescent b e) n d h
+      (λ i e lt j. descendValue-small i (omega arith) wanted j)
+
+  -- one layer down
+  pub descend-small : {w : Wants} → SmallWants b w → SmallDescent b (descend k l s w)
+  unfolding descend
+  descend-small {w} wanted = descendValues-small (k .vars) (omega arith) wanted (descendProps-small w (k .props))
