@@ -45,6 +45,7 @@ pub mod Printed
 pub mod Marks
 pub mod Accepted
 pub mod Parts
+pub mod Places
 pub mod Passing
 pub mod PrintedOperands
 pub mod PrintedItems
@@ -67,3 +68,4 @@ pub mod PlanSizes
 pub mod Demand3
 pub mod EndToEnd
 pub mod Instance
+pub mod AnswerSizes

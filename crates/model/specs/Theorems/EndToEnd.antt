@@ -210,7 +210,7 @@ module _ (t : List ℕ) (w : Table) (e : reading paper (only normal) t ≡ accep
       go false (stopped n m) h = tt
 
 -- decide and plan start from an accepted table's task, or turn back
-prepared-cases :
+pub prepared-cases :
     (P : Ready → Type 0) (t bs : List ℕ)
     → ((w : Table) → reading paper (only normal) t ≡ accepted w → (s : State) → P (ready (w .task) s))
     → ((r : Refusal) → P (unready r))
