@@ -65,6 +65,7 @@ pub mod TargetSizes
 pub mod CountSizes
 pub mod DescentSizes
 pub mod PlanSizes
+pub mod Rebuilding
 pub mod Demand3
 pub mod EndToEnd
 pub mod Instance
