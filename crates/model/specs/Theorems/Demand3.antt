@@ -136,7 +136,7 @@ record-length (r ∷ rs) =
 
 -- what normalise writes, and that decide and plan are given just that
 module _ (t spare : List ℕ) (w : Table) (read : reading paper (only written) t ≡ accepted w) (fits : length (normalBytes (w .task)) ≤ length spare) where
-  normalise-writes : normalised paper t (length spare) ≡ writes (normalBytes (w .task))
+  pub normalise-writes : normalised paper t (length spare) ≡ writes (normalBytes (w .task))
   unfolding normalised normalOf fitted
   normalise-writes = rw (read, le-ltb (length spare) (length (normalBytes (w .task))) fits, fitted) refl
 
