@@ -1,0 +1,569 @@
+-- The items of a block that are left from an offset of its part on, and what the next of them is.
+-- Assumes nothing.
+use Prim.Native.Nat.{ℕ, suc, _+_, _*_, _≤_, _<_}
+use native.Mathlib.Omega.{arith}
+use mathlib.Core.Path.{_≡_, refl, sym, ap, _∙_, subst}
+use mathlib.Core.List.{List, [], _∷_, _++_, append-assoc}
+use lib.IntN.{ℤ, natAbs, _*ℤ_}
+use lib.ListN.{length, getD, take, drop, length-append}
+use Rattle.integer.specs.BigEndian.{half, signed, signedBytes, length-signedBytes}
+use Rattle.integer.specs.Linear.{zlin, natAbs-split}
+use Rattle.model.specs.Limits.{paper}
+use Rattle.model.specs.Task.{Form, written, normal, Term, Condition, Effect, Item, need, add, delete, condition, effect, Block}
+use Rattle.model.specs.Command.{needProp, addProp, deleteProp, term, closeCondition, closeEffect, codeOf, comparisonCode, kindCode, termBytes, itemBytes, itemsBytes}
+use Rattle.model.specs.Theorems.WellFormed.{All, WeightOk, SumOk, BoundOk, ConditionOk, EffectOk, ItemOk}
+use Rattle.block.specs.Bytes.{At, at-same, at-place, at-head, at-behind, at-tail, at-room, at-signed, at-length}
+use Rattle.block.specs.declared.ItemAt.{ItemAt}
+use Rattle.block.specs.declared.ItemAt.the-variants.{Need, Add, Delete, Condition as ConditionAt, Effect as EffectAt, End}
+
+-- the table's form and its counts, which bound what a block names
+pub record Ranges : Type 0 where
+  pub form : Form
+  pub props : ℕ
+  pub vars : ℕ
+
+-- from the offset on, the part is the print of the items `rest`
+pub record Left (k : Ranges) (part : List ℕ) (at : ℕ) (rest : Block) : Type 0 where
+  pub bytes : At part at (itemsBytes rest)
+  pub items : All (ItemOk paper (k .form) (k .props) (k .vars)) rest
+
+-- some items are left there
+pub record Readable (part : List ℕ) (at : ℕ) : Type 0 where
+  pub ranges : Ranges
+  pub rest : Block
+  pub left : Left ranges part at rest
+
+pub readable : {k : Ranges} {part : List ℕ} {at : ℕ} {rest : Block} → Left k part at rest → Readable part at
+readable {k} {rest} l = record { ranges = k; rest = rest; left = l }
+
+-- behind the byte that opens a block all its items are left
+pub left-start :
+    {k : Ranges} {part : List ℕ} {b : Block} (opening : ℕ)
+    → part ≡ opening ∷ itemsBytes b
+    → All (ItemOk paper (k .form) (k .props) (k .vars)) b
+    → Left k part 1 b
+left-start opening e ok =
+    record { bytes = record { within = omega (arith, ap length e); bytes = ap (drop 1) e }; items = ok }
+
+-- the n terms of a sum stand from the offset on
+pub record Terms (k : Ranges) (part : List ℕ) (from n : ℕ) (ts : List Term) : Type 0 where
+  pub after : List ℕ
+  pub bytes : At part from (termBytes ts ++ after)
+  pub many : length ts ≡ n
+  pub ok : SumOk paper (k .form) (k .vars) ts
+
+pub terms-place :
+    {k : Ranges} {part : List ℕ} {from to n m : ℕ} {ts : List Term}
+    → Terms k part from n ts
+    → from ≡ to
+    → n ≡ m
+    → Terms k part to m ts
+terms-place h e f = record { after = h .after; bytes = at-place (h .bytes) e; many = h .many ∙ f; ok = h .ok }
+
+-- ---- an item is the terms of its sum and the command that closes it
+
+unfoldable pub termsOf : Item → List Term
+termsOf (need p) = []
+termsOf (add p) = []
+termsOf (delete p) = []
+termsOf (condition c) = c .terms
+termsOf (effect e) = e .terms
+
+unfoldable pub closing : Item → List ℕ
+closing (need p) = codeOf needProp ∷ p ∷ []
+closing (add p) = codeOf addProp ∷ p ∷ []
+closing (delete p) = codeOf deleteProp ∷ p ∷ []
+closing (condition c) = codeOf closeCondition ∷ comparisonCode (c .comparison) ∷ signedBytes 4 (c .bound)
+closing (effect e) = codeOf closeEffect ∷ kindCode (e .kind) ∷ e .var ∷ signedBytes 4 (e .base)
+
+itemBytes-parts : (i : Item) → itemBytes i ≡ termBytes (termsOf i) ++ closing i
+unfolding itemBytes termsOf closing termBytes
+itemBytes-parts (need p) = refl
+itemBytes-parts (add p) = refl
+itemBytes-parts (delete p) = refl
+itemBytes-parts (condition c) = refl
+itemBytes-parts (effect e) = refl
+
+first-parts : (i : Item) (b : Block) → itemsBytes (i ∷ b) ≡ termBytes (termsOf i) ++ (closing i ++ itemsBytes b)
+unfolding itemsBytes
+first-parts i b = rw (itemBytes-parts i, append-assoc (termBytes (termsOf i)) (closing i) (itemsBytes b)) refl
+
+-- the item at `from`, of which n terms are passed and the terms `ts` are left
+pub record Passed (k : Ranges) (part : List ℕ) (from n : ℕ) (rest : Block) : Type 0 where
+  pub item : Item
+  pub others : Block
+  pub is : rest ≡ item ∷ others
+  pub ok : ItemOk paper (k .form) (k .props) (k .vars) item
+  pub oks : All (ItemOk paper (k .form) (k .props) (k .vars)) others
+  pub whole : At part from (termBytes (termsOf item) ++ (closing item ++ itemsBytes others))
+  pub ts : List Term
+  pub many : n + length ts ≡ length (termsOf item)
+  pub bytes : At part (from + 4 * n) (termBytes ts ++ (closing item ++ itemsBytes others))
+
+-- the item at `from` has n terms, and its last command stands behind them
+pub record ClosedBy (k : Ranges) (part : List ℕ) (from n : ℕ) (rest : Block) (item : Item) (others : Block) : Type 0 where
+  pub is : rest ≡ item ∷ others
+  pub ok : ItemOk paper (k .form) (k .props) (k .vars) item
+  pub oks : All (ItemOk paper (k .form) (k .props) (k .vars)) others
+  pub whole : At part from (termBytes (termsOf item) ++ (closing item ++ itemsBytes others))
+  pub many : length (termsOf item) ≡ n
+  pub bytes : At part (from + 4 * n) (closing item ++ itemsBytes others)
+
+pub record Closed (k : Ranges) (part : List ℕ) (from n : ℕ) (rest : Block) : Type 0 where
+  pub item : Item
+  pub others : Block
+  pub by : ClosedBy k part from n rest item others
+
+-- some item does
+pub record Closable (part : List ℕ) (from n : ℕ) : Type 0 where
+  pub ranges : Ranges
+  pub rest : Block
+  pub closed : Closed ranges part from n rest
+
+-- the bytes of a first term
+unfoldable pub firstTerm : Term → List ℕ
+firstTerm t = codeOf term ∷ t .var ∷ signedBytes 2 (t .weight)
+
+firstTerm-length : (t : Term) → length (firstTerm t) ≡ 4
+unfolding firstTerm
+firstTerm-length t = omega (arith, length-signedBytes 2 (t .weight))
+
+pub terms-cons : (t : Term) (ts : List Term) (bs : List ℕ) → termBytes (t ∷ ts) ++ bs ≡ firstTerm t ++ (termBytes ts ++ bs)
+unfolding termBytes firstTerm
+terms-cons t ts bs = rw (append-assoc (signedBytes 2 (t .weight)) (termBytes ts) bs) refl
+
+-- behind a first term the others stand
+pub behind-term :
+    {part : List ℕ} {at : ℕ} (t : Term) (ts : List Term) (bs : List ℕ)
+    → At part at (termBytes (t ∷ ts) ++ bs)
+    → At part (at + 4) (termBytes ts ++ bs)
+behind-term t ts bs a =
+    at-behind 4 (firstTerm t) (termBytes ts ++ bs) (at-same a (terms-cons t ts bs)) (firstTerm-length t)
+
+term-head : {part : List ℕ} {at : ℕ} (t : Term) (ts : List Term) (bs : List ℕ) → At part at (termBytes (t ∷ ts) ++ bs) → getD part at 0 ≡ 0x57
+unfolding termBytes codeOf
+term-head t ts bs a = at-head a
+
+-- no command that closes an item is a term's
+closing-head : {part : List ℕ} {at : ℕ} (i : Item) (bs : List ℕ) → At part at (closing i ++ bs) → getD part at 0 ≡ 0x57 → ⊥
+unfolding closing codeOf
+closing-head (need p) bs a e = omega (arith, at-head a)
+closing-head (add p) bs a e = omega (arith, at-head a)
+closing-head (delete p) bs a e = omega (arith, at-head a)
+closing-head (condition c) bs a e = omega (arith, at-head a)
+closing-head (effect f) bs a e = omega (arith, at-head a)
+
+closing-long : (i : Item) → 1 ≤ length (closing i)
+unfolding closing
+closing-long (need p) = omega arith
+closing-long (add p) = omega arith
+closing-long (delete p) = omega arith
+closing-long (condition c) = omega arith
+closing-long (effect f) = omega arith
+
+-- at the end no item is left
+pub left-end : {k : Ranges} {part : List ℕ} {at : ℕ} {rest : Block} → length part ≤ at → Left k part at rest → rest ≡ []
+left-end {part} {at} {rest} h l = go rest (l .bytes)
+  where
+    go : (b : Block) → At part at (itemsBytes b) → b ≡ []
+    go [] a = refl
+    go (i ∷ b) a =
+        absurd
+        (omega (arith, at-length (at-same a (first-parts i b)), length-append (termBytes (termsOf i)) (closing i ++ itemsBytes b), length-append (closing i) (itemsBytes b), closing-long i))
+
+pub pass-start : {k : Ranges} {part : List ℕ} {at : ℕ} {rest : Block} → at < length part → Left k part at rest → Passed k part at 0 rest
+pass-start {k} {part} {at} {rest} h l = go rest (l .bytes) (l .items)
+  where
+    go : (b : Block) → At part at (itemsBytes b) → All (ItemOk paper (k .form) (k .props) (k .vars)) b → Passed k part at 0 b
+    go [] a ok = absurd (unfold itemsBytes in (omega (arith, at-length a)))
+    go (i ∷ b) a ok =
+        let w : At part at (termBytes (termsOf i) ++ (closing i ++ itemsBytes b)) = at-same a (first-parts i b) in
+        record {
+          item = i;
+          others = b;
+          is = refl;
+          ok = ok .0;
+          oks = ok .1;
+          whole = w;
+          ts = termsOf i;
+          many = omega arith;
+          bytes = at-place w (omega arith);
+        }
+
+-- the command of the item that is being passed stands within the part
+pub pass-room : {k : Ranges} {part : List ℕ} {from n : ℕ} {rest : Block} → Passed k part from n rest → from + 4 * n < length part
+pass-room p =
+    omega (arith, at-length (p .bytes), length-append (termBytes (p .ts)) (closing (p .item) ++ itemsBytes (p .others)), length-append (closing (p .item)) (itemsBytes (p .others)), closing-long (p .item))
+
+pub pass-step :
+    {k : Ranges} {part : List ℕ} {from n : ℕ} {rest : Block}
+    → Passed k part from n rest
+    → getD part (from + 4 * n) 0 ≡ 0x57
+    → Passed k part from (n + 1) rest
+pass-step {k} {part} {from} {n} {rest} p e = go (p .ts) (p .many) (p .bytes)
+  where
+    behind : List ℕ
+    behind = closing (p .item) ++ itemsBytes (p .others)
+
+    go : (ts : List Term) → n + length ts ≡ length (termsOf (p .item)) → At part (from + 4 * n) (termBytes ts ++ behind) → Passed k part from (n + 1) rest
+    go [] m a = absurd (unfold termBytes in (closing-head (p .item) (itemsBytes (p .others)) a e))
+    go (t ∷ ts) m a =
+        record {
+          item = p .item;
+          others = p .others;
+          is = p .is;
+          ok = p .ok;
+          oks = p .oks;
+          whole = p .whole;
+          ts = ts;
+          many = omega arith;
+          bytes = at-place (behind-term t ts behind a) (omega arith);
+        }
+
+pub pass-end :
+    {k : Ranges} {part : List ℕ} {from n : ℕ} {rest : Block}
+    → Passed k part from n rest
+    → (getD part (from + 4 * n) 0 ≡ 0x57 → ⊥)
+    → Closed k part from n rest
+pass-end {k} {part} {from} {n} {rest} p e = go (p .ts) (p .many) (p .bytes)
+  where
+    behind : List ℕ
+    behind = closing (p .item) ++ itemsBytes (p .others)
+
+    go : (ts : List Term) → n + length ts ≡ length (termsOf (p .item)) → At part (from + 4 * n) (termBytes ts ++ behind) → Closed k part from n rest
+    go [] m a =
+        record {
+          item = p .item;
+          others = p .others;
+          by =
+              record {
+                is = p .is;
+                ok = p .ok;
+                oks = p .oks;
+                whole = p .whole;
+                many = omega arith;
+                bytes = unfold termBytes in a;
+              };
+        }
+    go (t ∷ ts) m a = absurd (e (term-head t ts behind a))
+
+-- the command that closes an item stands within the part
+pub closed-room : {k : Ranges} {part : List ℕ} {from n : ℕ} {rest : Block} → Closed k part from n rest → from + 4 * n < length part
+closed-room c = omega (arith, at-length (c .by .bytes), length-append (closing (c .item)) (itemsBytes (c .others)), closing-long (c .item))
+
+-- ---- what the next item is
+
+-- the item i stands first, and behind it, at `next`, the others are left
+pub record Followed (k : Ranges) (part : List ℕ) (next : ℕ) (rest : Block) (i : Item) : Type 0 where
+  pub others : Block
+  pub is : rest ≡ i ∷ others
+  pub left : Left k part next others
+  pub ok : ItemOk paper (k .form) (k .props) (k .vars) i
+
+-- the condition c that the numbers describe: its operator's number, its constant, where its terms stand and how many
+pub record ConditionIs (k : Ranges) (part : List ℕ) (o : ℕ) (z : ℤ) (from n : ℕ) (c : Condition) : Type 0 where
+  pub comparison : comparisonCode (c .comparison) ≡ o
+  pub bound : c .bound ≡ z
+  pub terms : Terms k part from n (c .terms)
+  pub ok : ConditionOk paper (k .form) (k .vars) c
+
+-- the effect e that the numbers describe
+pub record EffectIs (k : Ranges) (part : List ℕ) (kd : ℕ) (z : ℤ) (from n : ℕ) (e : Effect) : Type 0 where
+  pub kind : kindCode (e .kind) ≡ kd
+  pub base : e .base ≡ z
+  pub terms : Terms k part from n (e .terms)
+  pub ok : EffectOk paper (k .form) (k .vars) e
+
+pub record ConditionFound (k : Ranges) (part : List ℕ) (o : ℕ) (z : ℤ) (from n after : ℕ) (rest : Block) : Type 0 where
+  pub it : Condition
+  pub is : ConditionIs k part o z from n it
+  pub followed : Followed k part after rest (condition it)
+
+pub record EffectFound (k : Ranges) (part : List ℕ) (kd v : ℕ) (z : ℤ) (from n after : ℕ) (rest : Block) : Type 0 where
+  pub it : Effect
+  pub var : it .var ≡ v
+  pub is : EffectIs k part kd z from n it
+  pub followed : Followed k part after rest (effect it)
+
+-- the description fits the first of the items that are left
+abbrev pub Found : Ranges → List ℕ → Block → ItemAt → Type 0
+Found k part rest (Need p next) = Followed k part next rest (need p)
+Found k part rest (Add p next) = Followed k part next rest (add p)
+Found k part rest (Delete p next) = Followed k part next rest (delete p)
+Found k part rest (ConditionAt o c from n next) = ConditionFound k part o c from n next rest
+Found k part rest (EffectAt kd v c from n next) = EffectFound k part kd v c from n next rest
+Found k part rest End = rest ≡ []
+
+-- the next offset lies ahead
+abbrev pub Moves : ℕ → ℕ → ItemAt → Type 0
+Moves at size (Need p next) = (at < next) × (next ≤ size)
+Moves at size (Add p next) = (at < next) × (next ≤ size)
+Moves at size (Delete p next) = (at < next) × (next ≤ size)
+Moves at size (ConditionAt o c from n next) = (at < next) × (next ≤ size)
+Moves at size (EffectAt kd v c from n next) = (at < next) × (next ≤ size)
+Moves at size End = Unit {0}
+
+pub record Next (part : List ℕ) (at : ℕ) (r : ItemAt) : Type 0 where
+  pub moves : Moves at (length part) r
+  pub found : (k : Ranges) (rest : Block) → Left k part at rest → Found k part rest r
+
+-- ---- sizes
+
+-- the sizes of numbers in range, which four bytes and two bytes hold
+pub bound-small : (f : Form) (c : ℤ) → BoundOk paper f c → natAbs c ≤ 1_000_001
+unfolding paper
+bound-small written c ok = omega arith
+bound-small normal c ok = omega (zlin, natAbs-split c)
+
+pub base-small : {f : Form} {vars : ℕ} {e : Effect} → EffectOk paper f vars e → natAbs (e .base) ≤ 1_000_000
+unfolding paper
+base-small ok = ok .base
+
+pub weight-small : (f : Form) (w : ℤ) → WeightOk paper f w → natAbs w ≤ 1000
+unfolding paper
+weight-small written w ok = ok .1
+weight-small normal w ok = ok .1
+
+-- ---- a term
+
+-- some term stands there
+pub record TermAt (part : List ℕ) (at : ℕ) : Type 0 where
+  pub ranges : Ranges
+  pub n : ℕ
+  pub first : Term
+  pub others : List Term
+  pub terms : Terms ranges part at n (first ∷ others)
+
+-- v is its variable, w its weight, r its weight times x, in every reading
+pub record IsVariable (part : List ℕ) (at v : ℕ) : Type 0 where
+  pub is : (k : Ranges) (n : ℕ) (t : Term) (ts : List Term) → Terms k part at n (t ∷ ts) → v ≡ t .var
+
+pub record IsWeight (part : List ℕ) (at : ℕ) (w : ℤ) : Type 0 where
+  pub is : (k : Ranges) (n : ℕ) (t : Term) (ts : List Term) → Terms k part at n (t ∷ ts) → w ≡ t .weight
+  pub small : natAbs w ≤ 1000
+
+pub record IsScaled (part : List ℕ) (at : ℕ) (x r : ℤ) : Type 0 where
+  pub is : (k : Ranges) (n : ℕ) (t : Term) (ts : List Term) → Terms k part at n (t ∷ ts) → r ≡ t .weight *ℤ x
+  pub small : natAbs r ≤ 1_000_000_000_000_000
+
+module _ {k : Ranges} {part : List ℕ} {at n : ℕ} {t : Term} {ts : List Term} (h : Terms k part at n (t ∷ ts)) where
+  pub term-at : TermAt part at
+  term-at = record { ranges = k; n = n; first = t; others = ts; terms = h }
+
+  term-bytes : At part at (firstTerm t ++ (termBytes ts ++ h .after))
+  term-bytes = at-same (h .bytes) (terms-cons t ts (h .after))
+
+  pub term-room : at + 4 ≤ length part
+  term-room = at-room 4 (firstTerm t) (termBytes ts ++ h .after) term-bytes (firstTerm-length t)
+
+  pub term-var : getD part (at + 1) 0 ≡ t .var
+  unfolding firstTerm
+  term-var = at-head (at-tail term-bytes)
+
+  pub term-weight : signed (take 2 (drop (at + 2) part)) ≡ t .weight
+  unfolding firstTerm half
+  term-weight =
+      at-signed 2 (t .weight) (termBytes ts ++ h .after)
+      (at-behind 2 (codeOf term ∷ t .var ∷ []) (signedBytes 2 (t .weight) ++ (termBytes ts ++ h .after)) term-bytes refl)
+      (omega arith)
+      (omega (arith, weight-small (k .form) (t .weight) (h .ok .terms .0 .weight)))
+
+  pub term-var-small : t .var < k .vars
+  term-var-small = h .ok .terms .0 .var
+
+  pub term-weight-small : natAbs (t .weight) ≤ 1000
+  term-weight-small = weight-small (k .form) (t .weight) (h .ok .terms .0 .weight)
+
+-- what is read at a term
+module _ {part : List ℕ} {at : ℕ} (h : TermAt part at) where
+  pub read-weight : {w : ℤ} → w ≡ signed (take 2 (drop (at + 2) part)) → IsWeight part at w
+  read-weight {w} e =
+      record {
+        is = λ k n t ts g. e ∙ term-weight g;
+        small = subst (λ (z : ℤ). natAbs z ≤ 1000) (sym (e ∙ term-weight (h .terms))) (term-weight-small (h .terms));
+      }
+
+-- the other terms stand behind the first
+module _ {k : Ranges} {part : List ℕ} {at n : ℕ} {t : Term} {ts : List Term} (h : Terms k part at n (t ∷ ts)) where
+  pub terms-behind : (m : ℕ) → n ≡ suc m → Terms k part (at + 4) m ts
+  terms-behind m e =
+      record {
+        after = h .after;
+        bytes = behind-term t ts (h .after) (h .bytes);
+        many = omega (arith, h .many);
+        ok = record { terms = h .ok .terms .1; few = omega (arith, h .ok .few); rising = h .ok .rising .1 };
+      }
+
+-- a scaled weight
+pub read-scaled :
+    {part : List ℕ} {at : ℕ} {x w r : ℤ}
+    → IsWeight part at w
+    → natAbs x ≤ 1_000_000_000_000
+    → r ≡ w *ℤ x
+    → natAbs r ≤ 1000 * natAbs x
+    → IsScaled part at x r
+read-scaled {x} q h e s =
+    record { is = λ k n t ts g. e ∙ ap (λ (z : ℤ). z *ℤ x) (q .is k n t ts g); small = omega arith }
+
+-- the first of the terms
+pub record FirstOf (k : Ranges) (part : List ℕ) (at n : ℕ) (ts : List Term) : Type 0 where
+  pub first : Term
+  pub others : List Term
+  pub is : ts ≡ first ∷ others
+  pub terms : Terms k part at n (first ∷ others)
+
+pub first-of : {k : Ranges} {part : List ℕ} {at n : ℕ} {ts : List Term} → Terms k part at n ts → 0 < n → FirstOf k part at n ts
+first-of {k} {part} {at} {n} {ts} h p = go ts h
+  where
+    go : (l : List Term) → Terms k part at n l → FirstOf k part at n l
+    go [] g = absurd (omega (arith, g .many))
+    go (t ∷ l) g = record { first = t; others = l; is = refl; terms = g }
+
+-- ---- the item that a command closes
+
+-- a command with a proposition: `mk` is the kind of item that its code stands for
+prop-followed :
+    {k : Ranges} {part : List ℕ} {at : ℕ} {rest : Block} (mk : ℕ → Item) (code p q : ℕ) (others : Block)
+    → rest ≡ mk p ∷ others
+    → ItemOk paper (k .form) (k .props) (k .vars) (mk p)
+    → All (ItemOk paper (k .form) (k .props) (k .vars)) others
+    → At part at (code ∷ p ∷ itemsBytes others)
+    → q ≡ getD part (at + 1) 0
+    → Followed k part (at + 2) rest (mk q)
+prop-followed {k} {part} {at} {rest} mk code p q others is ok oks a e =
+    let f : Followed k part (at + 2) rest (mk p) =
+    record {
+      others = others;
+      is = is;
+      left = record { bytes = at-behind 2 (code ∷ p ∷ []) (itemsBytes others) a refl; items = oks };
+      ok = ok;
+    } in
+    subst (λ (x : ℕ). Followed k part (at + 2) rest (mk x)) (sym (e ∙ at-head (at-tail a))) f
+
+-- a command that ends with a constant
+constant-followed :
+    {k : Ranges} {part : List ℕ} {at after : ℕ} {rest : Block} (i : Item) (z : ℤ) (others : Block)
+    → rest ≡ i ∷ others
+    → ItemOk paper (k .form) (k .props) (k .vars) i
+    → All (ItemOk paper (k .form) (k .props) (k .vars)) others
+    → At part at (signedBytes 4 z ++ itemsBytes others)
+    → at + 4 ≡ after
+    → Followed k part after rest i
+constant-followed i z others is ok oks a e =
+    record {
+      others = others;
+      is = is;
+      left =
+          record { bytes = at-place (at-behind 4 (signedBytes 4 z) (itemsBytes others) a (length-signedBytes 4 z)) e; items = oks };
+      ok = ok;
+    }
+
+-- the terms of the sum that it closes
+terms-of :
+    {k : Ranges} {part : List ℕ} {from n : ℕ} {rest : Block} {i : Item} {others : Block}
+    → ClosedBy k part from n rest i others
+    → SumOk paper (k .form) (k .vars) (termsOf i)
+    → Terms k part from n (termsOf i)
+terms-of {i} {others} c ok =
+    record { after = closing i ++ itemsBytes others; bytes = c .whole; many = c .many; ok = ok }
+
+module _ {k : Ranges} {part : List ℕ} {from n : ℕ} {rest : Block} (closed : Closed k part from n rest) where
+  pub found-need : (p : ℕ) → getD part (from + 4 * n) 0 ≡ 0x50 → p ≡ getD part (from + 4 * n + 1) 0 → Followed k part (from + 4 * n + 2) rest (need p)
+  unfolding closing codeOf
+  found-need p h e = go (closed .item) (closed .by)
+    where
+      go : (i : Item) → ClosedBy k part from n rest i (closed .others) → Followed k part (from + 4 * n + 2) rest (need p)
+      go (need q) c = prop-followed need 0x50 q p (closed .others) (c .is) (c .ok) (c .oks) (c .bytes) e
+      go (add q) c = absurd (omega (arith, at-head (c .bytes)))
+      go (delete q) c = absurd (omega (arith, at-head (c .bytes)))
+      go (condition q) c = absurd (omega (arith, at-head (c .bytes)))
+      go (effect q) c = absurd (omega (arith, at-head (c .bytes)))
+
+  pub found-add : (p : ℕ) → getD part (from + 4 * n) 0 ≡ 0x2B → p ≡ getD part (from + 4 * n + 1) 0 → Followed k part (from + 4 * n + 2) rest (add p)
+  unfolding closing codeOf
+  found-add p h e = go (closed .item) (closed .by)
+    where
+      go : (i : Item) → ClosedBy k part from n rest i (closed .others) → Followed k part (from + 4 * n + 2) rest (add p)
+      go (need q) c = absurd (omega (arith, at-head (c .bytes)))
+      go (add q) c = prop-followed add 0x2B q p (closed .others) (c .is) (c .ok) (c .oks) (c .bytes) e
+      go (delete q) c = absurd (omega (arith, at-head (c .bytes)))
+      go (condition q) c = absurd (omega (arith, at-head (c .bytes)))
+      go (effect q) c = absurd (omega (arith, at-head (c .bytes)))
+
+  pub found-delete : (p : ℕ) → getD part (from + 4 * n) 0 ≡ 0x2D → p ≡ getD part (from + 4 * n + 1) 0 → Followed k part (from + 4 * n + 2) rest (delete p)
+  unfolding closing codeOf
+  found-delete p h e = go (closed .item) (closed .by)
+    where
+      go : (i : Item) → ClosedBy k part from n rest i (closed .others) → Followed k part (from + 4 * n + 2) rest (delete p)
+      go (need q) c = absurd (omega (arith, at-head (c .bytes)))
+      go (add q) c = absurd (omega (arith, at-head (c .bytes)))
+      go (delete q) c = prop-followed delete 0x2D q p (closed .others) (c .is) (c .ok) (c .oks) (c .bytes) e
+      go (condition q) c = absurd (omega (arith, at-head (c .bytes)))
+      go (effect q) c = absurd (omega (arith, at-head (c .bytes)))
+
+  pub found-condition :
+      (o : ℕ) (z : ℤ)
+      → getD part (from + 4 * n) 0 ≡ 0x43
+      → o ≡ getD part (from + 4 * n + 1) 0
+      → z ≡ signed (take 4 (drop (from + 4 * n + 2) part))
+      → ConditionFound k part o z from n (from + 4 * n + 6) rest
+  unfolding closing codeOf termsOf half
+  found-condition o z h e f = go (closed .item) (closed .by)
+    where
+      go : (i : Item) → ClosedBy k part from n rest i (closed .others) → ConditionFound k part o z from n (from + 4 * n + 6) rest
+      go (need q) c = absurd (omega (arith, at-head (c .bytes)))
+      go (add q) c = absurd (omega (arith, at-head (c .bytes)))
+      go (delete q) c = absurd (omega (arith, at-head (c .bytes)))
+      go (condition q) c =
+          let code = comparisonCode (q .comparison) in
+          let small : natAbs (q .bound) < half 4 = unfold half in (omega (arith, bound-small (k .form) (q .bound) (c .ok .bound))) in
+          let number = at-behind 2 (0x43 ∷ code ∷ []) (signedBytes 4 (q .bound) ++ itemsBytes (closed .others)) (c .bytes) refl in
+          record {
+            it = q;
+            is =
+                record {
+                  comparison = sym (e ∙ at-head (at-tail (c .bytes)));
+                  bound = sym (f ∙ at-signed 4 (q .bound) (itemsBytes (closed .others)) number (omega arith) small);
+                  terms = terms-of c (c .ok .sum);
+                  ok = c .ok;
+                };
+            followed = constant-followed (condition q) (q .bound) (closed .others) (c .is) (c .ok) (c .oks) number (omega arith);
+          }
+      go (effect q) c = absurd (omega (arith, at-head (c .bytes)))
+
+  -- the one command that is left
+  pub found-effect :
+      (kd v : ℕ) (z : ℤ)
+      → (getD part (from + 4 * n) 0 ≡ 0x50 → ⊥)
+      → (getD part (from + 4 * n) 0 ≡ 0x2B → ⊥)
+      → (getD part (from + 4 * n) 0 ≡ 0x2D → ⊥)
+      → (getD part (from + 4 * n) 0 ≡ 0x43 → ⊥)
+      → kd ≡ getD part (from + 4 * n + 1) 0
+      → v ≡ getD part (from + 4 * n + 2) 0
+      → z ≡ signed (take 4 (drop (from + 4 * n + 3) part))
+      → EffectFound k part kd v z from n (from + 4 * n + 7) rest
+  unfolding closing codeOf termsOf half
+  found-effect kd v z h1 h2 h3 h4 e g f = go (closed .item) (closed .by)
+    where
+      go : (i : Item) → ClosedBy k part from n rest i (closed .others) → EffectFound k part kd v z from n (from + 4 * n + 7) rest
+      go (need q) c = absurd (h1 (at-head (c .bytes)))
+      go (add q) c = absurd (h2 (at-head (c .bytes)))
+      go (delete q) c = absurd (h3 (at-head (c .bytes)))
+      go (condition q) c = absurd (h4 (at-head (c .bytes)))
+      go (effect q) c =
+          let code = kindCode (q .kind) in
+          let small : natAbs (q .base) < half 4 = unfold half in (omega (arith, base-small (c .ok))) in
+          let target = at-behind 2 (0x46 ∷ code ∷ []) (q .var ∷ signedBytes 4 (q .base) ++ itemsBytes (closed .others)) (c .bytes) refl in
+          let number = at-behind 3 (0x46 ∷ code ∷ q .var ∷ []) (signedBytes 4 (q .base) ++ itemsBytes (closed .others)) (c .bytes) refl in
+          record {
+            it = q;
+            var = sym (g ∙ at-head target);
+            is =
+                record {
+                  kind = sym (e ∙ at-head (at-tail (c .bytes)));
+                  base = sym (f ∙ at-signed 4 (q .base) (itemsBytes (closed .others)) number (omega arith) small);
+                  terms = terms-of c (c .ok .sum);
+                  ok = c .ok;
+                };
+            followed = constant-followed (effect q) (q .base) (closed .others) (c .is) (c .ok) (c .oks) number (omega arith);
+          }

@@ -1,0 +1,6 @@
+-- The specifications of reading one block of an accepted table: bytes at an offset, the items that are left, sums over a state
+-- and over a layer, whole blocks.
+pub mod Bytes
+pub mod Items
+pub mod Sums
+pub mod Blocks

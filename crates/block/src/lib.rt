@@ -1,0 +1,451 @@
+// The items of one block, read from its part of an accepted table; sums, conditions and effects over a state and over a layer.
+// A part is the byte 41 or 47 and the bytes of the block's items. `specs/Items.antt` says what is left from an offset on: each
+// promise holds for every reading of the part that the caller has.
+ghost use mathlib.Core.Path.{_≡_};
+ghost use Prim.Native.Nat.{_+_, _*_, _<_, _≤_};
+ghost use lib.ListN.{length};
+ghost use lib.IntN.{natAbs};
+ghost use Rattle.model.specs.Task.{Block, Comparison};
+ghost use Rattle.model.specs.Command.{comparisonCode};
+ghost use Rattle.model.specs.Move.{compares};
+ghost use Rattle.model.specs.Layer.{Value, reaches};
+ghost use Rattle.model.specs.Memory.{encode};
+ghost use Rattle.block.specs.Items.{Ranges, Left, Readable, Closed, Closable, Next, Moves, Found, TermAt, IsVariable, IsWeight, IsScaled};
+ghost use Rattle.block.specs.Sums.{Summable, IsSum, IsValue, LayerSummable, IsLayerSum, IsLayerValue, isMark};
+ghost use Rattle.block.specs.Blocks.{Testable, IsTest, IsApplicable, LayerTestable, IsLayerTest, IsUsable, IsEffectOn, IsAdds};
+
+// One item, with the offset behind it. The terms of a condition's or an effect's sum stand from `from` on.
+pub enum ItemAt {
+    Need {
+        prop: usize,
+        after: usize,
+    },
+    Add {
+        prop: usize,
+        after: usize,
+    },
+    Delete {
+        prop: usize,
+        after: usize,
+    },
+    Condition {
+        comparison: u8,
+        bound: i64,
+        from: usize,
+        terms: usize,
+        after: usize,
+    },
+    Effect {
+        kind: u8,
+        var: usize,
+        base: i64,
+        from: usize,
+        terms: usize,
+        after: usize,
+    },
+    End,
+}
+
+// What a block does to a variable.
+pub enum Change {
+    By {
+        kind: u8,
+        base: i64,
+        from: usize,
+        terms: usize,
+    },
+    Nothing,
+}
+
+fn index(x: u8) -> usize
+    ensures { λ r. ⌜ r ≡ x ⌝ }
+{
+    x as usize
+}
+
+// The number of terms from `at` on, before the command that closes them or has none.
+fn terms_at(part: &[u8], at: usize) -> usize
+    requires { ⌜ (Readable (now part) at) × (at < length (now part)) ⌝ }
+    ensures { λ r. ⌜ ((k : Ranges) (rest : Block) → Left k (now (part .entry)) at rest → Closed k (now (part .entry)) at r rest) ⌝ }
+{
+    let mut n = 0;
+    while part[at + 4 * n] == 0x57 {
+        n += 1;
+    }
+    n
+}
+
+// The item whose `terms` terms stand from `from` on.
+fn item_at(part: &[u8], from: usize, terms: usize) -> ItemAt
+    requires { ⌜ Closable (now part) from terms ⌝ }
+    ensures { λ r. ⌜ (Moves from (length (now (part .entry))) r)
+        × ((k : Ranges) (rest : Block) → Closed k (now (part .entry)) from terms rest → Found k (now (part .entry)) rest r) ⌝ }
+{
+    let at = from + 4 * terms;
+    match part[at] {
+        0x50 => ItemAt::Need {
+            prop: index(part[at + 1]),
+            after: at + 2,
+        },
+        0x2B => ItemAt::Add {
+            prop: index(part[at + 1]),
+            after: at + 2,
+        },
+        0x2D => ItemAt::Delete {
+            prop: index(part[at + 1]),
+            after: at + 2,
+        },
+        0x43 => ItemAt::Condition {
+            comparison: part[at + 1],
+            bound: integer::i32_at(part, at + 2),
+            from,
+            terms,
+            after: at + 6,
+        },
+        _ => ItemAt::Effect {
+            kind: part[at + 1],
+            var: index(part[at + 2]),
+            base: integer::i32_at(part, at + 3),
+            from,
+            terms,
+            after: at + 7,
+        },
+    }
+}
+
+// The item at `at`, or the block's end.
+pub fn next(part: &[u8], at: usize) -> ItemAt
+    requires { ⌜ Readable (now part) at ⌝ }
+    ensures { λ r. ⌜ Next (now (part .entry)) at r ⌝ }
+{
+    if at >= part.len() {
+        return ItemAt::End;
+    }
+    item_at(part, at, terms_at(part, at))
+}
+
+// The variable of the term at `at`.
+pub fn variable(part: &[u8], at: usize) -> usize
+    requires { ⌜ TermAt (now part) at ⌝ }
+    ensures { λ r. ⌜ IsVariable (now (part .entry)) at r ⌝ }
+{
+    index(part[at + 1])
+}
+
+// The weight of the term at `at`.
+pub fn weight(part: &[u8], at: usize) -> i64
+    requires { ⌜ TermAt (now part) at ⌝ }
+    ensures { λ r. ⌜ IsWeight (now (part .entry)) at r ⌝ }
+{
+    integer::i16_at(part, at + 2)
+}
+
+// The value `x` times the weight of the term at `at`.
+pub fn scaled(part: &[u8], at: usize, x: i64) -> i64
+    requires { ⌜ (TermAt (now part) at) × (natAbs x ≤ 1000000000000) ⌝ }
+    ensures { λ r. ⌜ IsScaled (now (part .entry)) at x r ⌝ }
+{
+    integer::mul(x, weight(part, at))
+}
+
+// The sum of the `n` terms from `from` on, over the values of a state.
+pub fn sum_real(part: &[u8], from: usize, n: usize, values: &[i64]) -> i64
+    requires { ⌜ Summable (now part) from n (now values) ⌝ }
+    ensures { λ r. ⌜ IsSum (now (part .entry)) from n (now (values .entry)) r ⌝ }
+{
+    let mut total: i64 = 0;
+    let mut i = 0;
+    while i < n {
+        let at = from + 4 * i;
+        let v = variable(part, at);
+        let x = values[v];
+        total = integer::add(total, scaled(part, at, x));
+        i += 1;
+    }
+    total
+}
+
+// An effect's value in a state: its sum and its constant.
+pub fn real_value(part: &[u8], from: usize, n: usize, base: i64, values: &[i64]) -> i64
+    requires { ⌜ (Summable (now part) from n (now values)) × (natAbs base ≤ 1000000) ⌝ }
+    ensures { λ r. ⌜ IsValue (now (part .entry)) from n base (now (values .entry)) r ⌝ }
+{
+    integer::add(sum_real(part, from, n, values), base)
+}
+
+// Is the number the mark for unbounded?
+pub fn is_unbounded(x: i64) -> bool
+    ensures { λ r. ⌜ r ≡ isMark x ⌝ }
+{
+    integer::at_most(9223372036854775807, x)
+}
+
+// The sum of the `n` terms from `from` on, over the values of a layer.
+pub fn sum_layer(part: &[u8], from: usize, n: usize, layer: &[i64]) -> i64
+    requires { ⌜ LayerSummable (now part) from n (now layer) ⌝ }
+    ensures { λ r. ⌜ IsLayerSum (now (part .entry)) from n (now (layer .entry)) r ⌝ }
+{
+    let mut total: i64 = 0;
+    let mut i = 0;
+    while i < n {
+        let at = from + 4 * i;
+        let v = variable(part, at);
+        let x = layer[v];
+        if is_unbounded(x) {
+            return 9223372036854775807;
+        }
+        total = integer::add(total, scaled(part, at, x));
+        i += 1;
+    }
+    total
+}
+
+// An effect's value in a layer.
+pub fn layer_value(part: &[u8], from: usize, n: usize, base: i64, layer: &[i64]) -> i64
+    requires { ⌜ (LayerSummable (now part) from n (now layer)) × (natAbs base ≤ 1000000) ⌝ }
+    ensures { λ r. ⌜ IsLayerValue (now (part .entry)) from n base (now (layer .entry)) r ⌝ }
+{
+    let s = sum_layer(part, from, n, layer);
+    if is_unbounded(s) {
+        return 9223372036854775807;
+    }
+    integer::add(s, base)
+}
+
+// Is a layer's value at least `c`?
+pub fn reaches(value: i64, c: i64) -> bool
+    ensures { λ r. ⌜ ((x : Value) → value ≡ encode x → r ≡ reaches x c) ⌝ }
+{
+    integer::at_most(c, value)
+}
+
+// Does the sum `total` compare with `c` as the operator of that number says?
+pub fn compare(comparison: u8, total: i64, c: i64) -> bool
+    ensures { λ r. ⌜ ((o : Comparison) → comparisonCode o ≡ comparison → r ≡ compares o total c) ⌝ }
+{
+    match comparison {
+        0 => integer::at_most(c, total),
+        1 => integer::less(c, total),
+        2 => integer::at_most(total, c),
+        3 => integer::less(total, c),
+        _ => integer::at_most(c, total) && integer::at_most(total, c),
+    }
+}
+
+// Does the condition hold in a state?
+pub fn condition_holds(
+    part: &[u8],
+    comparison: u8,
+    bound: i64,
+    from: usize,
+    n: usize,
+    values: &[i64],
+) -> bool
+    requires { ⌜ Summable (now part) from n (now values) ⌝ }
+    ensures { λ r. ⌜ IsTest (now (part .entry)) comparison bound from n (now (values .entry)) r ⌝ }
+{
+    compare(comparison, sum_real(part, from, n, values), bound)
+}
+
+// Does the condition, a sum of at least `bound`, hold in a layer?
+pub fn condition_reached(part: &[u8], bound: i64, from: usize, n: usize, layer: &[i64]) -> bool
+    requires { ⌜ LayerSummable (now part) from n (now layer) ⌝ }
+    ensures { λ r. ⌜ IsLayerTest (now (part .entry)) bound from n (now (layer .entry)) r ⌝ }
+{
+    reaches(sum_layer(part, from, n, layer), bound)
+}
+
+// Do all conditions of the block hold in the state of these propositions' bytes and values?
+pub fn applicable(part: &[u8], state: &[u8], values: &[i64]) -> bool
+    requires { ⌜ Testable (now part) (now state) (now values) ⌝ }
+    ensures { λ r. ⌜ IsApplicable (now (part .entry)) (now (state .entry)) (now (values .entry)) r ⌝ }
+{
+    let mut at = 1;
+    loop {
+        match next(part, at) {
+            ItemAt::Need { prop, after } => {
+                if state[prop] != 1 {
+                    return false;
+                }
+                at = after;
+            }
+            ItemAt::Condition {
+                comparison,
+                bound,
+                from,
+                terms,
+                after,
+            } => {
+                if !condition_holds(part, comparison, bound, from, terms, values) {
+                    return false;
+                }
+                at = after;
+            }
+            ItemAt::Add { prop: _, after } => {
+                at = after;
+            }
+            ItemAt::Delete { prop: _, after } => {
+                at = after;
+            }
+            ItemAt::Effect {
+                kind: _,
+                var: _,
+                base: _,
+                from: _,
+                terms: _,
+                after,
+            } => {
+                at = after;
+            }
+            ItemAt::End => {
+                return true;
+            }
+        }
+    }
+}
+
+// Do all conditions of the block, one of a normal table, hold in the layer of these propositions and values?
+pub fn usable(part: &[u8], has: &[bool], layer: &[i64]) -> bool
+    requires { ⌜ LayerTestable (now part) (now has) (now layer) ⌝ }
+    ensures { λ r. ⌜ IsUsable (now (part .entry)) (now (has .entry)) (now (layer .entry)) r ⌝ }
+{
+    let mut at = 1;
+    loop {
+        match next(part, at) {
+            ItemAt::Need { prop, after } => {
+                if !has[prop] {
+                    return false;
+                }
+                at = after;
+            }
+            ItemAt::Condition {
+                comparison: _,
+                bound,
+                from,
+                terms,
+                after,
+            } => {
+                if !condition_reached(part, bound, from, terms, layer) {
+                    return false;
+                }
+                at = after;
+            }
+            ItemAt::Add { prop: _, after } => {
+                at = after;
+            }
+            ItemAt::Delete { prop: _, after } => {
+                at = after;
+            }
+            ItemAt::Effect {
+                kind: _,
+                var: _,
+                base: _,
+                from: _,
+                terms: _,
+                after,
+            } => {
+                at = after;
+            }
+            ItemAt::End => {
+                return true;
+            }
+        }
+    }
+}
+
+// The block's effect on the variable `v`.
+pub fn effect_on(part: &[u8], v: usize) -> Change
+    requires { ⌜ Readable (now part) 1 ⌝ }
+    ensures { λ r. ⌜ IsEffectOn (now (part .entry)) v r ⌝ }
+{
+    let mut at = 1;
+    loop {
+        match next(part, at) {
+            ItemAt::Effect {
+                kind,
+                var,
+                base,
+                from,
+                terms,
+                after,
+            } => {
+                if var == v {
+                    return Change::By {
+                        kind,
+                        base,
+                        from,
+                        terms,
+                    };
+                }
+                at = after;
+            }
+            ItemAt::Need { prop: _, after } => {
+                at = after;
+            }
+            ItemAt::Add { prop: _, after } => {
+                at = after;
+            }
+            ItemAt::Delete { prop: _, after } => {
+                at = after;
+            }
+            ItemAt::Condition {
+                comparison: _,
+                bound: _,
+                from: _,
+                terms: _,
+                after,
+            } => {
+                at = after;
+            }
+            ItemAt::End => {
+                return Change::Nothing;
+            }
+        }
+    }
+}
+
+// Does the block add the proposition `p`?
+pub fn adds(part: &[u8], p: usize) -> bool
+    requires { ⌜ Readable (now part) 1 ⌝ }
+    ensures { λ r. ⌜ IsAdds p (now (part .entry)) r ⌝ }
+{
+    let mut at = 1;
+    loop {
+        match next(part, at) {
+            ItemAt::Add { prop, after } => {
+                if prop == p {
+                    return true;
+                }
+                at = after;
+            }
+            ItemAt::Need { prop: _, after } => {
+                at = after;
+            }
+            ItemAt::Delete { prop: _, after } => {
+                at = after;
+            }
+            ItemAt::Condition {
+                comparison: _,
+                bound: _,
+                from: _,
+                terms: _,
+                after,
+            } => {
+                at = after;
+            }
+            ItemAt::Effect {
+                kind: _,
+                var: _,
+                base: _,
+                from: _,
+                terms: _,
+                after,
+            } => {
+                at = after;
+            }
+            ItemAt::End => {
+                return false;
+            }
+        }
+    }
+}
