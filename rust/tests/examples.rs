@@ -1,0 +1,60 @@
+//! The example campaigns: each commented listing is its binary table, and each prints what is expected.
+
+use std::fs;
+use std::path::{Path, PathBuf};
+
+use campaign::reference;
+
+fn examples() -> Vec<PathBuf> {
+    let folder = Path::new(env!("CARGO_MANIFEST_DIR")).join("../examples");
+    let mut found: Vec<PathBuf> = fs::read_dir(folder)
+        .expect("the examples")
+        .map(|entry| entry.expect("an example").path())
+        .filter(|path| path.is_dir())
+        .collect();
+    found.sort();
+    assert!(found.len() >= 4, "examples are missing");
+    found
+}
+
+fn read(path: &Path, name: &str) -> Vec<u8> {
+    fs::read(path.join(name)).unwrap_or_else(|e| panic!("{}/{name}: {e}", path.display()))
+}
+
+/// The bytes of a listing: hexadecimal digits before each `#`.
+fn bytes_of_listing(text: &str) -> Vec<u8> {
+    let digits: Vec<u8> = text
+        .lines()
+        .flat_map(|line| line.split('#').next().unwrap_or("").bytes())
+        .filter(|byte| !byte.is_ascii_whitespace())
+        .map(|byte| (byte as char).to_digit(16).expect("a hexadecimal digit") as u8)
+        .collect();
+    assert_eq!(digits.len() % 2, 0, "half a byte");
+    digits.chunks(2).map(|pair| pair[0] * 16 + pair[1]).collect()
+}
+
+#[test]
+fn each_listing_is_its_table() {
+    for example in examples() {
+        let listing = String::from_utf8(read(&example, "task.hex")).expect("text");
+        assert_eq!(
+            bytes_of_listing(&listing),
+            read(&example, "task.bin"),
+            "{}",
+            example.display()
+        );
+    }
+}
+
+#[test]
+fn each_example_prints_what_is_expected() {
+    for example in examples() {
+        let printed = reference::listing(&read(&example, "task.bin"), &read(&example, "state.bin"));
+        assert_eq!(
+            printed.as_bytes(),
+            read(&example, "expected.txt"),
+            "{}",
+            example.display()
+        );
+    }
+}
