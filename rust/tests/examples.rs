@@ -30,7 +30,10 @@ fn bytes_of_listing(text: &str) -> Vec<u8> {
         .map(|byte| (byte as char).to_digit(16).expect("a hexadecimal digit") as u8)
         .collect();
     assert_eq!(digits.len() % 2, 0, "half a byte");
-    digits.chunks(2).map(|pair| pair[0] * 16 + pair[1]).collect()
+    digits
+        .chunks(2)
+        .map(|pair| pair[0] * 16 + pair[1])
+        .collect()
 }
 
 #[test]
