@@ -6,7 +6,7 @@ use mathlib.Core.Bool.{Bool, true, false, _||_}
 use mathlib.Core.List.{List, [], _∷_}
 use mathlib.Core.Option.{Option, none, some}
 use native.Mathlib.Omega.{arith}
-use lib.Dec.{T, not-T, ltb, ltb→lt, nltb→le, lit≤}
+use lib.Dec.{T, not-T, leb, ltb, ltb→lt, nltb→le, lit≤}
 use lib.IntN.{ℤ}
 use lib.ListN.{length}
 use Rattle.model.specs.declared.Refusal.{Refusal}
@@ -28,7 +28,7 @@ use Rattle.model.specs.Memory.{wrong15, wrong14, Built, answered, stoppe
 use Rattle.model.specs.Plan.{Record, records, firstMoves}
 use Rattle.model.specs.Reading.{Table, Verdict, accepted, refused, Wanted, only, both, reading}
 use Rattle.model.specs.StateTable.{stateOf, stateRefusal, stateBytes, valueInRange}
-use Rattle.model.specs.Calls.{readOf, readAnswer, Output, writes, turns, fitted, writeAnswer, normalBytes, normalOf, normalised, normaliseAnswer, resultOf, moved, stepWithState, stepOf, stepped, stepAnswer, Ready, ready, unready, readyWith, readyOf, prepared, decided, decideOf, decideAnswer, planRecords, planned, planFitted, planOf, planAnswer, recordBytes}
+use Rattle.model.specs.Calls.{readOf, readAnswer, noBlock, blockRefusal, Output, writes, turns, fitted, writeAnswer, normalBytes, normalOf, normalised, normaliseAnswer, resultOf, moved, stepWithState, stepOf, stepped, stepAnswer, Ready, ready, unready, readyWith, readyOf, prepared, decided, decideOf, decideAnswer, planRecords, planned, planFitted, planOf, planAnswer, recordBytes}
 use Rattle.model.specs.Theorems.WellFormed.{TaskOk, VarsOk}
 use Rattle.model.specs.Theorems.Searching.{firstFrom-cases}
 use Rattle.model.specs.Theorems.Accepted.{reading-ok, reading-head, reading-form}
@@ -89,7 +89,7 @@ fitted-small size n (turns r) h = h
 fitted-small size n (writes bs) h = go (ltb size (length bs)) (nltb→le size (length bs))
   where
     go : (b : Bool) → (T (mathlib.Core.Bool.not b) → length bs ≤ size) → WriteSmall size n (writeAnswer (elim b [ true ↦ turns (record { number = 13; place = 0 }) | false ↦ writes bs ]))
-    go true f = record { number = lit≤ tt; place = omega arith }
+    go true f = record { positive = lit≤ tt; number = lit≤ tt; place = omega arith }
     go false f = f tt
 
 pub normalise-small : (t out : List ℕ) → WriteSmall (length out) (length t + 3) (normaliseAnswer paper t out)
@@ -112,8 +112,8 @@ moved-small n k s b = go (applicable s (moveAt k b)) (allBelow (λ v. valueInRan
           | false ↦ turns (record { number = 11; place = 0 })
         ])
     go true true = tt
-    go true false = record { number = lit≤ tt; place = omega arith }
-    go false c = record { number = lit≤ tt; place = omega arith }
+    go true false = record { positive = lit≤ tt; number = lit≤ tt; place = omega arith }
+    go false c = record { positive = lit≤ tt; number = lit≤ tt; place = omega arith }
 
 -- the places of a table and of a state
 abbrev pub callLimit : List ℕ → ℕ
@@ -125,7 +125,7 @@ step-small t bs b out = fitted-small (length out) (callLimit t) (stepOf paper (r
   where
     chosen : (k : Task) (c : Bool) → TurnSmall (callLimit t) (elim c [ true ↦ moved paper k (stateOf (k .props) bs) b | false ↦ turns (record { number = 10; place = 0 }) ])
     chosen k true = moved-small (callLimit t) k (stateOf (k .props) bs) b
-    chosen k false = record { number = lit≤ tt; place = omega arith }
+    chosen k false = record { positive = lit≤ tt; number = lit≤ tt; place = omega arith }
 
     by-state :
         (k : Table) → reading paper (only written) t ≡ accepted k → (r : Option Refusal)
@@ -167,20 +167,20 @@ prepared-small t bs = go (reading paper (only normal) t) refl (reading-refused p
     go (accepted k) e h = by-state k e (stateRefusal paper (k .task .props) (k .task .vars / 2) bs) (state-refused paper (k .task .props) (k .task .vars / 2) bs)
     go (refused r) e h = small-wider (omega arith) h
 
-stop-small : (b : Bool) → stopNumber b ≤ 15
+stop-small : (b : Bool) → (1 ≤ stopNumber b) × (stopNumber b ≤ 15)
 unfolding stopNumber
-stop-small true = lit≤ tt
-stop-small false = lit≤ tt
+stop-small true = (lit≤ tt, lit≤ tt)
+stop-small false = (lit≤ tt, lit≤ tt)
 
 abbrev BuiltSmall : Task → State → Built → Type 0
 BuiltSmall k s (answered o) = o ≡ outcome k s
-BuiltSmall k s (stopped n m) = (n ≤ 15) × (m ≤ reported (outcome k s))
+BuiltSmall k s (stopped n m) = (1 ≤ n) × (n ≤ 15) × (m ≤ reported (outcome k s))
 
 build-small : (k : Task) (s : State) (size : ℕ) → BuiltSmall k s (build paper k s size)
 unfolding build stopAt
 build-small k s size =
     firstFrom-cases refuses (λ (o : Option ℕ). BuiltSmall k s (stopAt paper k s o (outcome k s))) 0 (suc (reported (outcome k s)))
-    (λ t low high bad before. (stop-small (wrong15 paper k s t), omega arith))
+    (λ t low high bad before. (stop-small (wrong15 paper k s t) .0, stop-small (wrong15 paper k s t) .1, omega arith))
     (λ never. refl)
   where
     refuses : ℕ → Bool
@@ -208,7 +208,7 @@ decide-small t bs layers = go (prepared paper t bs) (prepared-small t bs)
     by-built k s ok (answered (reached m)) h =
         let most : m ≤ 3201 = subst (λ (o : Outcome). reported o ≤ 3201) (sym h) (reported-most ok s) in (most, most)
     by-built k s ok (answered (exhausted m)) h = subst (λ (o : Outcome). reported o ≤ 3201) (sym h) (reported-most ok s)
-    by-built k s ok (stopped n m) h = record { number = h .0; place = omega (arith, h .1, reported-most ok s) }
+    by-built k s ok (stopped n m) h = record { positive = h .0; number = h .1; place = omega (arith, h .2, reported-most ok s) }
 
     go : (r : Ready) → ReadySmall t r → DecideSmall (layerLimit t) (decideOf paper (length layers) r)
     go (ready k s) ok = by-built k s ok (build paper k s (length layers)) (build-small k s (length layers))
@@ -224,12 +224,12 @@ plan-small t bs layers out = go (prepared paper t bs) (prepared-small t bs)
         (most, most, records-most ok s m most, firstMoves-small ok s m)
     by-built k s ok (answered (exhausted m)) h =
         (subst (λ (o : Outcome). reported o ≤ 3201) (sym h) (reported-most ok s), lit≤ tt, lit≤ tt)
-    by-built k s ok (stopped n m) h = record { number = h .0; place = omega (arith, h .1, reported-most ok s) }
+    by-built k s ok (stopped n m) h = record { positive = h .0; number = h .1; place = omega (arith, h .2, reported-most ok s) }
 
     by-room :
         (k : Task) (s : State) → TaskOk paper normal k → (short : Bool) (b : Built) → BuiltSmall k s b
         → PlanSmall (layerLimit t) (elim short [ true ↦ plan.Refused (record { number = 13; place = 0 }) | false ↦ planned (planRecords k s b) b ])
-    by-room k s ok true b h = record { number = lit≤ tt; place = omega arith }
+    by-room k s ok true b h = record { positive = lit≤ tt; number = lit≤ tt; place = omega arith }
     by-room k s ok false b h = by-built k s ok b h
 
     go : (r : Ready) → ReadySmall t r → PlanSmall (layerLimit t) (planOf paper (length layers) (length out) r)
@@ -237,3 +237,18 @@ plan-small t bs layers out = go (prepared paper t bs) (prepared-small t bs)
         by-room k s ok (ltb (length out) (length (recordBytes (planRecords k s (build paper k s (length layers))))))
         (build paper k s (length layers)) (build-small k s (length layers))
     go (unready r) small = small-wider (omega arith) small
+
+-- ---- the block reader
+
+-- a refusal of the block reader is small, and has a number
+pub block-small : (t : List ℕ) (b : ℕ) → IfSome (Small (length t + 3)) (blockRefusal paper t b)
+unfolding blockRefusal noBlock
+block-small t b = go (reading paper both t) (reading-refused paper both t)
+  where
+    chosen : (k : Table) (c : Bool) → IfSome (Small (length t + 3)) (elim c [ true ↦ none | false ↦ some (record { number = 10; place = 0 }) ])
+    chosen k true = tt
+    chosen k false = record { positive = lit≤ tt; number = lit≤ tt; place = omega arith }
+
+    go : (v : Verdict) → IfRefused (Small (length t + 3)) v → IfSome (Small (length t + 3)) (noBlock b v)
+    go (accepted k) h = chosen k (leb b (k .header .moves))
+    go (refused r) h = h

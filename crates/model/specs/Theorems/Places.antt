@@ -1,4 +1,4 @@
--- The numbers and places of refusals are small: a number is at most 15, and a place of a table stands at most three bytes behind
+-- The numbers and places of refusals are small: a number is 1 to 15, and a place of a table stands at most three bytes behind
 -- its end. Assumes nothing.
 use Prim.Native.Nat.{ℕ, zero, suc, _+_, _*_, _≤_, _<_}
 use mathlib.Core.Path.{_≡_, refl, subst}
@@ -19,6 +19,7 @@ use Rattle.model.specs.Theorems.WellFormed.{All}
 use Rattle.model.specs.Theorems.Searching.{firstFrom-cases}
 
 pub record Small (limit : ℕ) (r : Refusal) : Type 0 where
+  pub positive : 1 ≤ r .number
   pub number : r .number ≤ 15
   pub place : r .place ≤ limit
 
@@ -39,10 +40,10 @@ first-small P [] h = tt
 first-small P (none ∷ rs) h = first-small P rs (h .1)
 first-small P (some r ∷ rs) h = h .0
 
-refusedAt-small : (limit n : ℕ) (b : Bool) (p : ℕ) → n ≤ 15 → p ≤ limit → IfSome (Small limit) (refusedAt n b p)
+refusedAt-small : (limit n : ℕ) (b : Bool) (p : ℕ) → 1 ≤ n → n ≤ 15 → p ≤ limit → IfSome (Small limit) (refusedAt n b p)
 unfolding refusedAt
-refusedAt-small limit n true p h k = record { number = h; place = k }
-refusedAt-small limit n false p h k = tt
+refusedAt-small limit n true p g h k = record { positive = g; number = h; place = k }
+refusedAt-small limit n false p g h k = tt
 
 abbrev Near : Operand → Type 0
 Near o = o .offset ≤ 3
@@ -70,7 +71,7 @@ operand-small p (o ∷ os) h = go (o .inRange) (operand-small p os (h .1))
         (b : Bool) → IfSome (Small (p + 3)) (refusedOperand p (firstWrong os))
         → IfSome (Small (p + 3)) (refusedOperand p (elim b [ true ↦ firstWrong os | false ↦ some (o .offset) ]))
     go true rest = rest
-    go false rest = record { number = lit≤ tt; place = omega (arith, h .0) }
+    go false rest = record { positive = lit≤ tt; number = lit≤ tt; place = omega (arith, h .0) }
 
 refusal-small : (L : Limits) (w : Wanted) (t : List ℕ) (s : Seen) (c : Command) → IfSome (Small (s .at + 3)) (refusal L w t s c)
 unfolding refusal
@@ -82,14 +83,14 @@ refusal-small L w t s c =
     ∷ refusedOperand (s .at) (firstWrong (operands L t s c))
     ∷ refusedAt 5 (wrong5 L t s c) (s .at)
     ∷ []) (
-      refusedAt-small (s .at + 3) 3 (wrong3 w s c) (s .at) (lit≤ tt) (omega arith),
+      refusedAt-small (s .at + 3) 3 (wrong3 w s c) (s .at) (lit≤ tt) (lit≤ tt) (omega arith),
       (
-        refusedAt-small (s .at + 3) 2 (wrong2 t s c) (s .at) (lit≤ tt) (omega arith),
+        refusedAt-small (s .at + 3) 2 (wrong2 t s c) (s .at) (lit≤ tt) (lit≤ tt) (omega arith),
         (
-          refusedAt-small (s .at + 3) 6 (wrong6 s c) (s .at) (lit≤ tt) (omega arith),
+          refusedAt-small (s .at + 3) 6 (wrong6 s c) (s .at) (lit≤ tt) (lit≤ tt) (omega arith),
           (
             operand-small (s .at) (operands L t s c) (operands-near L t s c),
-            (refusedAt-small (s .at + 3) 5 (wrong5 L t s c) (s .at) (lit≤ tt) (omega arith), tt),
+            (refusedAt-small (s .at + 3) 5 (wrong5 L t s c) (s .at) (lit≤ tt) (lit≤ tt) (omega arith), tt),
           ),
         ),
       ),
@@ -98,27 +99,27 @@ refusal-small L w t s c =
 -- ---- the whole table
 
 pub small-wider : {m n : ℕ} {r : Refusal} → m ≤ n → Small m r → Small n r
-small-wider h s = record { number = s .number; place = omega (arith, s .place) }
+small-wider h s = record { positive = s .positive; number = s .number; place = omega (arith, s .place) }
 
 verdict-small : (t : List ℕ) (k : Table) → IfRefused (Small (length t + 3)) (verdictOf k)
 unfolding verdictOf
 verdict-small t k = go (circular (k .task))
   where
     go : (b : Bool) → IfRefused (Small (length t + 3)) (elim b [ true ↦ refused (record { number = 7; place = 0 }) | false ↦ accepted k ])
-    go true = record { number = lit≤ tt; place = omega arith }
+    go true = record { positive = lit≤ tt; number = lit≤ tt; place = omega arith }
     go false = tt
 
 end-small : (t : List ℕ) (s : Seen) (p : Place) → IfRefused (Small (length t + 3)) (atEnd t s p)
 unfolding atEnd
-end-small t s start = record { number = lit≤ tt; place = omega arith }
-end-small t s preamble = record { number = lit≤ tt; place = omega arith }
-end-small t s inMove = record { number = lit≤ tt; place = omega arith }
-end-small t s inGoal = record { number = lit≤ tt; place = omega arith }
+end-small t s start = record { positive = lit≤ tt; number = lit≤ tt; place = omega arith }
+end-small t s preamble = record { positive = lit≤ tt; number = lit≤ tt; place = omega arith }
+end-small t s inMove = record { positive = lit≤ tt; number = lit≤ tt; place = omega arith }
+end-small t s inGoal = record { positive = lit≤ tt; number = lit≤ tt; place = omega arith }
 end-small t s finished = verdict-small t (tableOf s)
 
 readFrom-small : (L : Limits) (w : Wanted) (t : List ℕ) (n : ℕ) (s : Seen) → IfRefused (Small (length t + 3)) (readFrom L w t n s)
 unfolding readFrom readCommand stepWith continue
-readFrom-small L w t zero s = record { number = lit≤ tt; place = omega arith }
+readFrom-small L w t zero s = record { positive = lit≤ tt; number = lit≤ tt; place = omega arith }
 readFrom-small L w t (suc n) s = go (ltb (s .at) (length t)) (ltb→lt (s .at) (length t)) (λ d. readFrom-small L w t n d)
   where
     c : Command
@@ -151,7 +152,7 @@ unfolding reading
 reading-refused L w t = go (ltb (lengthLimit L w t) (length t))
   where
     go : (b : Bool) → IfRefused (Small (length t + 3)) (elim b [ true ↦ refused (record { number = 1; place = 0 }) | false ↦ readFrom L w t (suc (length t)) nothingSeen ])
-    go true = record { number = lit≤ tt; place = omega arith }
+    go true = record { positive = lit≤ tt; number = lit≤ tt; place = omega arith }
     go false = readFrom-small L w t (suc (length t)) nothingSeen
 
 -- ---- a state
@@ -169,14 +170,14 @@ state-refused L props vars bs = go (eqb (length bs) (valueOffset props vars))
     value : IfSome (Small (props + 4 * vars)) (refusedValue props (firstFrom wrongValue 0 vars))
     value =
         firstFrom-cases wrongValue (λ (o : Option ℕ). IfSome (Small (props + 4 * vars)) (refusedValue props o)) 0 vars
-        (λ v low high bad before. record { number = lit≤ tt; place = omega arith })
+        (λ v low high bad before. record { positive = lit≤ tt; number = lit≤ tt; place = omega arith })
         (λ never. tt)
 
     byte : IfSome (Small (props + 4 * vars)) (refusedByte (firstFrom wrongByte 0 props) (refusedValue props (firstFrom wrongValue 0 vars)))
     byte =
         firstFrom-cases wrongByte
         (λ (o : Option ℕ). IfSome (Small (props + 4 * vars)) (refusedByte o (refusedValue props (firstFrom wrongValue 0 vars)))) 0 props
-        (λ p low high bad before. record { number = lit≤ tt; place = omega arith })
+        (λ p low high bad before. record { positive = lit≤ tt; number = lit≤ tt; place = omega arith })
         (λ never. value)
 
     go :
@@ -187,4 +188,4 @@ state-refused L props vars bs = go (eqb (length bs) (valueOffset props vars))
           | false ↦ some (record { number = 8; place = 0 })
         ])
     go true = byte
-    go false = record { number = lit≤ tt; place = omega arith }
+    go false = record { positive = lit≤ tt; number = lit≤ tt; place = omega arith }
