@@ -2,15 +2,52 @@
 
 use crate::answer::Refusal;
 use crate::engine::Engine;
+use crate::generate::Rng;
 use crate::guarded::Guarded;
-use std::fmt;
+use std::fmt::{self, Write};
 
-/// The byte every output holds before a call.
-const OUTPUT_FILL: u8 = 0xA5;
+/// What outputs and layer memory hold before a call.
+#[derive(Clone, Copy, Debug, PartialEq, Eq)]
+pub enum Fill {
+    /// As in the files of outcomes: A5, and −1000 − i for number i.
+    Recorded,
+    /// Contents that look like an earlier result, from a seed.
+    Seeded(u64),
+}
 
-/// Number i of the layer memory before a call.
-fn memory_fill(i: usize) -> i64 {
-    -1000 - i as i64
+impl Fill {
+    fn byte(self, i: usize) -> u8 {
+        match self {
+            Fill::Recorded => 0xA5,
+            Fill::Seeded(seed) => Rng::new(seed ^ i as u64).byte(),
+        }
+    }
+
+    fn number(self, i: usize) -> i64 {
+        match self {
+            Fill::Recorded => -1000 - i as i64,
+            Fill::Seeded(seed) => stale_number(&mut Rng::new(seed ^ i as u64)),
+        }
+    }
+
+    fn output(self, room: usize) -> Guarded<u8> {
+        Guarded::filled(room, |i| self.byte(i))
+    }
+
+    fn memory(self, numbers: usize) -> Guarded<i64> {
+        Guarded::filled(numbers, |i| self.number(i))
+    }
+}
+
+/// A number as layers and entries have them, or any other.
+fn stale_number(rng: &mut Rng) -> i64 {
+    match rng.below(8) {
+        0 | 1 => i64::MAX,
+        2 => -1,
+        3 => rng.below(4) as i64,
+        4 => *rng.pick(&[i64::MIN, i64::MAX - 1, 1_000_000_000_000, -1_000_000]),
+        _ => rng.next_u64() as i64,
+    }
 }
 
 /// The calls that have recorded outcomes.
@@ -35,6 +72,19 @@ impl CallKind {
         CallKind::Plan,
         CallKind::Listing,
     ];
+
+    /// How many outcomes are recorded.
+    pub fn lines(self) -> usize {
+        match self {
+            CallKind::Read => 443,
+            CallKind::Block => 296,
+            CallKind::Normalise => 436,
+            CallKind::Step => 599,
+            CallKind::Decide => 637,
+            CallKind::Plan => 617,
+            CallKind::Listing => 264,
+        }
+    }
 
     /// The file of this call's outcomes.
     pub fn file(self) -> &'static str {
@@ -146,27 +196,35 @@ impl Call {
     /// All buffers are guarded. A broken canary, a changed input or a block outside
     /// the table is an error.
     pub fn run(&self, engine: &dyn Engine) -> Result<String, String> {
+        self.run_over(engine, Fill::Recorded)
+    }
+
+    /// The same with other contents of all outputs before the call.
+    pub fn run_over(&self, engine: &dyn Engine, fill: Fill) -> Result<String, String> {
         match self {
             Call::Read { table } => run_read(engine, table),
             Call::Block { table, block } => run_block(engine, table, *block),
-            Call::Normalise { table, room } => run_normalise(engine, table, *room),
+            Call::Normalise { table, room } => run_normalise(engine, table, fill.output(*room)),
             Call::Step {
                 table,
                 state,
                 mv,
                 room,
-            } => run_step(engine, table, state, *mv, *room),
+            } => run_step(engine, table, state, *mv, fill.output(*room)),
             Call::Decide {
                 table,
                 state,
                 numbers,
-            } => run_decide(engine, table, state, *numbers),
+            } => run_decide(engine, table, state, fill.memory(*numbers)),
             Call::Plan {
                 table,
                 state,
                 numbers,
                 room,
-            } => run_plan(engine, table, state, *numbers, *room),
+            } => {
+                let memory = fill.memory(*numbers);
+                run_plan(engine, table, state, memory, fill.output(*room))
+            }
             Call::Listing { task, state } => run_listing(engine, task, state),
         }
     }
@@ -227,9 +285,12 @@ fn is_part(part: &[u8], whole: &[u8]) -> bool {
     whole.start <= part.start && part.end <= whole.end
 }
 
-fn run_normalise(engine: &dyn Engine, table: &[u8], room: usize) -> Result<String, String> {
+fn run_normalise(
+    engine: &dyn Engine,
+    table: &[u8],
+    mut out: Guarded<u8>,
+) -> Result<String, String> {
     let table_lent = Guarded::holding(table);
-    let mut out = output(room);
     let answer = engine.normalise(table_lent.lent(), out.lend());
     table_lent.check_unchanged("table", table)?;
     out.check("out")?;
@@ -245,10 +306,9 @@ fn run_step(
     table: &[u8],
     state: &[u8],
     mv: u64,
-    room: usize,
+    mut out: Guarded<u8>,
 ) -> Result<String, String> {
     let inputs = Inputs::holding(table, state);
-    let mut out = output(room);
     let answer = engine.step(inputs.table.lent(), inputs.state.lent(), mv, out.lend());
     inputs.check(table, state)?;
     out.check("out")?;
@@ -263,10 +323,9 @@ fn run_decide(
     engine: &dyn Engine,
     table: &[u8],
     state: &[u8],
-    numbers: usize,
+    mut memory: Guarded<i64>,
 ) -> Result<String, String> {
     let inputs = Inputs::holding(table, state);
-    let mut memory = Guarded::filled(numbers, memory_fill);
     let answer = engine.decide(inputs.table.lent(), inputs.state.lent(), memory.lend());
     inputs.check(table, state)?;
     memory.check("memory")?;
@@ -281,12 +340,10 @@ fn run_plan(
     engine: &dyn Engine,
     table: &[u8],
     state: &[u8],
-    numbers: usize,
-    room: usize,
+    mut memory: Guarded<i64>,
+    mut out: Guarded<u8>,
 ) -> Result<String, String> {
     let inputs = Inputs::holding(table, state);
-    let mut memory = Guarded::filled(numbers, memory_fill);
-    let mut out = output(room);
     let answer = engine.plan(
         inputs.table.lent(),
         inputs.state.lent(),
@@ -331,10 +388,6 @@ impl Inputs {
     }
 }
 
-fn output(room: usize) -> Guarded<u8> {
-    Guarded::filled(room, |_| OUTPUT_FILL)
-}
-
 fn refused(refusal: Refusal) -> String {
     refusal.to_string()
 }
@@ -348,7 +401,9 @@ pub fn hex(bytes: &[u8]) -> String {
     if bytes.is_empty() {
         return "-".into();
     }
-    bytes.iter().map(|byte| format!("{byte:02x}")).collect()
+    let digit = |value: u8| char::from(b"0123456789abcdef"[usize::from(value)]);
+    let digits = |byte: &u8| [digit(byte >> 4), digit(byte & 15)];
+    bytes.iter().flat_map(digits).collect()
 }
 
 /// Bytes from hexadecimal, `-` for none.
@@ -383,8 +438,11 @@ fn decimal(numbers: &[i64]) -> String {
     if numbers.is_empty() {
         return "-".into();
     }
-    let texts: Vec<String> = numbers.iter().map(i64::to_string).collect();
-    texts.join(" ")
+    let mut text = String::new();
+    for number in numbers {
+        write!(text, " {number}").expect("a string takes all that is written");
+    }
+    text.split_off(1)
 }
 
 /// The fields of a line, one after the other.
@@ -435,6 +493,14 @@ mod tests {
         assert!(Call::parse(CallKind::Read, "45 0").is_err());
         assert!(Call::parse(CallKind::Block, "45").is_err());
         assert!(Call::parse(CallKind::Block, "45 -1").is_err());
+    }
+
+    #[test]
+    fn bytes_and_numbers_are_printed() {
+        assert_eq!(hex(&[0, 0x9A, 0xFF]), "009aff");
+        assert_eq!(hex(&[]), "-");
+        assert_eq!(decimal(&[-1, 0, i64::MAX]), "-1 0 9223372036854775807");
+        assert_eq!(decimal(&[]), "-");
     }
 
     #[test]

@@ -92,3 +92,71 @@ impl Engine for Reference {
         reference::listing(task, state)
     }
 }
+
+/// An engine made of single functions.
+///
+/// A program links only the functions that it names here.
+#[derive(Clone, Copy)]
+pub struct Calls {
+    pub read: Read,
+    pub block: Block,
+    pub normalise: Normalise,
+    pub step: Step,
+    pub decide: Decide,
+    pub plan: Planning,
+}
+
+type Read = fn(&[u8]) -> Result<Head, Refusal>;
+type Block = fn(&[u8], u64) -> Result<&[u8], Refusal>;
+type Normalise = fn(&[u8], &mut [u8]) -> Result<usize, Refusal>;
+type Step = fn(&[u8], &[u8], u64, &mut [u8]) -> Result<usize, Refusal>;
+type Decide = fn(&[u8], &[u8], &mut [i64]) -> Result<Decision, Refusal>;
+type Planning = fn(&[u8], &[u8], &mut [i64], &mut [u8]) -> Result<Plan, Refusal>;
+
+impl Calls {
+    /// No call at all: each panics.
+    pub const NONE: Calls = Calls {
+        read: |_| absent("read"),
+        block: |_, _| absent("block"),
+        normalise: |_, _| absent("normalise"),
+        step: |_, _, _, _| absent("step"),
+        decide: |_, _, _| absent("decide"),
+        plan: |_, _, _, _| absent("plan"),
+    };
+}
+
+fn absent(call: &str) -> ! {
+    panic!("this engine has no call {call}")
+}
+
+impl Engine for Calls {
+    fn read(&self, table: &[u8]) -> Result<Head, Refusal> {
+        (self.read)(table)
+    }
+
+    fn block<'t>(&self, table: &'t [u8], b: u64) -> Result<&'t [u8], Refusal> {
+        (self.block)(table, b)
+    }
+
+    fn normalise(&self, table: &[u8], out: &mut [u8]) -> Result<usize, Refusal> {
+        (self.normalise)(table, out)
+    }
+
+    fn step(&self, table: &[u8], state: &[u8], mv: u64, out: &mut [u8]) -> Result<usize, Refusal> {
+        (self.step)(table, state, mv, out)
+    }
+
+    fn decide(&self, table: &[u8], state: &[u8], layers: &mut [i64]) -> Result<Decision, Refusal> {
+        (self.decide)(table, state, layers)
+    }
+
+    fn plan(
+        &self,
+        table: &[u8],
+        state: &[u8],
+        layers: &mut [i64],
+        out: &mut [u8],
+    ) -> Result<Plan, Refusal> {
+        (self.plan)(table, state, layers, out)
+    }
+}

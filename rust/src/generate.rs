@@ -3,6 +3,7 @@
 mod call;
 mod damage;
 mod rng;
+mod sizes;
 mod task;
 mod tuned;
 
@@ -13,5 +14,6 @@ pub use damage::{
     wrong_state,
 };
 pub use rng::Rng;
-pub use task::{state_for, task, Task};
-pub use tuned::{at_value_limit, full_length, waves};
+pub use sizes::Sizes;
+pub use task::{state_for, task, task_of, Task};
+pub use tuned::{at_value_limit, dense, full_length, large_values, m1, steep, waves};

@@ -22,6 +22,12 @@ impl Canary for i64 {
     }
 }
 
+impl Canary for u64 {
+    fn canary(position: usize) -> u64 {
+        i64::canary(position) as u64
+    }
+}
+
 /// A buffer to lend, in the middle of canaries.
 #[derive(Clone, Debug)]
 pub struct Guarded<T> {

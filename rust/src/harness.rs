@@ -1,10 +1,13 @@
 //! Recorded outcomes, run line by line on any engine.
 
 use crate::answer::{Plan, Refusal};
-use crate::call::{Call, CallKind};
+use crate::call::{Call, CallKind, Fill};
 use crate::engine::Engine;
 use crate::guarded::Guarded;
 use std::fmt;
+use std::fs;
+use std::panic::{catch_unwind, AssertUnwindSafe};
+use std::path::Path;
 
 /// The first line whose outcome differs.
 #[derive(Clone, Debug, PartialEq, Eq)]
@@ -26,11 +29,31 @@ impl fmt::Display for Difference {
     }
 }
 
+/// The file of a call's outcomes.
+///
+/// # Panics
+/// If it cannot be read.
+pub fn outcomes(kind: CallKind) -> String {
+    let folder = Path::new(env!("CARGO_MANIFEST_DIR")).join("tests/data");
+    fs::read_to_string(folder.join(kind.file())).expect("the file of outcomes is there")
+}
+
+/// Runs every line of a call's file.
+///
+/// # Panics
+/// At the first line that differs, and if a line is missing.
+pub fn check_lines(engine: &dyn Engine, kind: CallKind) {
+    match run_lines(engine, kind, &outcomes(kind)) {
+        Ok(count) => assert_eq!(count, kind.lines(), "lines of {}", kind.file()),
+        Err(difference) => panic!("{difference}"),
+    }
+}
+
 /// Runs every line of a file and answers how many there are.
 pub fn run_lines(engine: &dyn Engine, kind: CallKind, text: &str) -> Result<usize, Difference> {
     for (i, line) in text.lines().enumerate() {
         let (call, expected) = line.split_once(" -> ").unwrap_or((line, ""));
-        let outcome = Call::parse(kind, call).and_then(|call| call.run(engine));
+        let outcome = Call::parse(kind, call).and_then(|call| run(&call, Fill::Recorded, engine));
         if outcome.as_deref() != Ok(expected) {
             return Err(Difference {
                 file: kind.file(),
@@ -46,11 +69,23 @@ pub fn run_lines(engine: &dyn Engine, kind: CallKind, text: &str) -> Result<usiz
 
 /// Runs one call on two engines; an error shows the call and both outcomes.
 pub fn compare(call: &Call, one: &dyn Engine, other: &dyn Engine) -> Result<(), Difference> {
-    let [expected, got] = [call.run(one), call.run(other)]
-        .map(|outcome| outcome.unwrap_or_else(|error| format!("error: {error}")));
-    if expected == got {
-        return Ok(());
-    }
+    compare_over(call, Fill::Recorded, one, other).map(drop)
+}
+
+/// The same with other contents of all outputs before the call; answers the outcome.
+pub fn compare_over(
+    call: &Call,
+    fill: Fill,
+    one: &dyn Engine,
+    other: &dyn Engine,
+) -> Result<String, Difference> {
+    let outcomes = [one, other].map(|engine| run(call, fill, engine));
+    let [expected, got] = match outcomes {
+        [Ok(expected), Ok(got)] if expected == got => return Ok(got),
+        outcomes => {
+            outcomes.map(|outcome| outcome.unwrap_or_else(|error| format!("error: {error}")))
+        }
+    };
     Err(Difference {
         file: call.kind().file(),
         line: 0,
@@ -58,6 +93,12 @@ pub fn compare(call: &Call, one: &dyn Engine, other: &dyn Engine) -> Result<(), 
         expected,
         got,
     })
+}
+
+/// Runs a call; a panic is an error.
+fn run(call: &Call, fill: Fill, engine: &dyn Engine) -> Result<String, String> {
+    let outcome = catch_unwind(AssertUnwindSafe(|| call.run_over(engine, fill)));
+    outcome.unwrap_or_else(|_| Err("the call panics".into()))
 }
 
 /// The normal form of a written table.

@@ -1,5 +1,8 @@
 //! The campaign planning engine in plain Rust: a reference for every call,
-//! a generator of inputs, and a harness that runs any engine over recorded outcomes.
+//! a generator of inputs, a harness that runs any engine over recorded outcomes, and the
+//! proved engine behind the same trait.
+
+#![deny(unsafe_code)]
 
 pub mod answer;
 pub mod call;
@@ -7,4 +10,6 @@ pub mod engine;
 pub mod generate;
 pub mod guarded;
 pub mod harness;
+pub mod proved;
 pub mod reference;
+pub mod tally;

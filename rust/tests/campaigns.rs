@@ -3,6 +3,7 @@
 use campaign::answer::{Answer, Decision, Head, Plan, Reason, Refusal};
 use campaign::call::bytes;
 use campaign::engine::{Engine, Reference};
+use campaign::generate;
 use campaign::guarded::Guarded;
 use campaign::harness::{self, Planned};
 use campaign::reference::semantics::{real_run, RealRun};
@@ -11,11 +12,7 @@ const ENGINE: &dyn Engine = &Reference;
 const U: i64 = i64::MAX;
 
 fn m1() -> Vec<u8> {
-    bytes(
-        "54 01 02 03; 41 46 01 00 00000005; 41 57 00 0001 43 00 00000003 46 01 01 00000002 \
-         46 02 00 00000003; 41 57 00 0001 43 00 0000000A 2B 00; \
-         47 50 00 57 01 0001 43 00 00000007; 45",
-    )
+    generate::m1().table
 }
 
 /// A written table with one variable and no proposition.

@@ -3,63 +3,47 @@
 use campaign::answer::{Decision, Head, Plan, Reason, Refusal};
 use campaign::call::CallKind;
 use campaign::engine::{Engine, Reference};
-use campaign::harness::run_lines;
-use std::path::Path;
-
-fn outcomes(kind: CallKind) -> String {
-    let path = Path::new(env!("CARGO_MANIFEST_DIR"))
-        .join("tests/data")
-        .join(kind.file());
-    std::fs::read_to_string(&path).expect("the file of outcomes is there")
-}
-
-/// Fails at the first line that differs, or if a line is missing.
-fn check(engine: &dyn Engine, kind: CallKind, lines: usize) {
-    match run_lines(engine, kind, &outcomes(kind)) {
-        Ok(count) => assert_eq!(count, lines, "lines of {}", kind.file()),
-        Err(difference) => panic!("{difference}"),
-    }
-}
+use campaign::harness::{check_lines, outcomes, run_lines};
 
 #[test]
 fn read() {
-    check(&Reference, CallKind::Read, 443);
+    check_lines(&Reference, CallKind::Read);
 }
 
 #[test]
 fn block() {
-    check(&Reference, CallKind::Block, 296);
+    check_lines(&Reference, CallKind::Block);
 }
 
 #[test]
 fn normalise() {
-    check(&Reference, CallKind::Normalise, 436);
+    check_lines(&Reference, CallKind::Normalise);
 }
 
 #[test]
 fn step() {
-    check(&Reference, CallKind::Step, 599);
+    check_lines(&Reference, CallKind::Step);
 }
 
 #[test]
 fn decide() {
-    check(&Reference, CallKind::Decide, 637);
+    check_lines(&Reference, CallKind::Decide);
 }
 
 #[test]
 fn plan() {
-    check(&Reference, CallKind::Plan, 617);
+    check_lines(&Reference, CallKind::Plan);
 }
 
 #[test]
 fn listing() {
-    check(&Reference, CallKind::Listing, 264);
+    check_lines(&Reference, CallKind::Listing);
 }
 
 /// The listing made of `normalise` and `plan` prints the same.
 #[test]
 fn listing_of_other_calls() {
-    check(&Impostor(Trick::None), CallKind::Listing, 264);
+    check_lines(&Impostor(Trick::None), CallKind::Listing);
 }
 
 /// What an impostor does otherwise than the reference.

@@ -1,10 +1,10 @@
 //! Properties of the specification on generated inputs.
 
 use campaign::answer::{Answer, Head, Reason, Refusal};
-use campaign::call::{bytes, Call};
+use campaign::call::Call;
 use campaign::engine::{Engine, Reference};
 use campaign::generate::{
-    at_value_limit, call, command_string, deletions, full_length, insertions, random_bytes,
+    self, at_value_limit, call, command_string, deletions, full_length, insertions, random_bytes,
     single_byte_changes, sized_calls, state_for, task, truncations, waves, wrong_state, Rng, Task,
 };
 use campaign::harness::{compare, layer_bound, normalised, planned, Planned};
@@ -36,11 +36,7 @@ fn normal_tasks(seed: u64, count: usize) -> impl Iterator<Item = Task> {
 }
 
 fn m1() -> Vec<u8> {
-    bytes(
-        "54 01 02 03; 41 46 01 00 00000005; 41 57 00 0001 43 00 00000003 46 01 01 00000002 \
-         46 02 00 00000003; 41 57 00 0001 43 00 0000000A 2B 00; \
-         47 50 00 57 01 0001 43 00 00000007; 45",
-    )
+    generate::m1().table
 }
 
 #[test]

@@ -5,3 +5,4 @@ pub mod Digits
 pub mod Lines
 pub mod Records
 pub mod Answer
+pub mod Plans

@@ -29,22 +29,28 @@ impl fmt::Display for Task {
 /// Conditions ask for what the moves before can reach, so plans have several layers; the
 /// moves are mixed afterwards.
 pub fn task(rng: &mut Rng, kind: Kind) -> Task {
-    let mut maker = Maker::new(rng, kind);
+    let names = random_names(rng, kind);
+    let mut maker = Maker::new(rng, kind, names);
     let moves = maker.random_move_count();
-    let mut table = maker.empty_table();
-    for i in 0..moves {
-        table.moves.push(maker.random_move());
-        if i < 12 || i % 8 == 0 {
-            maker.reach(&table);
-        }
-    }
-    maker.reach(&table);
-    maker.rng.shuffle(&mut table.moves);
-    table.goal = maker.random_goal();
-    shorten(&mut table);
-    Task {
-        table: table.encode(),
-        state: maker.state.encode(),
+    maker.task(moves)
+}
+
+/// A task with these counts of propositions, variables and moves.
+pub fn task_of(rng: &mut Rng, kind: Kind, [propositions, variables, moves]: [usize; 3]) -> Task {
+    Maker::new(rng, kind, [propositions, variables]).task(moves)
+}
+
+/// Counts of propositions and variables.
+fn random_names(rng: &mut Rng, kind: Kind) -> [usize; 2] {
+    let limits = [PROPOSITION_LIMIT, kind.variable_limit()];
+    let [propositions, variables] = match rng.below(16) {
+        0 => limits,
+        1..=3 => limits.map(|limit| rng.below(limit + 1)),
+        _ => [rng.below(5), rng.below(6)],
+    };
+    match kind {
+        Kind::Written => [propositions, variables],
+        Kind::Normal => [propositions, variables / 2 * 2],
     }
 }
 
@@ -109,17 +115,7 @@ struct Maker<'r> {
 }
 
 impl<'r> Maker<'r> {
-    fn new(rng: &'r mut Rng, kind: Kind) -> Maker<'r> {
-        let limits = [PROPOSITION_LIMIT, kind.variable_limit()];
-        let [propositions, variables] = match rng.below(16) {
-            0 => limits,
-            1..=3 => limits.map(|limit| rng.below(limit + 1)),
-            _ => [rng.below(5), rng.below(6)],
-        };
-        let variables = match kind {
-            Kind::Written => variables,
-            Kind::Normal => variables / 2 * 2,
-        };
+    fn new(rng: &'r mut Rng, kind: Kind, [propositions, variables]: [usize; 2]) -> Maker<'r> {
         let values = match kind {
             Kind::Written => variables,
             Kind::Normal => variables / 2,
@@ -146,6 +142,24 @@ impl<'r> Maker<'r> {
             state,
             rank,
             rng,
+        }
+    }
+
+    fn task(mut self, moves: usize) -> Task {
+        let mut table = self.empty_table();
+        for i in 0..moves {
+            table.moves.push(self.random_move());
+            if i < 12 || i % 8 == 0 {
+                self.reach(&table);
+            }
+        }
+        self.reach(&table);
+        self.rng.shuffle(&mut table.moves);
+        table.goal = self.random_goal();
+        shorten(&mut table);
+        Task {
+            table: table.encode(),
+            state: self.state.encode(),
         }
     }
 

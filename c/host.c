@@ -1,0 +1,139 @@
+/* A small host: reads a table and a state from files, shows the table's head and its normal form, and makes the moves
+ * that are given, one after the other. A refused move leaves the state as it is.
+ *
+ * usage: host TABLE STATE [MOVE..]
+ * Exit status: 0 if all was accepted, 1 after a refusal, 2 if a file or an argument is bad.
+ */
+#include "lapyndo.h"
+
+#include <errno.h>
+#include <inttypes.h>
+#include <stdbool.h>
+#include <stdio.h>
+#include <stdlib.h>
+#include <string.h>
+
+/* One byte more than is ever accepted, so that longer files are refused as too long. */
+static uint8_t table[LAPYNDO_NORMAL_BYTES + 1];
+static uint8_t state[LAPYNDO_STATE_BYTES + 1];
+static uint8_t normal[LAPYNDO_NORMAL_BYTES];
+static uint8_t after[LAPYNDO_STATE_BYTES];
+
+static size_t table_len, state_len, propositions;
+
+/* Fills a memory from a file as far as it goes. */
+static bool load(const char *name, uint8_t *memory, size_t room, size_t *length) {
+    FILE *file = fopen(name, "rb");
+    if (file == NULL) {
+        perror(name);
+        return false;
+    }
+    *length = fread(memory, 1, room, file);
+    bool whole = !ferror(file);
+    if (!whole) {
+        perror(name);
+    }
+    fclose(file);
+    return whole;
+}
+
+/* Shows a refusal; false if there is none. */
+static bool refused(const char *call, uint64_t answer) {
+    if (lapyndo_refusal(answer) == 0) {
+        return false;
+    }
+    printf("%s: refusal %" PRIu32 " place %" PRIu32 "\n", call, lapyndo_refusal(answer), lapyndo_place(answer));
+    return true;
+}
+
+static void show_bytes(const uint8_t *bytes, size_t length) {
+    for (size_t i = 0; i < length; i++) {
+        printf("%02x", (unsigned)bytes[i]);
+    }
+    putchar('\n');
+}
+
+static bool show_head(void) {
+    uint64_t head = lapyndo_read(table, table_len);
+    if (refused("read", head)) {
+        return false;
+    }
+    propositions = lapyndo_propositions(head);
+    printf("%s table: %u propositions, %u variables, %u moves\n",
+           lapyndo_kind(head) == LAPYNDO_WRITTEN ? "written" : "normal", lapyndo_propositions(head),
+           lapyndo_variables(head), lapyndo_moves(head));
+    return true;
+}
+
+static bool show_normal_form(void) {
+    uint64_t answer = lapyndo_normalise(table, table_len, normal, sizeof normal);
+    if (refused("normalise", answer)) {
+        return false;
+    }
+    printf("normal form, %zu bytes: ", lapyndo_length(answer));
+    show_bytes(normal, lapyndo_length(answer));
+    return true;
+}
+
+/* A value of a state: four bytes, big-endian, two's complement. */
+static int32_t value_at(const uint8_t *four) {
+    uint32_t bits = (uint32_t)four[0] << 24 | (uint32_t)four[1] << 16 | (uint32_t)four[2] << 8 | four[3];
+    return bits < UINT32_C(0x80000000) ? (int32_t)bits : -(int32_t)(UINT32_MAX - bits) - 1;
+}
+
+/* Shows an accepted state: its propositions, then its values. */
+static void show_state(uint64_t move) {
+    printf("move %" PRIu64 ":", move);
+    for (size_t i = 0; i < propositions; i++) {
+        printf(" %u", (unsigned)state[i]);
+    }
+    printf(" |");
+    for (size_t i = propositions; i + 4 <= state_len; i += 4) {
+        printf(" %" PRId32, value_at(state + i));
+    }
+    putchar('\n');
+}
+
+/* Makes one move and shows the state after it. */
+static bool make_move(uint64_t move) {
+    char call[40];
+    snprintf(call, sizeof call, "move %" PRIu64, move);
+    uint64_t answer = lapyndo_step(table, table_len, state, state_len, move, after, sizeof after);
+    if (refused(call, answer)) {
+        return false;
+    }
+    memcpy(state, after, lapyndo_length(answer));
+    show_state(move);
+    return true;
+}
+
+static bool number(const char *text, uint64_t *value) {
+    char *end;
+    errno = 0;
+    *value = strtoull(text, &end, 10);
+    bool whole = text[0] >= '0' && text[0] <= '9' && *end == '\0' && errno == 0;
+    if (!whole) {
+        fprintf(stderr, "%s: not the number of a move\n", text);
+    }
+    return whole;
+}
+
+int main(int argc, char **argv) {
+    if (argc < 3) {
+        fputs("usage: host TABLE STATE [MOVE..]\n", stderr);
+        return 2;
+    }
+    if (!load(argv[1], table, sizeof table, &table_len) || !load(argv[2], state, sizeof state, &state_len)) {
+        return 2;
+    }
+    bool accepted = show_head();
+    accepted &= show_normal_form();
+    for (int i = 3; i < argc; i++) {
+        uint64_t move;
+        if (!number(argv[i], &move)) {
+            return 2;
+        }
+        accepted &= make_move(move);
+    }
+    return accepted ? 0 : 1;
+}

@@ -1,0 +1,106 @@
+/* The campaign planning engine: reading, normalising and stepping, for hosts in C.
+ *
+ * Every call takes any bytes and answers one 64-bit number:
+ *
+ *     bits 32..63   the number of the refusal, 0 if the call is accepted
+ *     bits  0..31   the place of the refusal, or the result
+ *
+ * The functions below the calls take it apart. A call uses no heap and no state of its own, keeps no pointer, and
+ * writes nothing but its output. A memory of length 0 may have any pointer that is not null. An output must not
+ * overlap an input.
+ *
+ * Link libengine.a.
+ */
+#ifndef LAPYNDO_H
+#define LAPYNDO_H
+
+#include <stddef.h>
+#include <stdint.h>
+
+#ifdef __cplusplus
+extern "C" {
+#endif
+
+/* Limits, for memories of a fixed size. */
+enum {
+    LAPYNDO_WRITTEN_BYTES = 32000, /* the longest written table */
+    LAPYNDO_NORMAL_BYTES = 64000,  /* the longest normal table: room for every normal form */
+    LAPYNDO_STATE_BYTES = 184      /* the longest state: 120 propositions, 16 values of 4 bytes */
+};
+
+/* The kinds of table. */
+enum { LAPYNDO_WRITTEN = 0x54, LAPYNDO_NORMAL = 0x4E };
+
+/* The numbers of refusals, in the order in which the checks are made. */
+enum {
+    LAPYNDO_TOO_LONG = 1,          /* the table is too long; place 0 */
+                                   /* each command, in this order: */
+    LAPYNDO_MISPLACED = 3,         /*   unknown, misplaced, wrong head for the call, terms left open, or bytes after 45;
+                                        place: the command's offset, or that of the first byte after 45 */
+    LAPYNDO_CUT = 2,               /*   operands cut, place: the command's offset; no command where one is due,
+                                        place: the table's length */
+    LAPYNDO_MOVE_COUNT = 6,        /*   41 beyond the head's count, or 47 before it; place: the command's offset */
+    LAPYNDO_OPERAND_RANGE = 4,     /*   an operand is out of range; place: the operand's offset */
+    LAPYNDO_NAMED_AGAIN = 5,       /*   named again, not rising, or a ninth term; place: the command's offset */
+    LAPYNDO_CIRCLE = 7,            /* the := effects have a circle; place 0 */
+    LAPYNDO_STATE_LENGTH = 8,      /* the state has the wrong length; place 0 */
+    LAPYNDO_STATE_RANGE = 9,       /* a byte or value of the state is out of range; place: its offset */
+    LAPYNDO_NO_SUCH_MOVE = 10,     /* the table has no such move; place 0 */
+    LAPYNDO_CONDITIONS_FAIL = 11,  /* the move's conditions are not all true; place 0 */
+    LAPYNDO_RESULT_RANGE = 12,     /* a result is beyond 1,000,000 or -1,000,000; place 0 */
+    LAPYNDO_OUTPUT_SHORT = 13      /* the output is shorter than the result; place 0 */
+};
+
+/* Makes all checks of a written or normal table.
+ *
+ * Result: the head; see lapyndo_kind and the three counts.
+ * Refusals: 1 to 7.
+ * A written table may have 32,000 bytes, one with any other first byte 64,000.
+ */
+uint64_t lapyndo_read(const uint8_t *table, size_t table_len);
+
+/* Writes the normal form of a written table.
+ *
+ * Result: the length of the normal form, at most 64,000 and at most twice that of the table.
+ * Refusals: 1 to 7 and 13.
+ * out: accepted, the normal form from the start, and the bytes behind it are kept; refused, all bytes are kept.
+ */
+uint64_t lapyndo_normalise(const uint8_t *table, size_t table_len, uint8_t *out, size_t out_len);
+
+/* Makes one real move of a written table. Moves are numbered from 0.
+ *
+ * A state has one byte (0 or 1) a proposition, then one 4-byte value a variable, big-endian two's complement.
+ *
+ * Result: the length of the state after the move, which is that of the state before it.
+ * Refusals: 1 to 13.
+ * out: accepted, the state after the move from the start, and the bytes behind it are kept; refused, all bytes are kept.
+ */
+uint64_t lapyndo_step(const uint8_t *table, size_t table_len, const uint8_t *state, size_t state_len, uint64_t move,
+                      uint8_t *out, size_t out_len);
+
+/* Of any answer: the number of the refusal, 0 if the call is accepted. */
+static inline uint32_t lapyndo_refusal(uint64_t answer) { return (uint32_t)(answer >> 32); }
+
+/* Of a refusal: its place. */
+static inline uint32_t lapyndo_place(uint64_t answer) { return (uint32_t)answer; }
+
+/* Of an accepted lapyndo_normalise or lapyndo_step: the number of bytes written. */
+static inline size_t lapyndo_length(uint64_t answer) { return (size_t)(uint32_t)answer; }
+
+/* Of an accepted lapyndo_read: LAPYNDO_WRITTEN or LAPYNDO_NORMAL. */
+static inline unsigned lapyndo_kind(uint64_t answer) { return (unsigned)(answer >> 24 & 0xFF); }
+
+/* Of an accepted lapyndo_read: the number of propositions. */
+static inline unsigned lapyndo_propositions(uint64_t answer) { return (unsigned)(answer >> 16 & 0xFF); }
+
+/* Of an accepted lapyndo_read: the number of variables; in a normal table of signed ones, two a variable. */
+static inline unsigned lapyndo_variables(uint64_t answer) { return (unsigned)(answer >> 8 & 0xFF); }
+
+/* Of an accepted lapyndo_read: the number of moves. */
+static inline unsigned lapyndo_moves(uint64_t answer) { return (unsigned)(answer & 0xFF); }
+
+#ifdef __cplusplus
+}
+#endif
+
+#endif

@@ -1,0 +1,4 @@
+pub mod Sizes
+pub mod Campaign
+pub mod Copying
+pub mod Parts

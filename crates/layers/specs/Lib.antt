@@ -1,0 +1,10 @@
+pub mod Filling
+pub mod Comparing
+pub mod Raising
+pub mod Stepping
+pub mod Checks
+pub mod Answers
+pub mod Storing
+pub mod Building
+pub mod Starting
+pub mod Preparing

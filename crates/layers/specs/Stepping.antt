@@ -1,0 +1,367 @@
+-- One step: the next layer from all moves whose conditions hold, move by move.
+-- Assumes nothing.
+use Prim.Native.Nat.{ℕ, _+_, _-_, _≤_, _<_}
+use native.Mathlib.Numerals.{add-one}
+use native.Mathlib.Omega.{arith}
+use mathlib.Core.Path.{_≡_, refl, sym, ap, _∙_, subst}
+use mathlib.Core.Bool.{Bool, true, false, cond, _&&_, _||_}
+use mathlib.Core.List.{List, [], _∷_, _++_}
+use lib.IntN.{ℤ}
+use lib.ListN.{length, getD, set, take, drop, length-set}
+use lib.Seq.{take-suc, take-all, getD-set-same, getD-set-other}
+use Rattle.model.specs.Limits.{paper}
+use Rattle.model.specs.Lists.{any}
+use Rattle.model.specs.Task.{normal, Block, Task, adds, effectOn}
+use Rattle.model.specs.Command.{openMove, openGoal, codeOf, itemsBytes}
+use Rattle.model.specs.Layer.{Value, Layer, highest, usable, offered, gained, raised, next}
+use Rattle.model.specs.Theorems.WellFormed.{Once, TaskOk}
+use Rattle.model.specs.Theorems.Searching.{below-suc}
+use Rattle.model.specs.Theorems.Order.{_⊑_, highest-comm, highest-assoc}
+use Rattle.model.specs.Theorems.Layers.{raised-old, move-ok}
+use Rattle.block.specs.Items.{Ranges, Left, left-start}
+use Rattle.block.specs.Blocks.{LayerState, LayerTestable, IsUsable}
+use Rattle.layers.specs.Raising.{Truths, Values, most, truths-same, values-same, highest-old, Appliable, Applied}
+
+-- ---- a table with the offsets of its blocks
+
+-- the part of block b
+abbrev pub partAt : List ℕ → List ℕ → ℕ → List ℕ
+partAt table marks b = take (getD marks (b + 1) 0 - getD marks b 0) (drop (getD marks b 0) table)
+
+-- the table's task, its blocks where the marks say
+pub record Outlined (table marks : List ℕ) (k : Task) : Type 0 where
+  pub ok : TaskOk paper normal k
+  pub long : length (k .moves) + 2 ≤ length marks
+  pub ordered : (b : ℕ) → b ≤ length (k .moves) → getD marks b 0 ≤ getD marks (b + 1) 0
+  pub within : (b : ℕ) → b ≤ length (k .moves) → getD marks (b + 1) 0 ≤ length table
+  pub move : (b : ℕ) → b < length (k .moves) → partAt table marks b ≡ codeOf openMove ∷ itemsBytes (getD (k .moves) b [])
+  pub goal : partAt table marks (length (k .moves)) ≡ codeOf openGoal ∷ itemsBytes (k .goal)
+
+abbrev pub rangesOf : Task → Ranges
+rangesOf k = record { form = normal; props = k .props; vars = k .vars }
+
+module _ {table marks : List ℕ} {k : Task} (o : Outlined table marks k) where
+  pub move-left : (b : ℕ) → b < length (k .moves) → Left (rangesOf k) (partAt table marks b) 1 (getD (k .moves) b [])
+  move-left b h = left-start (codeOf openMove) (o .move b h) (move-ok (o .ok) b h .items)
+
+  pub move-once : (b : ℕ) → b < length (k .moves) → Once (getD (k .moves) b [])
+  move-once b h = move-ok (o .ok) b h .once
+
+  pub goal-left : Left (rangesOf k) (partAt table marks (length (k .moves))) 1 (k .goal)
+  goal-left = left-start (codeOf openGoal) (o .goal) (o .ok .goal .items)
+
+-- ---- one move
+
+or-none : (x : Bool) → x ≡ (x || false)
+or-none true = refl
+or-none false = refl
+
+-- a move's part, with the next layer so far: what it becomes, and whether the move's conditions hold, in every reading
+pub record TakenIn (part : List ℕ) (has : List Bool) (row : List ℤ) (flags : List Bool) (values : List ℤ) (flags′ : List Bool) (values′ : List ℤ) (t : Bool) : Type 0 where
+  pub is :
+      (k : Ranges) (b : Block) (l : Layer) (h : ℕ → Bool) (f : ℕ → Value)
+      → k .form ≡ normal
+      → Left k part 1 b
+      → Once b
+      → LayerState k has row l
+      → Truths (k .props) flags h
+      → Values most (k .vars) values f
+      → ((v : ℕ) → l .val v ⊑ f v)
+      → (t ≡ usable l b)
+      × Truths (k .props) flags′ (λ p. h p || (usable l b && adds p b))
+      × Values most (k .vars) values′ (λ v. highest (f v) (cond (usable l b) (offered l v (effectOn v b)) (l .val v)))
+
+module _ {part : List ℕ} {has : List Bool} {row : List ℤ} {flags : List Bool} {values : List ℤ} {t : Bool} (u : IsUsable part has row t) where
+  pub taken-usable : {flags′ : List Bool} {values′ : List ℤ} → t ≡ true → Applied part row flags values flags′ values′ → TakenIn part has row flags values flags′ values′ t
+  taken-usable e a =
+      record {
+        is =
+            λ k b l h f form left once w hs vs up.
+            let q : t ≡ usable l b = u .is k b l left w in
+            let yes-b : usable l b ≡ true = sym q ∙ e in
+            let r = a .is k b l h f form left once (w .row) hs vs up in (
+              q,
+              truths-same (λ p i. ap (λ (x : Bool). h p || (x && adds p b)) (sym yes-b)) (r .0),
+              values-same (λ v i. ap (λ (x : Bool). highest (f v) (cond x (offered l v (effectOn v b)) (l .val v))) (sym yes-b)) (r .1),
+            );
+      }
+
+  pub taken-unusable : t ≡ false → TakenIn part has row flags values flags values t
+  taken-unusable e =
+      record {
+        is =
+            λ k b l h f form left once w hs vs up.
+            let q : t ≡ usable l b = u .is k b l left w in
+            let no-b : usable l b ≡ false = sym q ∙ e in (
+              q,
+              truths-same (λ p i. or-none (h p) ∙ ap (λ (x : Bool). h p || (x && adds p b)) (sym no-b)) hs,
+              values-same (λ v i. sym (highest-old (up v)) ∙ ap (λ (x : Bool). highest (f v) (cond x (offered l v (effectOn v b)) (l .val v))) (sym no-b)) vs,
+            );
+      }
+
+-- some block stands behind the part's first byte, over some layer, with room for the next one
+pub record Takeable (part : List ℕ) (has : List Bool) (row : List ℤ) (flags : List Bool) (values : List ℤ) : Type 0 where
+  pub ranges : Ranges
+  pub block : Block
+  pub over : Layer
+  pub left : Left ranges part 1 block
+  pub state : LayerState ranges has row over
+  pub flags-room : ranges .props ≤ length flags
+  pub values-room : ranges .vars ≤ length values
+
+module _ {part : List ℕ} {has : List Bool} {row : List ℤ} {flags : List Bool} {values : List ℤ} (p : Takeable part has row flags values) where
+  pub takeable-testable : LayerTestable part has row
+  takeable-testable = record { ranges = p .ranges; block = p .block; over = p .over; left = p .left; row = p .state }
+
+  pub takeable-appliable : Appliable part row flags values
+  takeable-appliable =
+      record {
+        ranges = p .ranges;
+        block = p .block;
+        over = p .over .val;
+        left = p .left;
+        row-is = p .state .row;
+        flags-room = p .flags-room;
+        next-room = p .values-room;
+      }
+
+-- ---- all moves
+
+any-snoc : {A : Type 0} (f : A → Bool) (xs : List A) (x : A) → any f (xs ++ (x ∷ [])) ≡ (any f xs || f x)
+unfolding any
+any-snoc f [] x = go (f x)
+  where
+    go : (b : Bool) → (b || false) ≡ b
+    go true = refl
+    go false = refl
+any-snoc f (y ∷ ys) x = ap (λ (b : Bool). f y || b) (any-snoc f ys x) ∙ assoc (f y) (any f ys) (f x)
+  where
+    assoc : (a b c : Bool) → (a || (b || c)) ≡ ((a || b) || c)
+    assoc true b c = refl
+    assoc false b c = refl
+
+module _ (l : Layer) where
+  -- one move more
+  pub gained-snoc : (p : ℕ) (ms : List Block) (m : Block) → gained l p (ms ++ (m ∷ [])) ≡ (gained l p ms || (usable l m && adds p m))
+  unfolding gained
+  gained-snoc p ms m = any-snoc (λ x. usable l x && adds p x) ms m
+
+  pub raised-snoc : (v : ℕ) (ms : List Block) (m : Block) → raised l v (ms ++ (m ∷ [])) ≡ highest (raised l v ms) (cond (usable l m) (offered l v (effectOn v m)) (l .val v))
+  unfolding raised
+  raised-snoc v [] m = highest-comm (cond (usable l m) (offered l v (effectOn v m)) (l .val v)) (l .val v)
+  raised-snoc v (x ∷ ms) m =
+      let a = cond (usable l x) (offered l v (effectOn v x)) (l .val v) in
+      let b = cond (usable l m) (offered l v (effectOn v m)) (l .val v) in
+      ap (highest a) (raised-snoc v ms m) ∙ sym (highest-assoc a (raised l v ms) b)
+
+-- the next layer from the first b moves, in the arrays
+pub record StepBy (k : Task) (l : Layer) (b : ℕ) (flags : List Bool) (values : List ℤ) (used : List Bool) : Type 0 where
+  pub truths : Truths (k .props) flags (λ p. l .has p || gained l p (take b (k .moves)))
+  pub row : Values most (k .vars) values (λ v. raised l v (take b (k .moves)))
+  pub uses : (c : ℕ) → c < b → getD used c false ≡ usable l (getD (k .moves) c [])
+
+or-assoc : (a b c : Bool) → ((a || b) || c) ≡ (a || (b || c))
+or-assoc true b c = refl
+or-assoc false b c = refl
+
+step-next :
+    {k : Task} {l : Layer} {b : ℕ} {flags flags′ : List Bool} {values values′ : List ℤ} {used : List Bool} {t : Bool}
+    → StepBy k l b flags values used
+    → b < length (k .moves)
+    → b < length used
+    → (t ≡ usable l (getD (k .moves) b []))
+    → Truths (k .props) flags′ (λ p. (l .has p || gained l p (take b (k .moves))) || (usable l (getD (k .moves) b []) && adds p (getD (k .moves) b [])))
+    → Values most (k .vars) values′ (λ v. highest (raised l v (take b (k .moves))) (cond (usable l (getD (k .moves) b [])) (offered l v (effectOn v (getD (k .moves) b []))) (l .val v)))
+    → StepBy k l (b + 1) flags′ values′ (set used b t)
+step-next {k} {l} {b} {used} {t} s h room e ts vs =
+    record {
+      truths =
+          truths-same
+          (λ p i.
+          or-assoc (l .has p) (gained l p ms) (usable l m && adds p m)
+          ∙ ap (λ (x : Bool). l .has p || x) (sym (ap (gained l p) more ∙ gained-snoc l p ms m)))
+          ts;
+      row = values-same (λ v i. sym (ap (raised l v) more ∙ raised-snoc l v ms m)) vs;
+      uses =
+          λ c i.
+          below-suc c b (omega arith)
+          (λ before. getD-set-other used b c t false (λ q. omega arith) ∙ s .uses c before)
+          (λ q.
+          subst (λ (x : ℕ). getD (set used b t) x false ≡ usable l (getD (k .moves) x [])) (sym q)
+          (getD-set-same used b t false room ∙ e));
+    }
+  where
+    ms : List Block
+    ms = take b (k .moves)
+
+    m : Block
+    m = getD (k .moves) b []
+
+    more : take (b + 1) (k .moves) ≡ ms ++ (m ∷ [])
+    more = ap (λ (n : ℕ). take n (k .moves)) (add-one b) ∙ take-suc (k .moves) b [] h
+
+-- what the step needs: a table with its marks, a layer in two arrays, the same two to begin the next one, room for the moves used
+pub record Steppable (table marks : List ℕ) (moves : ℕ) (has : List Bool) (row : List ℤ) (flags : List Bool) (values : List ℤ) (used : List Bool) : Type 0 where
+  pub task : Task
+  pub over : Layer
+  pub outlined : Outlined table marks task
+  pub count : moves ≡ length (task .moves)
+  pub state : LayerState (rangesOf task) has row over
+  pub flags-room : task .props ≤ length flags
+  pub values-room : task .vars ≤ length values
+  pub used-room : moves ≤ length used
+
+-- the first b moves are taken in
+pub record Stepping (table marks : List ℕ) (moves : ℕ) (has : List Bool) (row : List ℤ) (flags : List Bool) (values : List ℤ) (used : List Bool) (b : ℕ) (flags′ : List Bool) (values′ : List ℤ) (used′ : List Bool) : Type 0 where
+  pub same-flags : length flags′ ≡ length flags
+  pub same-values : length values′ ≡ length values
+  pub same-used : length used′ ≡ length used
+  pub is :
+      (k : Task) (l : Layer)
+      → Outlined table marks k
+      → moves ≡ length (k .moves)
+      → LayerState (rangesOf k) has row l
+      → Truths (k .props) flags (l .has)
+      → Values most (k .vars) values (l .val)
+      → StepBy k l b flags′ values′ used′
+
+module _ {table marks : List ℕ} {moves : ℕ} {has : List Bool} {row : List ℤ} {flags : List Bool} {values : List ℤ} {used : List Bool} where
+  pub stepping-start : Stepping table marks moves has row flags values used 0 flags values used
+  unfolding gained any raised
+  stepping-start =
+      record {
+        same-flags = refl;
+        same-values = refl;
+        same-used = refl;
+        is =
+            λ k l o c w ts vs.
+            record {
+              truths = truths-same (λ p i. or-none (l .has p)) ts;
+              row = vs;
+              uses = λ x i. absurd (omega arith);
+            };
+      }
+
+  module _ {b : ℕ} {flags′ : List Bool} {values′ : List ℤ} {used′ : List Bool} (s : Stepping table marks moves has row flags values used b flags′ values′ used′) where
+    pub stepping-next :
+        {flags″ : List Bool} {values″ : List ℤ} {t : Bool}
+        → b < moves
+        → moves ≤ length used
+        → length flags″ ≡ length flags′
+        → length values″ ≡ length values′
+        → TakenIn (partAt table marks b) has row flags′ values′ flags″ values″ t
+        → Stepping table marks moves has row flags values used (b + 1) flags″ values″ (set used′ b t)
+    stepping-next {t} h room lf lv r =
+        record {
+          same-flags = lf ∙ s .same-flags;
+          same-values = lv ∙ s .same-values;
+          same-used = length-set used′ b t ∙ s .same-used;
+          is =
+              λ k l o c w ts vs.
+              let i : b < length (k .moves) = omega (arith, c) in
+              let p = s .is k l o c w ts vs in
+              let q =
+              r .is (rangesOf k) (getD (k .moves) b []) l (λ x. l .has x || gained l x (take b (k .moves))) (λ x. raised l x (take b (k .moves)))
+              refl (move-left o b i) (move-once o b i) w (p .truths) (p .row) (λ v. raised-old l v (take b (k .moves))) in
+              step-next p i (omega (arith, s .same-used)) (q .0) (q .1) (q .2);
+        }
+
+-- the next layer, and the moves that made it
+pub record Stepped (table marks : List ℕ) (moves : ℕ) (has : List Bool) (row : List ℤ) (flags : List Bool) (values : List ℤ) (flags′ : List Bool) (values′ : List ℤ) (used : List Bool) : Type 0 where
+  pub is :
+      (k : Task) (l : Layer)
+      → Outlined table marks k
+      → moves ≡ length (k .moves)
+      → LayerState (rangesOf k) has row l
+      → Truths (k .props) flags (l .has)
+      → Values most (k .vars) values (l .val)
+      → Truths (k .props) flags′ (next (k .moves) l .has)
+      × Values most (k .vars) values′ (next (k .moves) l .val)
+      × Truths (length (k .moves)) used (λ b. usable l (getD (k .moves) b []))
+
+pub stepping-end :
+    {table marks : List ℕ} {moves : ℕ} {has : List Bool} {row : List ℤ} {flags : List Bool} {values : List ℤ} {used : List Bool}
+    {b : ℕ} {flags′ : List Bool} {values′ : List ℤ} {used′ : List Bool}
+    → Stepping table marks moves has row flags values used b flags′ values′ used′
+    → moves ≤ b
+    → moves ≤ length used
+    → Stepped table marks moves has row flags values flags′ values′ used′
+unfolding next
+stepping-end {b} {used′} s h room =
+    record {
+      is =
+          λ k l o c w ts vs.
+          let p = s .is k l o c w ts vs in
+          let e : take b (k .moves) ≡ k .moves = take-all b (k .moves) (omega (arith, c)) in (
+            truths-same (λ q i. ap (λ (ms : List Block). l .has q || gained l q ms) e) (p .truths),
+            values-same (λ v i. ap (raised l v) e) (p .row),
+            record { long = omega (arith, c, s .same-used); same = λ x i. p .uses x (omega (arith, c)) },
+          );
+    }
+
+-- what the move at b is taken in with
+module _ {table marks : List ℕ} {moves : ℕ} {has : List Bool} {row : List ℤ} {flags : List Bool} {values : List ℤ} {used : List Bool} (p : Steppable table marks moves has row flags values used) {b : ℕ} (h : b < moves) where
+  pub steppable-marks : b + 1 < length marks
+  steppable-marks = omega (arith, p .outlined .long, p .count)
+
+  pub steppable-ordered : getD marks b 0 ≤ getD marks (b + 1) 0
+  steppable-ordered = p .outlined .ordered b (omega (arith, p .count))
+
+  pub steppable-within : getD marks (b + 1) 0 ≤ length table
+  steppable-within = p .outlined .within b (omega (arith, p .count))
+
+  pub steppable-takeable : {flags′ : List Bool} {values′ : List ℤ} → length flags′ ≡ length flags → length values′ ≡ length values → Takeable (partAt table marks b) has row flags′ values′
+  steppable-takeable lf lv =
+      record {
+        ranges = rangesOf (p .task);
+        block = getD (p .task .moves) b [];
+        over = p .over;
+        left = move-left (p .outlined) b (omega (arith, p .count));
+        state = p .state;
+        flags-room = omega (arith, p .flags-room);
+        values-room = omega (arith, p .values-room);
+      }
+
+-- ---- the goal
+
+pub record GoalTestable (table marks : List ℕ) (moves : ℕ) (has : List Bool) (row : List ℤ) : Type 0 where
+  pub task : Task
+  pub over : Layer
+  pub outlined : Outlined table marks task
+  pub count : moves ≡ length (task .moves)
+  pub state : LayerState (rangesOf task) has row over
+
+-- t says whether the layer meets the goal
+pub record IsMet (table marks : List ℕ) (moves : ℕ) (has : List Bool) (row : List ℤ) (t : Bool) : Type 0 where
+  pub is : (k : Task) (l : Layer) → Outlined table marks k → moves ≡ length (k .moves) → LayerState (rangesOf k) has row l → t ≡ usable l (k .goal)
+
+module _ {table marks : List ℕ} {moves : ℕ} {has : List Bool} {row : List ℤ} (p : GoalTestable table marks moves has row) where
+  pub goal-marks : moves + 1 < length marks
+  goal-marks = omega (arith, p .outlined .long, p .count)
+
+  pub goal-ordered : getD marks moves 0 ≤ getD marks (moves + 1) 0
+  goal-ordered = p .outlined .ordered moves (omega (arith, p .count))
+
+  pub goal-within : getD marks (moves + 1) 0 ≤ length table
+  goal-within = p .outlined .within moves (omega (arith, p .count))
+
+  pub goal-testable : LayerTestable (partAt table marks moves) has row
+  goal-testable =
+      record {
+        ranges = rangesOf (p .task);
+        block = p .task .goal;
+        over = p .over;
+        left = goal-at (p .outlined) (p .count);
+        row = p .state;
+      }
+    where
+      goal-at : {k : Task} → Outlined table marks k → moves ≡ length (k .moves) → Left (rangesOf k) (partAt table marks moves) 1 (k .goal)
+      goal-at {k} o c = subst (λ (n : ℕ). Left (rangesOf k) (partAt table marks n) 1 (k .goal)) (sym c) (goal-left o)
+
+pub is-met : {table marks : List ℕ} {moves : ℕ} {has : List Bool} {row : List ℤ} {t : Bool} → IsUsable (partAt table marks moves) has row t → IsMet table marks moves has row t
+is-met {table} {marks} {moves} u =
+    record {
+      is =
+          λ k l o c w.
+          u .is (rangesOf k) (k .goal) l (subst (λ (n : ℕ). Left (rangesOf k) (partAt table marks n) 1 (k .goal)) (sym c) (goal-left o)) w;
+    }

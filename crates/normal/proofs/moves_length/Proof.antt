@@ -1,0 +1,108 @@
+-- `moves_length` meets its contract. The invariant: the moves before `b` are counted. The measure is the number of the others.
+-- Assumes nothing.
+use Prim.Native.Nat.{suc, _+_, _-_, _≤_, _<_}
+use native.Mathlib.Omega.{arith}
+use mathlib.Core.Path.{_≡_}
+use mathlib.Core.List.{[]}
+use lib.ListN.{length, getD}
+use Rattle.normal.specs.Blocks.{blockPrint}
+use Rattle.normal.specs.Tables.{readTask, MovesCounting, move-remaining, block-ordered, block-within, source-small, normal-size, few-moves, moves-counted, moves-count, move-small, moves-total}
+use Rattle.normal.proofs.moves_length.Statement.{statement}
+use Rattle.normal.proofs.moves_length.Tie as tie
+
+abbrev Inv-loop : tie.InvT-loop
+Inv-loop table marks moves b₀ size₀ b size = MovesCounting (readTask table .moves) b size
+
+abbrev μ-loop : tie.MeasureT-loop
+μ-loop table marks moves b₀ size₀ b size = moves - b
+
+-- a move before the last
+some : (c : tie.In-loop Inv-loop μ-loop) → c .before .loop .b < length (readTask (c .before .before .before .before .args .table .now) .moves)
+some c = omega (arith, c .loop-test .taken, c .before .before .before .before .pre .count)
+
+-- its normal form is small
+small : (c : tie.In-loop Inv-loop μ-loop) → suc (c .before .loop .size + length (blockPrint (getD (readTask (c .before .before .before .before .args .table .now) .moves) (c .before .loop .b) []))) ≤ 64_000
+small c =
+    let s = c .before .before .before .before .pre in
+    omega (arith, move-small (c .before .loop .inv) (some c), source-small s, normal-size (readTask (c .before .before .before .before .args .table .now)))
+
+loop-holds : tie.Need-loop-holds Inv-loop μ-loop
+loop-holds c = moves-counted (readTask (c .before .before .args .table .now) .moves)
+
+mul-from : tie.Need-mul-from Inv-loop μ-loop
+mul-from c = omega (arith, c .before .before .before .before .pre .long, few-moves (c .before .before .before .before .pre))
+
+shared-slice-read-from : tie.Need-shared-slice-read-from Inv-loop μ-loop
+shared-slice-read-from c = omega (arith, c .before .before .before .before .before .pre .long)
+
+add-end : tie.Need-add-end Inv-loop μ-loop
+add-end c = omega (arith, few-moves (c .before .before .before .before .before .pre))
+
+mul-end : tie.Need-mul-end Inv-loop μ-loop
+mul-end c = omega (arith, few-moves (c .before .before .before .before .before .pre))
+
+shared-slice-read-end : tie.Need-shared-slice-read-end Inv-loop μ-loop
+shared-slice-read-end c = omega (arith, c .before .before .before .before .before .before .pre .long)
+
+sub-items-length : tie.Need-sub-items-length Inv-loop μ-loop
+sub-items-length c = omega (arith, block-ordered (c .before .before .before .before .before .before .pre) (c .before .before .before .loop .b) (omega arith))
+
+part-items-length-start : tie.Need-part-items-length-start Inv-loop μ-loop
+part-items-length-start c = block-ordered (c .before .before .before .before .before .before .pre) (c .before .before .before .loop .b) (omega arith)
+
+part-items-length-end : tie.Need-part-items-length-end Inv-loop μ-loop
+part-items-length-end c = block-within (c .before .before .before .before .before .before .pre) (c .before .before .before .loop .b) (omega arith)
+
+items-length-requires : tie.Need-items-length-requires Inv-loop μ-loop
+items-length-requires c κs =
+    let b = c .before .before .before .before .loop .b in
+    record {
+      block = getD (readTask (c .before .before .before .before .before .before .before .args .table .now) .moves) b [];
+      remaining = move-remaining (c .before .before .before .before .before .before .before .pre) b (c .before .before .before .loop-test .taken);
+      fits = omega (arith, small (c .before .before .before));
+    }
+
+-- what is counted
+counted : (c : tie.After-items-length Inv-loop μ-loop) → c .items-length .result ≡ length (blockPrint (getD (readTask (c .before .before .before .before .before .before .before .before .args .table .now) .moves) (c .before .before .before .before .before .loop .b) []))
+counted c = c .items-length .ensures _ (move-remaining (c .before .before .before .before .before .before .before .before .pre) (c .before .before .before .before .before .loop .b) (c .before .before .before .before .loop-test .taken))
+
+add-size : tie.Need-add-size Inv-loop μ-loop
+add-size c = omega (arith, counted c, small (c .before .before .before .before))
+
+add-size-2 : tie.Need-add-size-2 Inv-loop μ-loop
+add-size-2 c = omega (arith, counted c, small (c .before .before .before .before))
+
+add-b : tie.Need-add-b Inv-loop μ-loop
+add-b c = omega (arith, few-moves (c .before .before .before .before .before .before .before .before .pre))
+
+loop-less : tie.Need-loop-less Inv-loop μ-loop
+loop-less c = omega arith
+
+loop-again : tie.Need-loop-again Inv-loop μ-loop
+loop-again c = moves-count (c .before .before .before .before .before .loop .inv) (some (c .before .before .before .before)) (counted c)
+
+returns : tie.Need-returns Inv-loop μ-loop
+returns c = moves-total (c .before .loop .inv) (omega (arith, c .loop-test .left, c .before .before .before .before .pre .count))
+
+pub moves-length-spec : {M : Type 1} → statement M
+moves-length-spec =
+    tie.close
+    (tie.spec
+    Inv-loop
+    μ-loop
+    loop-holds
+    mul-from
+    shared-slice-read-from
+    add-end
+    mul-end
+    shared-slice-read-end
+    sub-items-length
+    part-items-length-start
+    part-items-length-end
+    items-length-requires
+    add-size
+    add-size-2
+    add-b
+    loop-less
+    loop-again
+    returns)

@@ -1,0 +1,185 @@
+-- The normal form of a whole table, block by block. Assumes nothing.
+use Prim.Native.Nat.{ℕ, suc, _+_, _*_, _≤_, _<_}
+use native.Mathlib.Numerals.{add-one}
+use native.Mathlib.Omega.{arith}
+use mathlib.Core.Path.{_≡_, refl, sym, ap, ap₂, _∙_}
+use mathlib.Core.List.{List, [], _∷_, _++_, map, append-assoc}
+use lib.ListN.{length, getD, drop, length-append, length-map}
+use lib.Seq.{drop-cons, drop-length}
+use Rattle.model.specs.Limits.{paper}
+use Rattle.model.specs.Task.{written, normal, Block, Task}
+use Rattle.model.specs.Command.{head, openMove, openGoal, endTable, codeOf, itemsBytes, movesBytes, taskBytes}
+use Rattle.model.specs.Reading.{Verdict, accepted, refused, only, lengthLimit, reading}
+use Rattle.model.specs.NormalForm.{normalBlock, normalTask}
+use Rattle.model.specs.Calls.{normalBytes}
+use Rattle.model.specs.Theorems.NormalPrint.{normal-fits}
+use Rattle.normal.specs.Printing.{Put, put-join, put-same, Printing, PutTo, printing-start, printing-rest, printing-step}
+use Rattle.normal.specs.Blocks.{Remaining, blockPrint}
+use Rattle.normal.specs.Outlines.{partAt, Outline, move-left, goal-left}
+
+-- the task that a written table stands for
+unfoldable pub taskIn : Verdict → Task
+taskIn (accepted k) = k .task
+taskIn (refused r) = record { props = 0; vars = 0; moves = []; goal = [] }
+
+unfoldable pub readTask : List ℕ → Task
+readTask t = taskIn (reading paper (only written) t)
+
+-- an accepted written table, with the offsets of its blocks
+pub record Source (t marks : List ℕ) (moves : ℕ) : Type 0 where
+  pub outline : Outline written t marks (readTask t)
+  pub long : moves + 2 ≤ length marks
+  pub count : moves ≡ length (readTask t .moves)
+
+-- its head
+pub record Heads (t : List ℕ) (props vars : ℕ) : Type 0 where
+  pub props-is : props ≡ readTask t .props
+  pub vars-is : vars ≡ readTask t .vars
+
+module _ {t marks : List ℕ} {moves : ℕ} (s : Source t marks moves) where
+  pub few-props : readTask t .props ≤ 120
+  unfolding paper
+  few-props = s .outline .ok .props
+
+  pub few-vars : readTask t .vars ≤ 16
+  unfolding paper
+  few-vars = s .outline .ok .vars
+
+  pub few-moves : moves ≤ 64
+  unfolding paper
+  few-moves = omega (arith, s .count, s .outline .ok .moves)
+
+  pub move-remaining : (b : ℕ) → b < moves → Remaining (partAt t marks b) 1 (getD (readTask t .moves) b [])
+  move-remaining b h =
+      record {
+        props = readTask t .props;
+        vars = readTask t .vars;
+        few-props = few-props;
+        few-vars = few-vars;
+        left = move-left (s .outline) b (omega (arith, s .count));
+      }
+
+  pub goal-remaining : Remaining (partAt t marks moves) 1 (readTask t .goal)
+  goal-remaining =
+      record {
+        props = readTask t .props;
+        vars = readTask t .vars;
+        few-props = few-props;
+        few-vars = few-vars;
+        left = rw (s .count) (goal-left (s .outline));
+      }
+
+  -- the offsets of a block
+  pub block-ordered : (b : ℕ) → b ≤ moves → getD marks b 0 ≤ getD marks (b + 1) 0
+  block-ordered b h = s .outline .ordered b (omega (arith, s .count))
+
+  pub block-within : (b : ℕ) → b ≤ moves → getD marks (b + 1) 0 ≤ length t
+  block-within b h = s .outline .within b (omega (arith, s .count))
+
+  -- "normal 64,000 bytes at most"
+  pub source-small : length (normalBytes (readTask t)) ≤ 64_000
+  source-small = normal-fits (readTask t) (unfold paper lengthLimit in (s .outline .short))
+
+-- ---- the bytes of the moves
+
+unfoldable pub movesPrint : List Block → List ℕ
+movesPrint ms = movesBytes (map normalBlock ms)
+
+pub moves-next : (ms : List Block) (b : ℕ) → b < length ms → movesPrint (drop b ms) ≡ (codeOf openMove ∷ blockPrint (getD ms b [])) ++ movesPrint (drop (b + 1) ms)
+unfolding movesPrint movesBytes blockPrint
+moves-next ms b h = ap movesPrint (drop-cons ms b [] h ∙ ap (λ (n : ℕ). getD ms b [] ∷ drop n ms) (sym (add-one b)))
+
+pub moves-none : (ms : List Block) (b : ℕ) → b ≡ length ms → movesPrint (drop b ms) ≡ []
+unfolding movesPrint movesBytes
+moves-none ms b e = ap movesPrint (ap (λ (n : ℕ). drop n ms) e ∙ drop-length ms)
+
+-- ---- the bytes of the table
+
+pub normal-parts :
+    (k : Task)
+    → normalBytes k
+    ≡ (codeOf (head normal) ∷ k .props ∷ [])
+    ++ ((2 * k .vars ∷ length (k .moves) ∷ [])
+    ++ (movesPrint (k .moves) ++ ((codeOf openGoal ∷ blockPrint (k .goal)) ++ (codeOf endTable ∷ []))))
+unfolding normalBytes taskBytes normalTask movesPrint blockPrint
+normal-parts k =
+    rw (length-map (k .moves) normalBlock)
+    (ap (λ (l : List ℕ). codeOf (head normal) ∷ k .props ∷ 2 * k .vars ∷ length (k .moves) ∷ l)
+    (append-assoc (movesBytes (map normalBlock (k .moves))) (codeOf openGoal ∷ itemsBytes (normalBlock (k .goal))) (codeOf endTable ∷ [])))
+
+pub normal-size : (k : Task) → length (normalBytes k) ≡ length (movesPrint (k .moves)) + length (blockPrint (k .goal)) + 6
+normal-size k =
+    omega
+    (arith, ap length (normal-parts k), length-append (movesPrint (k .moves)) ((codeOf openGoal ∷ blockPrint (k .goal)) ++ (codeOf endTable ∷ [])), length-append (codeOf openGoal ∷ blockPrint (k .goal)) (codeOf endTable ∷ []))
+
+-- ---- the moves one by one
+
+-- the blocks before b are counted
+pub record MovesCounting (ms : List Block) (b size : ℕ) : Type 0 where
+  pub within : b ≤ length ms
+  pub total : size + length (movesPrint (drop b ms)) ≡ length (movesPrint ms)
+
+pub moves-counted : (ms : List Block) → MovesCounting ms 0 0
+moves-counted ms = record { within = omega arith; total = omega arith }
+
+module _ {ms : List Block} {b size : ℕ} (c : MovesCounting ms b size) where
+  pub moves-count : b < length ms → {n : ℕ} → n ≡ length (blockPrint (getD ms b [])) → MovesCounting ms (b + 1) (size + (1 + n))
+  moves-count h {n} e =
+      record {
+        within = omega arith;
+        total =
+            omega
+            (arith, c .total, ap length (moves-next ms b h), length-append (codeOf openMove ∷ blockPrint (getD ms b [])) (movesPrint (drop (b + 1) ms)));
+      }
+
+  pub move-small : b < length ms → suc (size + length (blockPrint (getD ms b []))) ≤ length (movesPrint ms)
+  move-small h =
+      omega
+      (arith, c .total, ap length (moves-next ms b h), length-append (codeOf openMove ∷ blockPrint (getD ms b [])) (movesPrint (drop (b + 1) ms)))
+
+  pub moves-total : length ms ≤ b → size ≡ length (movesPrint ms)
+  moves-total h = omega (arith, c .total, ap length (moves-none ms b (omega (arith, c .within))))
+
+-- the blocks before b are printed
+pub record MovesPrinting (ms : List Block) (b : ℕ) (old : List ℕ) (start : ℕ) (new : List ℕ) (to : ℕ) : Type 0 where
+  pub within : b ≤ length ms
+  pub prints : Printing old start (movesPrint ms) new to (movesPrint (drop b ms))
+
+pub moves-start : (ms : List Block) (old : List ℕ) (start : ℕ) → MovesPrinting ms 0 old start old start
+moves-start ms old start = record { within = omega arith; prints = printing-start old start (movesPrint ms) }
+
+module _ {ms : List Block} {b : ℕ} {old : List ℕ} {start : ℕ} {new : List ℕ} {to : ℕ} (p : MovesPrinting ms b old start new to) where
+  pub moves-room : b < length ms → start + length (movesPrint ms) ≤ length old → to + 1 + length (blockPrint (getD ms b [])) ≤ length new
+  moves-room h fits =
+      omega
+      (arith, p .prints .place, p .prints .size, ap length (moves-next ms b h), length-append (codeOf openMove ∷ blockPrint (getD ms b [])) (movesPrint (drop (b + 1) ms)))
+
+  pub moves-step :
+      b < length ms
+      → {next : List ℕ} {on : ℕ}
+      → PutTo new to (codeOf openMove ∷ blockPrint (getD ms b [])) next on
+      → MovesPrinting ms (b + 1) old start next on
+  moves-step h q =
+      record { within = omega arith; prints = printing-step (printing-rest (p .prints) (moves-next ms b h)) (q .bytes) (q .place) }
+
+  pub moves-end : length ms ≤ b → Printing old start (movesPrint ms) new to []
+  moves-end h = printing-rest (p .prints) (moves-none ms b (omega (arith, p .within)))
+
+-- ---- the whole table
+
+pub whole-print :
+    (k : Task) {props vars moves : ℕ} {old a b c d : List ℕ} {goal end : ℕ}
+    → props ≡ k .props
+    → vars ≡ k .vars
+    → moves ≡ length (k .moves)
+    → Put old 0 (codeOf (head normal) ∷ props ∷ 2 * vars ∷ moves ∷ []) a
+    → PutTo a 4 (movesPrint (k .moves)) b goal
+    → PutTo b goal (codeOf openGoal ∷ blockPrint (k .goal)) c end
+    → Put c end (codeOf endTable ∷ []) d
+    → Put old 0 (normalBytes k) d
+whole-print k {props} {vars} {moves} e f g p q r s =
+    let rest = movesPrint (k .moves) ++ ((codeOf openGoal ∷ blockPrint (k .goal)) ++ (codeOf endTable ∷ [])) in
+    put-same (put-join p (put-join (q .bytes) (put-join (r .bytes) s (r .place)) (q .place)) refl)
+    (ap (λ (n : ℕ). codeOf (head normal) ∷ n ∷ 2 * vars ∷ moves ∷ rest) e
+    ∙ ap₂ (λ (n m : ℕ). codeOf (head normal) ∷ k .props ∷ 2 * n ∷ m ∷ rest) f g
+    ∙ sym (normal-parts k))

@@ -1,0 +1,53 @@
+-- `round` meets its contract. The entries before var are filled; the measure is the variables left.
+-- Assumes nothing.
+use Prim.Native.Nat.{ℕ, _-_, _≤_}
+use native.Mathlib.Omega.{arith}
+use Rattle.model.specs.Lists.{anyBelow}
+use Rattle.table.specs.Edges.{entered, Filled, filled-none, filled-more}
+use Rattle.table.proofs.round.Statement.{statement}
+use Rattle.table.proofs.round.Tie as tie
+
+abbrev Inv-loop : tie.InvT-loop
+Inv-loop edges alive n next₀ var₀ next var = (var ≤ n) × Filled (λ (v : ℕ). anyBelow (entered edges alive v) n) var next
+
+abbrev μ-loop : tie.MeasureT-loop
+μ-loop edges alive n next₀ var₀ next var = n - var
+
+all-alive-requires : tie.Need-all-alive-requires Inv-loop μ-loop
+all-alive-requires c κs = tt
+
+loop-holds : tie.Need-loop-holds Inv-loop μ-loop
+loop-holds c = (omega arith, filled-none _ _ (c .all-alive .ensures))
+
+reached-requires : tie.Need-reached-requires Inv-loop μ-loop
+reached-requires c κs = omega arith
+
+array-write-next : tie.Need-array-write-next Inv-loop μ-loop
+array-write-next c = omega arith
+
+add-var : tie.Need-add-var Inv-loop μ-loop
+add-var c = omega arith
+
+loop-less : tie.Need-loop-less Inv-loop μ-loop
+loop-less c = omega arith
+
+loop-again : tie.Need-loop-again Inv-loop μ-loop
+loop-again c = (omega arith, filled-more (c .before .before .loop .inv .1) (omega arith) (c .reached .ensures))
+
+returns : tie.Need-returns Inv-loop μ-loop
+returns c = (c .before .loop .inv .1 .size, λ v h. c .before .loop .inv .1 .same v (omega arith))
+
+pub round-spec : {M : Type 1} → statement M
+round-spec =
+    tie.close
+    (tie.spec
+    Inv-loop
+    μ-loop
+    all-alive-requires
+    loop-holds
+    reached-requires
+    array-write-next
+    add-var
+    loop-less
+    loop-again
+    returns)

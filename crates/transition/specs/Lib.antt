@@ -1,0 +1,5 @@
+-- The specifications of one real move: what its items do to the propositions and the values, and the call's answer.
+pub mod Running
+pub mod Answers
+pub mod Moving
+pub mod Steps

@@ -1,0 +1,272 @@
+// One real move of a written table (document 01, "Moves").
+ghost use mathlib.Core.Path.{_≡_};
+ghost use Prim.Native.Nat.{_+_, _*_, _<_, _≤_};
+ghost use lib.ListN.{length};
+ghost use lib.IntN.{natAbs};
+ghost use Rattle.model.specs.Reading.{kindOf};
+ghost use Rattle.model.specs.Move.{changed};
+ghost use Rattle.transition.specs.Running.{Changeable, IsResult, Runnable, Ran};
+ghost use mathlib.Core.Bool.{false};
+ghost use Prim.Native.Nat.{ℕ};
+ghost use lib.ListN.{getD};
+ghost use lib.IntN.{pos};
+ghost use Rattle.model.specs.Limits.{paper};
+ghost use Rattle.model.specs.StateTable.{stateOf};
+ghost use Rattle.model.specs.Calls.{fitted, resultOf};
+ghost use Rattle.state.specs.Storing.{stateIn};
+ghost use Rattle.normal.specs.Answers.{Answered};
+ghost use Rattle.transition.specs.Answers.{allInRange};
+ghost use Rattle.model.specs.Task.{Block};
+ghost use Rattle.model.specs.Move.{real};
+ghost use Rattle.transition.specs.Moving.{Movable, Valued, Chosen, movedBy};
+ghost use mathlib.Core.Option.{none};
+ghost use Rattle.model.specs.Task.{written};
+ghost use Rattle.model.specs.Reading.{only, reading};
+ghost use Rattle.model.specs.StateTable.{stateRefusal};
+ghost use Rattle.model.specs.Calls.{stepOf, stepAnswer, stepOut};
+ghost use Rattle.transition.specs.Steps.{Read};
+use block::ItemAt;
+use model::ReadAnswer;
+use model::Refusal;
+use model::WriteAnswer;
+use state::StateCheck;
+use table::Wanted;
+
+// "k is 0 := , 1 += , 2 −="
+fn changed(kind: u8, old: i64, z: i64) -> i64
+    requires { ⌜ (natAbs old ≤ 1000000000000) × (natAbs z ≤ 8000000001000000) ⌝ }
+    ensures { λ r. ⌜ r ≡ changed (kindOf kind) old z ⌝ }
+{
+    match kind {
+        0 => z,
+        1 => integer::add(old, z),
+        _ => integer::sub(old, z),
+    }
+}
+
+// What an effect makes of its variable: "all effects read the state before it".
+fn result_of(
+    part: &[u8],
+    kind: u8,
+    var: usize,
+    base: i64,
+    from: usize,
+    terms: usize,
+    values: &[i64],
+) -> i64
+    requires { ⌜ Changeable (now part) kind var base from terms (now values) ⌝ }
+    ensures { λ r. ⌜ IsResult (now (part .entry)) kind var base from terms (now (values .entry)) r ⌝ }
+{
+    let z = block::real_value(part, from, terms, base, values);
+    let old = values[var];
+    changed(kind, old, z)
+}
+
+// Takes the items of a move's part in: propositions are added and deleted, each effect gives its variable a new value.
+fn run(part: &[u8], values: &[i64], has: &mut [bool], next: &mut [i64])
+    requires { ⌜ Runnable (now part) (now values) (now has) (now next) ⌝ }
+    ensures { λ r. ⌜ Ran (now (part .entry)) (now (values .entry)) (now (has .entry)) (now (next .entry)) (now (has .exit)) (now (next .exit)) ⌝ }
+{
+    let mut at = 1;
+    loop {
+        match block::next(part, at) {
+            ItemAt::Add { prop, after } => {
+                has[prop] = true;
+                at = after;
+            }
+            ItemAt::Delete { prop, after } => {
+                has[prop] = false;
+                at = after;
+            }
+            ItemAt::Effect {
+                kind,
+                var,
+                base,
+                from,
+                terms,
+                after,
+            } => {
+                next[var] = result_of(part, kind, var, base, from, terms, values);
+                at = after;
+            }
+            ItemAt::Need { prop: _, after } => {
+                at = after;
+            }
+            ItemAt::Condition {
+                comparison: _,
+                bound: _,
+                from: _,
+                terms: _,
+                after,
+            } => {
+                at = after;
+            }
+            ItemAt::End => {
+                return;
+            }
+        }
+    }
+}
+
+// Are all values within ±1,000,000?
+fn in_range(values: &[i64], vars: usize) -> bool
+    requires { ⌜ vars ≤ length (now values) ⌝ }
+    ensures { λ r. ⌜ r ≡ allInRange (now (values .entry)) vars ⌝ }
+{
+    let mut v = 0;
+    while v < vars {
+        if !state::in_range(values[v]) {
+            return false;
+        }
+        v += 1;
+    }
+    true
+}
+
+// The result of a move, if it is in range and fits.
+fn finish(has: &[bool], values: &[i64], props: usize, vars: usize, out: &mut [u8]) -> WriteAnswer
+    requires { ⌜ (props ≤ length (now has)) × (vars ≤ length (now values)) × (props ≤ 120) × (vars ≤ 16) ⌝ }
+    ensures { λ r. ⌜ Answered (fitted (length (now (out .entry))) (resultOf paper props vars (stateIn (now (has .entry)) (now (values .entry))))) (now (out .entry)) (now (out .exit)) r ⌝ }
+{
+    if !in_range(values, vars) {
+        return WriteAnswer::Refused(Refusal {
+            number: 12,
+            place: 0,
+        });
+    }
+    let size = props + 4 * vars;
+    if out.len() < size {
+        return WriteAnswer::Refused(Refusal {
+            number: 13,
+            place: 0,
+        });
+    }
+    state::store(out, has, values, props, vars);
+    WriteAnswer::Written(size as u64)
+}
+
+// The propositions of a state.
+fn truths_of(state: &[u8], props: usize) -> [bool; 120]
+    requires { ⌜ (props ≤ length (now state)) × (props ≤ 120) ⌝ }
+    ensures { λ r. ⌜ (length r ≡ 120) × ((p : ℕ) → p < props → getD r p false ≡ stateOf props (now (state .entry)) .has p) ⌝ }
+{
+    let mut has = [false; 120];
+    state::load_truths(state, props, &mut has);
+    has
+}
+
+// The values of a state.
+fn values_of(state: &[u8], props: usize, vars: usize) -> [i64; 16]
+    requires { ⌜ (props + 4 * vars ≤ length (now state)) × (vars ≤ 16) ⌝ }
+    ensures { λ r. ⌜ (length r ≡ 16) × ((v : ℕ) → v < vars → getD r v (pos 0) ≡ stateOf props (now (state .entry)) .val v) ⌝ }
+{
+    let mut values = [0; 16];
+    state::load_values(state, props, vars, &mut values);
+    values
+}
+
+// Runs a move whose conditions hold.
+fn result(
+    part: &[u8],
+    state: &[u8],
+    props: usize,
+    vars: usize,
+    values: &[i64; 16],
+    out: &mut [u8],
+) -> WriteAnswer
+    requires { ⌜ (Movable (now part) (now state) props vars) × (Valued (now state) props vars (now values)) ⌝ }
+    ensures { λ r. ⌜ ((b : Block) → Chosen (now (part .entry)) (now (state .entry)) props vars b → Answered (fitted (length (now (out .entry))) (resultOf paper props vars (real b (stateOf props (now (state .entry)))))) (now (out .entry)) (now (out .exit)) r) ⌝ }
+{
+    let mut has = truths_of(state, props);
+    let mut next = values_of(state, props, vars);
+    run(part, values, &mut has, &mut next);
+    finish(&has, &next, props, vars, out)
+}
+
+// "A real move needs its conditions true".
+fn moved(part: &[u8], state: &[u8], props: usize, vars: usize, out: &mut [u8]) -> WriteAnswer
+    requires { ⌜ Movable (now part) (now state) props vars ⌝ }
+    ensures { λ r. ⌜ ((b : Block) → Chosen (now (part .entry)) (now (state .entry)) props vars b → Answered (fitted (length (now (out .entry))) (movedBy props vars (stateOf props (now (state .entry))) b)) (now (out .entry)) (now (out .exit)) r) ⌝ }
+{
+    let values = values_of(state, props, vars);
+    if !block::applicable(part, state, &values) {
+        return WriteAnswer::Refused(Refusal {
+            number: 11,
+            place: 0,
+        });
+    }
+    result(part, state, props, vars, &values, out)
+}
+
+// Makes the chosen move, "no such move" apart.
+fn choose(
+    table: &[u8],
+    marks: &[usize],
+    props: usize,
+    vars: usize,
+    moves: usize,
+    state: &[u8],
+    chosen: u64,
+    out: &mut [u8],
+) -> WriteAnswer
+    requires { ⌜ (Read (now table) (now marks) props vars moves) × (stateRefusal paper props vars (now state) ≡ none) ⌝ }
+    ensures { λ r. ⌜ Answered (fitted (length (now (out .entry))) (stepOf paper (reading paper (only written) (now (table .entry))) (now (state .entry)) chosen)) (now (out .entry)) (now (out .exit)) r ⌝ }
+{
+    if chosen >= moves as u64 {
+        return WriteAnswer::Refused(Refusal {
+            number: 10,
+            place: 0,
+        });
+    }
+    let b = chosen as usize;
+    let from = marks[b];
+    let end = marks[b + 1];
+    moved(&table[from..end], state, props, vars, out)
+}
+
+// Checks the state, and makes the move.
+fn checked(
+    table: &[u8],
+    marks: &[usize; 66],
+    props: usize,
+    vars: usize,
+    moves: usize,
+    state: &[u8],
+    chosen: u64,
+    out: &mut [u8],
+) -> WriteAnswer
+    requires { ⌜ Read (now table) (now marks) props vars moves ⌝ }
+    ensures { λ r. ⌜ Answered (fitted (length (now (out .entry))) (stepOf paper (reading paper (only written) (now (table .entry))) (now (state .entry)) chosen)) (now (out .entry)) (now (out .exit)) r ⌝ }
+{
+    match state::check(state, props, vars) {
+        StateCheck::Accepted => choose(table, marks, props, vars, moves, state, chosen, out),
+        StateCheck::Refused(r) => WriteAnswer::Refused(r),
+    }
+}
+
+// Makes one real move of a written table: the length of the state, or why the call turns back.
+pub fn step(table: &[u8], state: &[u8], chosen: u64, out: &mut [u8]) -> WriteAnswer
+    ensures { λ r. ⌜ (r ≡ stepAnswer paper (now (table .entry)) (now (state .entry)) chosen (now (out .entry))) × (now (out .exit) ≡ stepOut paper (now (table .entry)) (now (state .entry)) chosen (now (out .entry))) ⌝ }
+{
+    let mut marks = [0; 66];
+    match table::outline(table, Wanted::Written, &mut marks) {
+        ReadAnswer::Head {
+            kind: _,
+            props,
+            vars,
+            moves,
+        } => {
+            checked(
+                table,
+                &marks,
+                props as usize,
+                vars as usize,
+                moves as usize,
+                state,
+                chosen,
+                out,
+            )
+        }
+        ReadAnswer::Refused(r) => WriteAnswer::Refused(r),
+    }
+}

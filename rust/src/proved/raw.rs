@@ -1,0 +1,126 @@
+//! The exported C functions over slices. Each answers the library's own number: bits 32
+//! to 63 the refusal's number, 0 if accepted; bits 0 to 31 the place, or the result.
+
+#![allow(unsafe_code)]
+
+extern "C" {
+    fn lapyndo_read(table: *const u8, table_len: usize) -> u64;
+
+    fn lapyndo_block(
+        table: *const u8,
+        table_len: usize,
+        block: u64,
+        out: *mut u8,
+        out_len: usize,
+    ) -> u64;
+
+    fn lapyndo_normalise(table: *const u8, table_len: usize, out: *mut u8, out_len: usize) -> u64;
+
+    fn lapyndo_step(
+        table: *const u8,
+        table_len: usize,
+        state: *const u8,
+        state_len: usize,
+        mv: u64,
+        out: *mut u8,
+        out_len: usize,
+    ) -> u64;
+
+    fn lapyndo_decide(
+        table: *const u8,
+        table_len: usize,
+        state: *const u8,
+        state_len: usize,
+        layers: *mut i64,
+        layers_len: usize,
+    ) -> u64;
+
+    fn lapyndo_plan(
+        table: *const u8,
+        table_len: usize,
+        state: *const u8,
+        state_len: usize,
+        layers: *mut i64,
+        layers_len: usize,
+        out: *mut u8,
+        out_len: usize,
+        records: *mut u64,
+        first_moves: *mut u64,
+    ) -> u64;
+}
+
+// Every pointer below comes from a reference and is passed with the length of its slice.
+// The functions keep no pointer, and references to mutable memory do not overlap others.
+
+pub fn read(table: &[u8]) -> u64 {
+    unsafe { lapyndo_read(table.as_ptr(), table.len()) }
+}
+
+/// Copies as much of the block's part as fits.
+pub fn block(table: &[u8], block: u64, out: &mut [u8]) -> u64 {
+    unsafe {
+        lapyndo_block(
+            table.as_ptr(),
+            table.len(),
+            block,
+            out.as_mut_ptr(),
+            out.len(),
+        )
+    }
+}
+
+pub fn normalise(table: &[u8], out: &mut [u8]) -> u64 {
+    unsafe { lapyndo_normalise(table.as_ptr(), table.len(), out.as_mut_ptr(), out.len()) }
+}
+
+pub fn step(table: &[u8], state: &[u8], mv: u64, out: &mut [u8]) -> u64 {
+    unsafe {
+        lapyndo_step(
+            table.as_ptr(),
+            table.len(),
+            state.as_ptr(),
+            state.len(),
+            mv,
+            out.as_mut_ptr(),
+            out.len(),
+        )
+    }
+}
+
+pub fn decide(table: &[u8], state: &[u8], layers: &mut [i64]) -> u64 {
+    unsafe {
+        lapyndo_decide(
+            table.as_ptr(),
+            table.len(),
+            state.as_ptr(),
+            state.len(),
+            layers.as_mut_ptr(),
+            layers.len(),
+        )
+    }
+}
+
+/// Writes the number of records and the set of first moves in an answer only.
+pub fn plan(
+    table: &[u8],
+    state: &[u8],
+    layers: &mut [i64],
+    out: &mut [u8],
+    records: &mut u64,
+    first_moves: &mut u64,
+) -> u64 {
+    unsafe {
+        lapyndo_plan(
+            table.as_ptr(),
+            table.len(),
+            state.as_ptr(),
+            state.len(),
+            layers.as_mut_ptr(),
+            layers.len(),
+            out.as_mut_ptr(),
+            out.len(),
+            records,
+            first_moves,
+        )
+    }
+}

@@ -1,0 +1,87 @@
+//! Two engines compared on many calls, counted by what they answer.
+
+use crate::call::{Call, Fill};
+use crate::engine::{Engine, Reference};
+use crate::generate::Rng;
+use crate::harness::compare_over;
+
+/// An engine compared with the reference, and how its calls went.
+pub struct Tally<'e> {
+    engine: &'e dyn Engine,
+    rng: Rng,
+    /// Calls by the number of their refusal; 0 for accepted ones.
+    counts: [usize; 16],
+}
+
+impl<'e> Tally<'e> {
+    pub fn new(engine: &'e dyn Engine, seed: u64) -> Tally<'e> {
+        Tally {
+            engine,
+            rng: Rng::new(seed),
+            counts: [0; 16],
+        }
+    }
+
+    /// Compares one call, over contents of the outputs that differ from call to call.
+    ///
+    /// # Panics
+    /// If the outcomes differ; the message has the call in hexadecimal and both outcomes.
+    pub fn check(&mut self, call: &Call) {
+        let fill = Fill::Seeded(self.rng.next_u64());
+        match compare_over(call, fill, &Reference, self.engine) {
+            Ok(outcome) => self.counts[refusal_number(&outcome)] += 1,
+            Err(difference) => panic!("{difference}\n  before: {fill:?}"),
+        }
+    }
+
+    pub fn inputs(&self) -> usize {
+        self.counts.iter().sum()
+    }
+
+    /// Fails unless there were at least so many calls, and each of these numbers came up.
+    ///
+    /// # Panics
+    /// If there were fewer, or a number is missing.
+    pub fn expect(&self, inputs: usize, numbers: &[usize]) {
+        let counts = self.counts;
+        println!("{} inputs, by refusal {counts:?}", self.inputs());
+        assert!(self.inputs() >= inputs, "{} inputs only", self.inputs());
+        for number in numbers {
+            assert!(counts[*number] >= 5, "refusal {number}: {counts:?}");
+        }
+    }
+}
+
+/// The number of a refusal, 0 for any other outcome.
+fn refusal_number(outcome: &str) -> usize {
+    let refusal = outcome.strip_prefix("refusal ");
+    let number = refusal.and_then(|rest| rest.split(' ').next());
+    number.map_or(0, |number| number.parse().expect("a refusal has a number"))
+}
+
+#[cfg(test)]
+mod tests {
+    use super::*;
+    use crate::engine::Calls;
+
+    #[test]
+    fn refusals_have_numbers() {
+        assert_eq!(refusal_number("refusal 14 place 2 memory -"), 14);
+        assert_eq!(refusal_number("ok 54 0 0 0"), 0);
+    }
+
+    #[test]
+    #[should_panic(expected = "540000004745")]
+    fn a_difference_shows_the_call() {
+        let call = Call::Read {
+            table: vec![0x54, 0, 0, 0, 0x47, 0x45],
+        };
+        Tally::new(&Calls::NONE, 1).check(&call);
+    }
+
+    #[test]
+    #[should_panic(expected = "refusal 2")]
+    fn a_missing_refusal_is_found() {
+        Tally::new(&Reference, 1).expect(0, &[2]);
+    }
+}
