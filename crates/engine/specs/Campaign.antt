@@ -6,19 +6,20 @@ use mathlib.Core.List.{List, [], _∷_, _++_}
 use mathlib.Core.Option.{Option, none, some}
 use lib.IntN.{ℤ}
 use native.Mathlib.Omega.{arith}
-use lib.ListN.{length, take, drop}
+use lib.ListN.{length, take, drop, length-append}
 use lib.Seq.{take-append-seam}
 use Rattle.model.specs.declared.Refusal.{Refusal}
 use Rattle.model.specs.declared.WriteAnswer.the-variants as write
 use Rattle.model.specs.Memory.{overwrite}
 use Rattle.model.specs.Theorems.AnswerSizes.{WriteSmall, normalise-small}
+use Rattle.model.specs.Theorems.Rebuilding.{decide-length, decide-again, plan-same-length}
 use Rattle.model.specs.declared.DecideAnswer.{DecideAnswer}
 use Rattle.model.specs.declared.DecideAnswer.the-variants as decide
 use Rattle.model.specs.declared.PlanAnswer.{PlanAnswer}
 use Rattle.model.specs.declared.PlanAnswer.the-variants as plan
 use Rattle.model.specs.Limits.{paper}
 use Rattle.model.specs.Reading.{Table}
-use Rattle.model.specs.Calls.{Output, writes, turns, writeAnswer, outputAfter, normalBytes, normalised, normaliseAnswer, normaliseOut, decideAnswer, planAnswer, planMemory, planOut}
+use Rattle.model.specs.Calls.{Output, writes, turns, writeAnswer, outputAfter, normalBytes, normalised, normaliseAnswer, normaliseOut, decideAnswer, decideMemory, planAnswer, planMemory, planOut}
 use Rattle.model.specs.Theorems.Demand3.{Given, Answers, normalPart, normalise-writes, normalise-leaves, decideLayers, planLayers}
 use Rattle.model.specs.Theorems.EndToEnd.{demand3, LayersWithin, decide-within, plan-within}
 
@@ -98,6 +99,7 @@ pub record Handed (t spare : List ℕ) (n : ℕ) : Type 0 where
   pub is : normalised paper t (length spare) ≡ writes bytes
   pub part : take n (normaliseOut paper t spare) ≡ bytes
   pub fits : n ≤ length spare
+  pub inside : n ≤ length (normaliseOut paper t spare)
 
 pub written-hands : (t spare : List ℕ) (n : ℕ) → normaliseAnswer paper t spare ≡ write.Written n → Handed t spare n
 unfolding normaliseAnswer normaliseOut writeAnswer outputAfter overwrite
@@ -114,6 +116,7 @@ written-hands t spare n e = go (normalised paper t (length spare)) refl e
           is = is;
           part = rw is (subst (λ (m : ℕ). take m (nb ++ drop (length nb) spare) ≡ nb) same (take-append-seam nb (drop (length nb) spare)));
           fits = fits;
+          inside = rw is (omega (arith, same, length-append nb (drop (length nb) spare)));
         }
     go (turns r) is answer = let z : _≡_ {A = ℕ} 0 1 = cc in absurd (omega arith)
 
@@ -181,3 +184,19 @@ done-written t bs spare layers out spareAfter part layersAfter outAfter d p n e 
       out-after = o′;
       promise = campaign-promise t bs spare layers out d p outAfter d′ p′ o′;
     }
+
+-- ---- plan after decide, on the memory that decide left
+
+module _ (t bs : List ℕ) (mem after : List ℤ) (out : List ℕ) (e : after ≡ decideMemory paper t bs mem) where
+  same-length : length after ≡ length mem
+  same-length = ap length e ∙ decide-length t bs mem
+
+  pub plan-after : planAnswer paper t bs after out ≡ planAnswer paper t bs mem out
+  plan-after = plan-same-length t bs after mem out same-length .0
+
+  pub out-after : planOut paper t bs after out ≡ planOut paper t bs mem out
+  out-after = plan-same-length t bs after mem out same-length .1
+
+  pub memory-after : planMemory paper t bs after ≡ planMemory paper t bs mem
+  unfolding planMemory
+  memory-after = ap (decideMemory paper t bs) e ∙ decide-again t bs mem

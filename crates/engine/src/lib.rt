@@ -1,6 +1,9 @@
 // The engine for its hosts: exported calls, each answered by one 64-bit number (crates/model/specs/Exports.antt).
 mod copy;
+mod end_to_end;
 
+pub use end_to_end::Answers;
+pub use end_to_end::campaign;
 ghost use mathlib.Core.Path.{_≡_};
 ghost use Prim.Native.Nat.{_+_, _^_, _<_, _≤_};
 ghost use Rattle.model.specs.Exports.{refusalCode, readCode, writeCode, decideCode, planCode, planRecordCount, planFirstMoves, blockCode, blockCopy};
@@ -9,7 +12,7 @@ ghost use mathlib.Core.List.{List};
 ghost use mathlib.Core.Option.{Option};
 ghost use lib.ListN.{length};
 ghost use Rattle.model.specs.declared.Refusal.{Refusal};
-ghost use Rattle.model.specs.Calls.{readAnswer, stepAnswer, stepOut, normaliseAnswer, normaliseOut, decideAnswer, decideMemory, blockPart, blockRefusal, refusalNumber, refusalPlace};
+ghost use Rattle.model.specs.Calls.{readAnswer, planAnswer, planMemory, planOut, stepAnswer, stepOut, normaliseAnswer, normaliseOut, decideAnswer, decideMemory, blockPart, blockRefusal, refusalNumber, refusalPlace};
 ghost use Rattle.engine.specs.Parts.{partCode};
 ghost use Rattle.engine.specs.Sizes.{hostLimit, Readable, Writable, Decidable, Plannable};
 use model::DecideAnswer;
@@ -155,4 +158,27 @@ pub extern "C" fn lapyndo_decide(table: &[u8], state: &[u8], layers: &mut [i64])
         × (now (layers .exit) ≡ decideMemory paper (now (table .entry)) (now (state .entry)) (now (layers .entry))) ⌝ }
 {
     decide_code(layers::decide(table, state, layers))
+}
+
+// Plan, for tests. The number of records and the first moves are written in an answer only.
+#[no_mangle]
+pub extern "C" fn lapyndo_plan(
+    table: &[u8],
+    state: &[u8],
+    layers: &mut [i64],
+    out: &mut [u8],
+    records: &mut u64,
+    first: &mut u64,
+) -> u64
+    ensures { λ c. ⌜ (c ≡ planCode (planAnswer paper (now (table .entry)) (now (state .entry)) (now (layers .entry)) (now (out .entry))))
+        × (now (layers .exit) ≡ planMemory paper (now (table .entry)) (now (state .entry)) (now (layers .entry)))
+        × (now (out .exit) ≡ planOut paper (now (table .entry)) (now (state .entry)) (now (layers .entry)) (now (out .entry)))
+        × (now (records .exit) ≡ planRecordCount (planAnswer paper (now (table .entry)) (now (state .entry)) (now (layers .entry)) (now (out .entry))) (now (records .entry)))
+        × (now (first .exit) ≡ planFirstMoves (planAnswer paper (now (table .entry)) (now (state .entry)) (now (layers .entry)) (now (out .entry))) (now (first .entry))) ⌝ }
+{
+    plan_code(
+        relaxed_plan::plan(table, state, layers, out),
+        records,
+        first,
+    )
 }

@@ -8,3 +8,4 @@ pub mod Storing
 pub mod Building
 pub mod Starting
 pub mod Preparing
+pub mod Results

@@ -2,7 +2,7 @@
 -- Assumes nothing.
 use Prim.Native.Nat.{ℕ}
 use native.Mathlib.Omega.{arith}
-use mathlib.Core.Path.{_≡_, refl, sym, ap, _∙_}
+use mathlib.Core.Path.{_≡_, sym, ap, _∙_}
 use mathlib.Core.List.{List}
 use lib.ListN.{length}
 use Rattle.integer.specs.BigEndian.{AllBytes}
@@ -11,12 +11,12 @@ use Rattle.model.specs.declared.ReadAnswer.{ReadAnswer}
 use Rattle.model.specs.declared.ReadAnswer.the-variants as read
 use Rattle.model.specs.Limits.{paper}
 use Rattle.model.specs.Task.{Form, written}
-use Rattle.model.specs.Reading.{Table, Verdict, accepted, refused, only, reading}
+use Rattle.model.specs.Reading.{Table, accepted, refused, only, reading}
 use Rattle.model.specs.declared.WriteAnswer.{WriteAnswer}
 use Rattle.model.specs.declared.WriteAnswer.the-variants as write
-use Rattle.model.specs.Calls.{readOf, Output, writes, fitted, writeAnswer, outputAfter, normalBytes, normalOf, normalised, normaliseAnswer, normaliseOut}
+use Rattle.model.specs.Calls.{Output, writes, fitted, writeAnswer, outputAfter, normalBytes, normalOf, normalised, normaliseAnswer, normaliseOut}
 use Rattle.model.specs.Theorems.Accepted.{reading-head}
-use Rattle.table.specs.Answer.{Outlined}
+use Rattle.table.specs.Answer.{Outlined, answer-accepted, answer-refused}
 use Rattle.normal.specs.Outlines.{Outline, outline-of}
 use Rattle.normal.specs.Tables.{taskIn, readTask, Source, Heads}
 use Rattle.normal.specs.Answers.{Answered, answered-refused}
@@ -36,42 +36,21 @@ module _ (f : Form) {t marks : List ℕ} {r : ReadAnswer} (o : Outlined t (readi
       → r ≡ read.Head kind props vars moves
       → AllBytes t
       → HeadRead f t marks props vars moves
-  unfolding readOf
-  head-read {kind} {props} {vars} {moves} e all = go (reading paper (only f) t) refl
-    where
-      go : (v : Verdict) → reading paper (only f) t ≡ v → HeadRead f t marks props vars moves
-      go (accepted k) q =
-          let same : read.Head kind props vars moves ≡ readOf (accepted k) = sym e ∙ o .answer ∙ ap readOf q in
-          let h = reading-head paper (only f) t q in
-          let p : props ≡ k .header .props = cc in
-          let w : vars ≡ k .header .vars = cc in
-          let m : moves ≡ k .header .moves = cc in
-          record {
-            table = k;
-            is = q;
-            outline = outline-of f t marks k q all (o .marks k q) (o .rising k q) (o .inside k q);
-            props-is = p ∙ h .0;
-            vars-is = w ∙ h .1;
-            count = m ∙ h .2;
-          }
-      go (refused s) q =
-          let clash : read.Head kind props vars moves ≡ readOf (refused s) = sym e ∙ o .answer ∙ ap readOf q in
-          let z : _≡_ {A = ℕ} 0 1 = cc in
-          absurd (omega arith)
+  head-read {kind} {props} {vars} {moves} e all =
+      let a = answer-accepted (reading paper (only f) t) kind props vars moves (sym (o .answer) ∙ e) in
+      let k = a .table in
+      let h = reading-head paper (only f) t (a .is) in
+      record {
+        table = k;
+        is = a .is;
+        outline = outline-of f t marks k (a .is) all (o .marks k (a .is)) (o .rising k (a .is)) (o .inside k (a .is));
+        props-is = sym (a .props-is) ∙ h .0;
+        vars-is = sym (a .vars-is) ∙ h .1;
+        count = sym (a .moves-is) ∙ h .2;
+      }
 
   pub head-refused : {q : Refusal} → r ≡ read.Refused q → reading paper (only f) t ≡ refused q
-  unfolding readOf
-  head-refused {q} e = go (reading paper (only f) t) refl
-    where
-      go : (v : Verdict) → reading paper (only f) t ≡ v → v ≡ refused q
-      go (accepted k) s =
-          let clash : read.Refused q ≡ readOf (accepted k) = sym e ∙ o .answer ∙ ap readOf s in
-          let z : _≡_ {A = ℕ} 0 1 = cc in
-          absurd (omega arith)
-      go (refused x) s =
-          let same : read.Refused q ≡ readOf (refused x) = sym e ∙ o .answer ∙ ap readOf s in
-          let y : x ≡ q = cc in
-          ap refused y
+  head-refused {q} e = answer-refused (reading paper (only f) t) q (sym (o .answer) ∙ e)
 
 module _ {t marks : List ℕ} {props vars moves : ℕ} (h : HeadRead written t marks props vars moves) where
   pub task-is : readTask t ≡ h .table .task

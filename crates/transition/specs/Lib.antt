@@ -1,5 +1,7 @@
 -- The specifications of one real move: what its items do to the propositions and the values, and the call's answer.
+pub mod Changes
 pub mod Running
+pub mod Walking
 pub mod Answers
 pub mod Moving
 pub mod Steps

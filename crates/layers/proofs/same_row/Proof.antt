@@ -2,6 +2,8 @@
 use Prim.Native.Nat.{_-_}
 use mathlib.Core.Path.{_≡_, _∙_, sym}
 use borrow.Author.Tests.{not-true, not-false}
+use lib.IntN.{pos}
+use lib.ListN.{getD}
 use Rattle.integer.specs.Linear.{back}
 use Rattle.layers.specs.Comparing.{notAbove, Passing, passing-start, passing-next, passing-stop, passing-end}
 use native.Mathlib.Omega.{arith}
@@ -35,7 +37,10 @@ at-most-requires c κs = tt
 -- what the test says
 told : (c : tie.After-at-most Inv-loop μ-loop) → c .at-most .result ≡ notAbove (c .before .before .before .before .before .args .row .now) (c .before .before .before .before .before .args .next .now) (c .before .before .before .before .loop .v)
 unfolding notAbove
-told c = rw (back _ (c .before .before .x .given), back _ (c .before .y .given)) at (c .at-most .ensures)
+told c =
+    let a = c .before .before .before .before .before .args in
+    let v = c .before .before .before .before .loop .v in
+    rw (back (getD (a .next .now) v (pos 0)) (c .before .before .x .given), back (getD (a .row .now) v (pos 0)) (c .before .y .given)) at (c .at-most .ensures)
 
 returns : tie.Need-returns Inv-loop μ-loop
 unfolding notAbove

@@ -8,7 +8,7 @@ use Rattle.integer.specs.Linear.{back}
 use Rattle.model.specs.Task.{Kind}
 use Rattle.model.specs.Reading.{kindOf}
 use Rattle.model.specs.Move.{changed}
-use Rattle.transition.specs.Running.{kind-rest}
+use Rattle.transition.specs.Walking.{kind-rest}
 use Rattle.transition.proofs.changed.Statement.{statement}
 use Rattle.transition.proofs.changed.Tie as tie
 

@@ -6,7 +6,7 @@ use borrow.Author.Needs.{needs}
 use lib.ListN.{length}
 use Rattle.integer.specs.Linear.{back, back-small}
 use Rattle.block.specs.Blocks.{next-is}
-use Rattle.transition.specs.Running.{Going, going-start, going-add, going-delete, going-need, going-condition, going-effect, going-end, going-readable, going-add-room, going-delete-room, going-changeable, going-base, going-effect-room}
+use Rattle.transition.specs.Walking.{Going, going-start, going-add, going-delete, going-need, going-condition, going-effect, going-end, going-readable, going-add-room, going-delete-room, going-changeable, going-base, going-effect-room}
 use Rattle.transition.proofs.run.Statement.{statement}
 use Rattle.transition.proofs.run.Tie as tie
 

@@ -1,0 +1,105 @@
+-- `Targets::want_finite` meets its contract. The invariant: in every reading, the first `i` terms are passed. The measure is the
+-- number of terms that are left. Assumes nothing.
+use Prim.Native.Nat.{_-_, _≤_}
+use native.Mathlib.Omega.{arith}
+use mathlib.Core.Path.{_≡_, sym, ap, _∙_}
+use lib.IntN.{pos}
+use lib.ListN.{getD}
+use Rattle.integer.specs.Linear.{back}
+use Rattle.block.specs.Sums.{isMark, few-terms}
+use Rattle.relaxed_plan.specs.Wanting.{Finitely, FinitelyDone, finitely-start, finitely-end, finitely-term, finitely-read, finitely-skip, finitely-raise}
+use Rattle.relaxed_plan.proofs.Targets.want_finite.Statement.{statement}
+use Rattle.relaxed_plan.proofs.Targets.want_finite.Tie as tie
+
+abbrev Inv-loop : tie.InvT-loop
+Inv-loop self₀ part from n row i₀ self i =
+    (i ≤ n) × (n ≤ 8) × ((x : Finitely part from n row self₀) → FinitelyDone x i self)
+
+abbrev μ-loop : tie.MeasureT-loop
+μ-loop self₀ part from n row i₀ self i = n - i
+
+-- the invariant in the reading that the caller has
+own : (c : tie.At-loop Inv-loop μ-loop) → FinitelyDone (c .before .before .pre) (c .loop .i) (c .loop .self)
+own c = c .loop .inv .2 (c .before .before .pre)
+
+loop-holds : tie.Need-loop-holds Inv-loop μ-loop
+loop-holds c = (omega arith, few-terms (c .before .pre .terms), λ x. finitely-start x)
+
+mul-variable : tie.Need-mul-variable Inv-loop μ-loop
+mul-variable c = omega arith
+
+add-variable : tie.Need-add-variable Inv-loop μ-loop
+add-variable c = omega (arith, own (c .before) .terms .bytes .within)
+
+variable-requires : tie.Need-variable-requires Inv-loop μ-loop
+variable-requires c κs = finitely-term _ (own (c .before)) (c .loop-test .taken)
+
+shared-slice-copy-out-x : tie.Need-shared-slice-copy-out-x Inv-loop μ-loop
+shared-slice-copy-out-x c = finitely-read _ (own (c .before .before)) (c .before .loop-test .taken) (c .variable .ensures) .room
+
+mul-x : tie.Need-mul-x Inv-loop μ-loop
+mul-x c = omega (arith, shared-slice-copy-out-x c)
+
+is-unbounded-requires : tie.Need-is-unbounded-requires Inv-loop μ-loop
+is-unbounded-requires c κs = tt
+
+want-value-requires : tie.Need-want-value-requires Inv-loop μ-loop
+want-value-requires c κs =
+    let i = c .before .before .before .before in
+    omega (arith, finitely-read _ (own (i .before)) (i .loop-test .taken) (c .before .before .before .variable .ensures) .small, own (i .before) .encoded .few-vars)
+
+add-i : tie.Need-add-i Inv-loop μ-loop
+add-i c = omega arith
+
+loop-less : tie.Need-loop-less Inv-loop μ-loop
+loop-less c = omega arith
+
+-- the test on the value read
+mark : (c : tie.After-is-unbounded Inv-loop μ-loop) → c .is-unbounded .result ≡ isMark (getD (c .before .before .before .before .before .before .args .row .now) (c .before .before .variable .result) (pos 0))
+mark c = c .is-unbounded .ensures ∙ ap isMark (back _ (c .before .x .given))
+
+loop-less-2 : tie.Need-loop-less-2 Inv-loop μ-loop
+loop-less-2 c = omega arith
+
+loop-again : tie.Need-loop-again Inv-loop μ-loop
+loop-again c =
+    let i = c .before .before .before .before in (
+      omega arith,
+      omega arith,
+      λ x. finitely-skip x (i .before .loop .inv .2 x) (i .loop-test .taken) (c .before .before .before .variable .ensures) (sym (mark (c .before)) ∙ c .if1 .taken),
+    )
+
+loop-again-2 : tie.Need-loop-again-2 Inv-loop μ-loop
+loop-again-2 c =
+    let u = c .before .before in
+    let i = u .before .before .before in (
+      omega arith,
+      omega arith,
+      λ x.
+          finitely-raise x (i .before .loop .inv .2 x) (i .loop-test .taken) (u .before .before .variable .ensures) (sym (mark u) ∙ c .before .if1 .left)
+          (rw (back _ (u .before .x .given)) at (c .want-value .ensures)),
+    )
+
+returns : tie.Need-returns Inv-loop μ-loop
+returns c x = finitely-end x (c .before .loop .inv .2 x) (c .loop-test .left)
+
+pub want-finite-spec : {M : Type 1} → statement M
+want-finite-spec =
+    tie.close
+    (tie.spec
+    Inv-loop
+    μ-loop
+    loop-holds
+    mul-variable
+    add-variable
+    variable-requires
+    mul-x
+    shared-slice-copy-out-x
+    add-i
+    is-unbounded-requires
+    loop-less
+    loop-again
+    want-value-requires
+    loop-less-2
+    loop-again-2
+    returns)

@@ -1,0 +1,198 @@
+-- The answer of `plan` with what the two lent memories hold afterwards. Assumes nothing.
+use Prim.Native.Nat.{ℕ, suc, _+_, _*_, _/_, _≤_, _<_}
+use native.Mathlib.Numerals.{add-one}
+use native.Mathlib.Omega.{arith}
+use mathlib.Core.Path.{_≡_, refl, sym, ap, _∙_, subst}
+use mathlib.Core.Bool.{Bool, true, false, _||_}
+use mathlib.Core.List.{List, []}
+use mathlib.Core.Option.{none}
+use borrow.Author.Tests.{lt-ltb, le-ltb, ltb-false}
+use lib.Dec.{ltb}
+use lib.IntN.{ℤ}
+use lib.ListN.{length}
+use Rattle.integer.specs.Store.{put}
+use Rattle.model.specs.declared.Refusal.{Refusal}
+use Rattle.model.specs.declared.PlanAnswer.{PlanAnswer}
+use Rattle.model.specs.declared.PlanAnswer.the-variants as plan
+use Rattle.model.specs.Limits.{paper}
+use Rattle.model.specs.Task.{normal, Task}
+use Rattle.model.specs.Move.{State, moveAt}
+use Rattle.model.specs.Layer.{Outcome, reached, exhausted, reported, outcome}
+use Rattle.model.specs.Memory.{room, wrong15, wrong14, overwrite, Built, answered, stopped, stopAt, build, builtMemory}
+use Rattle.model.specs.StateTable.{stateRefusal}
+use Rattle.model.specs.Plan.{Record, firstMoves}
+use Rattle.model.specs.Calls.{writes, fitted, outputAfter, Ready, ready, unready, prepared, memoryOf, decideMemory, recordBytes, planRecords, planned, planFitted, planOf, planAnswer, planMemory, planOutOf, planOut}
+use Rattle.model.specs.Theorems.Booleans.{not-false, or-right}
+use Rattle.model.specs.Theorems.Searching.{firstFrom-cases}
+use Rattle.model.specs.Theorems.WellFormed.{TaskOk}
+use Rattle.model.specs.Theorems.Building.{built-outcome}
+use Rattle.model.specs.Theorems.Memories.{Holds, size, memory-holds}
+use Rattle.model.specs.Theorems.StateSizes.{SmallState, accepted-small, normalState-small}
+use Rattle.model.specs.Theorems.PlanSizes.{answered-passes, reported-most}
+use Rattle.layers.specs.declared.Built.{Built as BuiltAnswer}
+use Rattle.layers.specs.declared.Built.the-variants as building
+use Rattle.layers.specs.Stepping.{Outlined, move-left, goal-left}
+use Rattle.layers.specs.Starting.{startOf}
+use Rattle.layers.specs.Building.{IsBuilt, builtOf}
+use Rattle.layers.specs.Preparing.{ReadyIn}
+use Rattle.relaxed_plan.specs.Search.{partAt, Parts}
+use Rattle.relaxed_plan.specs.Layers.{Stored}
+use Rattle.relaxed_plan.specs.Records.{length-recordBytes, put-overwrite}
+use Rattle.relaxed_plan.specs.Passes.{planRecords as storedRecords}
+
+-- ---- what building leaves
+
+pub outlined-parts : {table marks : List ℕ} {k : Task} → Outlined table marks k → Parts table marks k
+unfolding partAt moveAt
+outlined-parts {table} {marks} {k} o =
+    record {
+      inside = λ b h. record { room = omega (arith, o .long); rises = o .ordered b h; within = o .within b h };
+      move = λ b h. move-left o b h;
+      goal = goal-left o;
+    }
+
+-- where the layers are built to the end, there was room for each of them
+answered-room :
+    (k : Task) (s : State) (n : ℕ) {o : Outcome}
+    → build paper k s n ≡ answered o
+    → (u : ℕ)
+    → u ≤ reported (outcome k s)
+    → wrong14 k n u ≡ false
+unfolding build stopAt
+answered-room k s n {o} e u h =
+    firstFrom-cases refused (λ f. stopAt paper k s f (outcome k s) ≡ answered o → wrong14 k n u ≡ false) 0 (suc (reported (outcome k s)))
+    (λ t low high bad before stopped-is. cc)
+    (λ never same. not-false (wrong14 k n u) (λ short. never u (omega arith) (omega arith) (or-right (wrong15 paper k s u) (wrong14 k n u) short)))
+    e
+  where
+    refused : ℕ → Bool
+    refused t = wrong15 paper k s t || wrong14 k n t
+
+-- "N even": the signed variables of an accepted state
+start-small : {k : Task} (props : ℕ) {vars : ℕ} (bs : List ℕ) → TaskOk paper normal k → vars ≡ k .vars → stateRefusal paper props (vars / 2) bs ≡ none → SmallState (k .vars) (startOf props bs)
+unfolding paper
+start-small {k} props {vars} bs ok e accepted =
+    normalState-small {vars = vars / 2} (omega (arith, ok .vars .1, e)) (accepted-small props (vars / 2) bs accepted)
+
+module _ {t bs marks : List ℕ} {props vars moves m : ℕ} {mem mem′ : List ℤ} (r : ReadyIn t bs marks props vars moves) (b : IsBuilt (r .task) (startOf props bs) mem mem′ (building.Reached m)) where
+  is-reached : build paper (r .task) (startOf props bs) (length mem) ≡ answered (reached m)
+  unfolding builtOf
+  is-reached = sym (b .ended)
+
+  is-outcome : m ≡ reported (outcome (r .task) (startOf props bs))
+  unfolding reported
+  is-outcome = ap reported (built-outcome paper (r .task) (startOf props bs) (length mem) (reached m) is-reached)
+
+  enough : size (r .task) (startOf props bs) (suc m) ≤ length mem
+  unfolding wrong14 room
+  enough =
+      let k = r .task in
+      let fits = ltb-false (length mem) (k .props + length (k .moves) + k .vars * (m + 1)) (answered-room k (startOf props bs) (length mem) is-reached m (omega (arith, is-outcome))) in
+      rw (add-one m) at fits
+
+  -- the memory holds the layers up to the answer layer
+  pub built-stored : Stored t marks mem′ props vars moves m
+  unfolding builtMemory
+  built-stored =
+      let k = r .task in
+      let s = startOf props bs in
+      record {
+        task = k;
+        start = s;
+        ok = r .outlined .ok;
+        parts = outlined-parts (r .outlined);
+        props-is = sym (r .counts .props-is);
+        vars-is = sym (r .counts .vars-is);
+        moves-is = sym (r .counts .moves-is);
+        old = mem;
+        held =
+            subst (Holds k s (suc m) m mem)
+            (sym (b .memory ∙ ap (λ (x : Built). overwrite (builtMemory k s x) mem) is-reached))
+            (memory-holds k s (suc m) m mem enough);
+        room = enough;
+        small = start-small props bs (r .outlined .ok) (r .counts .vars-is) (r .accepted-state);
+        right = λ u h. answered-passes k s (length mem) is-reached u (omega (arith, is-outcome));
+        most = omega (arith, is-outcome, reported-most (r .outlined .ok) s);
+      }
+
+-- ---- what the call answers and leaves
+
+pub record Planned (t bs : List ℕ) (mem mem′ : List ℤ) (out out′ : List ℕ) (r : PlanAnswer) : Type 0 where
+  pub answers : r ≡ planAnswer paper t bs mem out
+  pub leaves : mem′ ≡ planMemory paper t bs mem
+  pub writes-is : out′ ≡ planOut paper t bs mem out
+
+pub planned-refused : (t bs : List ℕ) (mem : List ℤ) (out : List ℕ) {r : Refusal} → prepared paper t bs ≡ unready r → Planned t bs mem mem out out (plan.Refused r)
+unfolding planAnswer planOf planMemory decideMemory memoryOf planOut planOutOf
+planned-refused t bs mem out e =
+    record {
+      answers = sym (ap (planOf paper (length mem) (length out)) e);
+      leaves = sym (ap (λ (x : Ready). memoryOf paper x mem) e);
+      writes-is = sym (ap (λ (x : Ready). planOutOf paper (length mem) x out) e);
+    }
+
+module _ (t bs : List ℕ) (mem mem′ : List ℤ) (out : List ℕ) {k : Task} {s : State} {b : BuiltAnswer} (e : prepared paper t bs ≡ ready k s) (built : IsBuilt k s mem mem′ b) where
+  pub planned-built :
+      {out′ : List ℕ} {r : PlanAnswer}
+      → r ≡ planFitted (length out) (planRecords k s (builtOf b)) (builtOf b)
+      → out′ ≡ outputAfter (fitted (length out) (writes (recordBytes (planRecords k s (builtOf b))))) out
+      → Planned t bs mem mem′ out out′ r
+  unfolding planAnswer planOf planMemory decideMemory memoryOf planOut planOutOf
+  planned-built f g =
+      record {
+        answers =
+            f ∙ ap (λ (x : Built). planFitted (length out) (planRecords k s x) x) (built .ended)
+            ∙ sym (ap (planOf paper (length mem) (length out)) e);
+        leaves = built .memory ∙ sym (ap (λ (x : Ready). memoryOf paper x mem) e);
+        writes-is =
+            g ∙ ap (λ (x : Built). outputAfter (fitted (length out) (writes (recordBytes (planRecords k s x)))) out) (built .ended)
+            ∙ sym (ap (λ (x : Ready). planOutOf paper (length mem) x out) e);
+      }
+
+-- no records
+none-fit : (n : ℕ) (b : Built) → planFitted n [] b ≡ planned [] b
+unfolding planFitted recordBytes
+none-fit n b = rw (le-ltb n 0 (omega arith), planFitted)
+
+none-out : (out : List ℕ) → out ≡ outputAfter (fitted (length out) (writes (recordBytes []))) out
+unfolding recordBytes fitted outputAfter overwrite
+none-out out = rw (le-ltb (length out) 0 (omega arith), fitted) refl
+
+module _ (t bs : List ℕ) (mem mem′ : List ℤ) (out : List ℕ) {k : Task} {s : State} (e : prepared paper t bs ≡ ready k s) where
+  -- "No plan" is no refusal: it writes no plan bytes and its set of first moves is empty.
+  pub planned-exhausted : {m : ℕ} → IsBuilt k s mem mem′ (building.Exhausted m) → Planned t bs mem mem′ out out (plan.NoPlan m 0 0)
+  unfolding builtOf planRecords planned
+  planned-exhausted {m} built =
+      planned-built t bs mem mem′ out e built (sym (none-fit (length out) (answered (exhausted m)))) (none-out out)
+
+  pub planned-stopped : {n m : ℕ} → IsBuilt k s mem mem′ (building.Stopped n m) → Planned t bs mem mem′ out out (plan.Refused (record { number = n; place = m }))
+  unfolding builtOf planRecords planned
+  planned-stopped {n} {m} built = planned-built t bs mem mem′ out e built (sym (none-fit (length out) (stopped n m))) (none-out out)
+
+-- ---- the records of an answer layer
+
+pub record Extracted (rs : List Record) (m : ℕ) (out out′ : List ℕ) (r : PlanAnswer) : Type 0 where
+  pub answers : r ≡ planFitted (length out) rs (answered (reached m))
+  pub writes-is : out′ ≡ outputAfter (fitted (length out) (writes (recordBytes rs))) out
+
+module _ (rs : List Record) (m : ℕ) (out : List ℕ) {n first : ℕ} (total : n ≡ length rs) (firsts : first ≡ firstMoves rs) where
+  -- "13 | output shorter than the result | 0"
+  pub extracted-short : length out < 10 * n → Extracted rs m out out (plan.Refused (record { number = 13; place = 0 }))
+  unfolding planFitted fitted outputAfter
+  extracted-short h =
+      let short : ltb (length out) (length (recordBytes rs)) ≡ true = lt-ltb (length out) (length (recordBytes rs)) (omega (arith, length-recordBytes rs)) in
+      record { answers = rw (short, planFitted) refl; writes-is = rw (short, fitted) refl }
+
+  pub extracted-written : {out′ : List ℕ} → 10 * n ≤ length out → out′ ≡ put out 0 (recordBytes rs) → Extracted rs m out out′ (plan.Plan m m n first)
+  unfolding planFitted fitted outputAfter planned
+  extracted-written h e =
+      let fits : ltb (length out) (length (recordBytes rs)) ≡ false = le-ltb (length out) (length (recordBytes rs)) (omega (arith, length-recordBytes rs)) in
+      record {
+        answers = rw (fits, planFitted, total, firsts) refl;
+        writes-is = e ∙ put-overwrite out (recordBytes rs) ∙ rw (fits, fitted) refl;
+      }
+
+module _ {t bs marks : List ℕ} {props vars moves m : ℕ} {mem mem′ : List ℤ} (out : List ℕ) (r : ReadyIn t bs marks props vars moves) (b : IsBuilt (r .task) (startOf props bs) mem mem′ (building.Reached m)) where
+  pub planned-reached : {out′ : List ℕ} {a : PlanAnswer} → Extracted (storedRecords (built-stored r b)) m out out′ a → Planned t bs mem mem′ out out′ a
+  unfolding builtOf planRecords built-stored
+  planned-reached x = planned-built t bs mem mem′ out (r .is) b (x .answers) (x .writes-is)

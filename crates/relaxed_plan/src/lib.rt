@@ -1,0 +1,902 @@
+// The plan: wants from the answer layer down, the moves taken for them, their counts, and the records (document 01, "Plan").
+use block::ItemAt;
+use layers::Built;
+use layers::Prepared;
+use model::PlanAnswer;
+use model::Refusal;
+ghost use mathlib.Core.Path.{_≡_};
+ghost use Prim.Native.Nat.{_+_, _*_, _^_, _<_, _≤_, max};
+ghost use lib.ListN.{length};
+ghost use mathlib.Core.Bool.{true, false};
+ghost use lib.IntN.{pos, natAbs};
+ghost use Rattle.integer.specs.Linear.{larger, up};
+ghost use Rattle.model.specs.Plan.{wantFinite, layerRecords, firstMoves};
+ghost use Rattle.model.specs.Limits.{paper};
+ghost use Rattle.model.specs.Calls.{recordBytes, planAnswer, planMemory, planOut};
+ghost use Rattle.integer.specs.Store.{put};
+ghost use Rattle.relaxed_plan.specs.Wanting.{Finitely, Wantable, Wanted, Unbounded, NormalTerm, IsDivisor};
+ghost use Rattle.relaxed_plan.specs.Blocks.{BlockWantable, BlockWanted};
+ghost use Rattle.relaxed_plan.specs.Search.{PartIn, partAt, demandBy, Searchable, IsAdder, Achievable, IsAchiever};
+ghost use Rattle.relaxed_plan.specs.Taking.{Rewanted, Recounted, Above0, IsStep, IsRuns, Takeable, AdderTaken, AchieverTaken};
+ghost use Rattle.relaxed_plan.specs.Descending.{freshTaken, isFree, PropsDescendable, PropsDone, ValuesDescendable, ValuesDone};
+ghost use Rattle.relaxed_plan.specs.View.{Filled, heldBy, heldAt, numberAt, lowBy, lowAt};
+ghost use Rattle.relaxed_plan.specs.Layers.{Stored, GoalWantable, GoalWanted, LayerDescendable, LayerDescended};
+ghost use Rattle.relaxed_plan.specs.Records.{countAt, oneBit, oneBytes};
+ghost use Rattle.relaxed_plan.specs.Passes.{Surveyed, Writable, planRecords};
+ghost use Rattle.relaxed_plan.specs.Answer.{Extracted};
+ghost use Rattle.relaxed_plan.specs.Encoding.{fresh, Added, Raised, Encodes};
+
+// "keep wanted propositions and one target (the largest) a variable": the least 64-bit number where a variable has no target.
+struct Targets {
+    props: [bool; 120],
+    target: [i64; 32],
+}
+
+impl Targets {
+    // Nothing is wanted.
+    fn none() -> Self
+        ensures { λ r. ⌜ r ≡ fresh ⌝ }
+    {
+        Targets {
+            props: [false; 120],
+            target: [-9223372036854775808; 32],
+        }
+    }
+
+    // Wants a proposition.
+    fn want_prop(mut self, p: usize) -> Self
+        requires { ⌜ p < 120 ⌝ }
+        ensures { λ r. ⌜ Added self p r ⌝ }
+    {
+        self.props[p] = true;
+        self
+    }
+
+    // Wants that the variable reaches `z`.
+    fn want_value(mut self, v: usize, z: i64) -> Self
+        requires { ⌜ v < 32 ⌝ }
+        ensures { λ r. ⌜ Raised self v z r ⌝ }
+    {
+        let old = self.target[v];
+        self.target[v] = integer::larger(old, z);
+        self
+    }
+
+    // "each finite variable's target is its layer value": of the `n` terms from `from` on.
+    fn want_finite(mut self, part: &[u8], from: usize, n: usize, row: &[i64]) -> Self
+        requires { ⌜ Finitely (now part) from n (now row) self ⌝ }
+        ensures { λ r. ⌜ ((x : Finitely (now (part .entry)) from n (now (row .entry)) self)
+            → Encodes (x .ranges .props) (x .ranges .vars) r (wantFinite (x .over) (x .wants) (x .ts))) ⌝ }
+    {
+        let mut i = 0;
+        while i < n {
+            let v = block::variable(part, from + 4 * i);
+            let x = row[v];
+            i += 1;
+            if block::is_unbounded(x) {
+                continue;
+            }
+            self = self.want_value(v, x);
+        }
+        self
+    }
+
+    // The target of the lowest unbounded variable `v`, whose term stands at `at`, and those of the terms behind it.
+    fn want_unbounded(
+        self,
+        part: &[u8],
+        at: usize,
+        n: usize,
+        v: usize,
+        c: i64,
+        row: &[i64],
+        lows: &[i64],
+    ) -> Self
+        requires { ⌜ Unbounded (now part) at n v c (now row) (now lows) self ⌝ }
+        ensures { λ r. ⌜ ((x : Wantable (now (part .entry)) at n (now (row .entry)) (now (lows .entry)) self) → Wanted x c r) ⌝ }
+    {
+        let others = self.want_finite(part, at + 4, n - 1, row);
+        let rest = integer::sub(c, block::sum_real(part, at + 4, n - 1, lows));
+        others.want_value(v, integer::ceil_div(rest, divisor(part, at)))
+    }
+
+    // "To want "sum ≥ c" in layer t": the sum of the `n` terms from `from` on, over the layer's row and the row of low values.
+    fn want_sum(
+        mut self,
+        part: &[u8],
+        from: usize,
+        n: usize,
+        c: i64,
+        row: &[i64],
+        lows: &[i64],
+    ) -> Self
+        requires { ⌜ (Wantable (now part) from n (now row) (now lows) self) × (natAbs c ≤ 100000000000000000) ⌝ }
+        ensures { λ r. ⌜ ((x : Wantable (now (part .entry)) from n (now (row .entry)) (now (lows .entry)) self) → Wanted x c r) ⌝ }
+    {
+        let mut left = c;
+        let mut i = 0;
+        while i < n {
+            let at = from + 4 * i;
+            let v = block::variable(part, at);
+            let x = row[v];
+            if block::is_unbounded(x) {
+                return self.want_unbounded(part, at, n - i, v, left, row, lows);
+            }
+            left = integer::sub(left, block::scaled(part, at, x));
+            self = self.want_value(v, x);
+            i += 1;
+        }
+        self
+    }
+
+    // "Want its conditions": those of the block whose part is lent, a move or the goal.
+    fn want_block(mut self, part: &[u8], row: &[i64], lows: &[i64]) -> Self
+        requires { ⌜ BlockWantable (now part) (now row) (now lows) self ⌝ }
+        ensures { λ r. ⌜ ((x : BlockWantable (now (part .entry)) (now (row .entry)) (now (lows .entry)) self) → BlockWanted x r) ⌝ }
+    {
+        let mut at = 1;
+        loop {
+            match block::next(part, at) {
+                ItemAt::Need { prop, after } => {
+                    self = self.want_prop(prop);
+                    at = after;
+                }
+                ItemAt::Condition {
+                    comparison: _,
+                    bound,
+                    from,
+                    terms,
+                    after,
+                } => {
+                    self = self.want_sum(part, from, terms, bound, row, lows);
+                    at = after;
+                }
+                ItemAt::Add { prop: _, after } => {
+                    at = after;
+                }
+                ItemAt::Delete { prop: _, after } => {
+                    at = after;
+                }
+                ItemAt::Effect {
+                    kind: _,
+                    var: _,
+                    base: _,
+                    from: _,
+                    terms: _,
+                    after,
+                } => {
+                    at = after;
+                }
+                ItemAt::End => {
+                    return self;
+                }
+            }
+        }
+    }
+}
+
+// The weight of the term at `at` of a normal table.
+fn divisor(part: &[u8], at: usize) -> u64
+    requires { ⌜ NormalTerm (now part) at ⌝ }
+    ensures { λ r. ⌜ IsDivisor (now (part .entry)) at r ⌝ }
+{
+    let w = block::weight(part, at);
+    w as u64
+}
+
+// "take the first that adds the proposition": the move, or none.
+enum Adder {
+    Move(usize),
+    Nobody,
+}
+
+// The move whose effect was found, the effect and its value in the layer.
+enum Achiever {
+    Effect {
+        index: usize,
+        kind: u8,
+        base: i64,
+        from: usize,
+        terms: usize,
+        value: i64,
+    },
+    Nobody,
+}
+
+// The part of block `b`.
+fn part_of<'a>(table: &'a [u8], marks: &[usize], b: usize) -> &'a [u8]
+    requires { ⌜ PartIn (now table) (now marks) b ⌝ }
+    ensures { λ r. ⌜ now r ≡ partAt (now (table .entry)) (now (marks .entry)) b ⌝ }
+{
+    let from = marks[b];
+    let to = marks[b + 1];
+    &table[from..to]
+}
+
+// "value ≥ target T (:=) or > 0 (+=)": what the value has to reach.
+fn demand(kind: u8, target: i64) -> i64
+    ensures { λ r. ⌜ r ≡ demandBy kind target ⌝ }
+{
+    if kind == 0 {
+        return target;
+    }
+    1
+}
+
+// "take the first that adds the proposition": of the `moves` moves, those marked in `used`.
+fn find_adder(table: &[u8], marks: &[usize], used: &[bool], moves: usize, p: usize) -> Adder
+    requires { ⌜ Searchable (now table) (now marks) (now used) moves ⌝ }
+    ensures { λ r. ⌜ ((x : Searchable (now (table .entry)) (now (marks .entry)) (now (used .entry)) moves) → IsAdder (x .task) (x .over) p moves r) ⌝ }
+{
+    let mut b = 0;
+    'moves: loop {
+        if b >= moves {
+            break 'moves Adder::Nobody;
+        }
+        if !used[b] {
+            b += 1;
+            continue 'moves;
+        }
+        let part = part_of(table, marks, b);
+        let mut at = 1;
+        loop {
+            match block::next(part, at) {
+                ItemAt::Add { prop, after } => {
+                    if prop == p {
+                        break 'moves Adder::Move(b);
+                    }
+                    at = after;
+                }
+                ItemAt::Need { prop: _, after } => {
+                    at = after;
+                }
+                ItemAt::Delete { prop: _, after } => {
+                    at = after;
+                }
+                ItemAt::Condition {
+                    comparison: _,
+                    bound: _,
+                    from: _,
+                    terms: _,
+                    after,
+                } => {
+                    at = after;
+                }
+                ItemAt::Effect {
+                    kind: _,
+                    var: _,
+                    base: _,
+                    from: _,
+                    terms: _,
+                    after,
+                } => {
+                    at = after;
+                }
+                ItemAt::End => {
+                    b += 1;
+                    continue 'moves;
+                }
+            }
+        }
+    }
+}
+
+// "or whose effect on v has value ≥ target T (:=) or > 0 (+=)": of the `moves` moves, those marked in `used`, with values over the
+// layer's row.
+fn find_achiever(
+    table: &[u8],
+    marks: &[usize],
+    used: &[bool],
+    row: &[i64],
+    moves: usize,
+    v: usize,
+    target: i64,
+) -> Achiever
+    requires { ⌜ Achievable (now table) (now marks) (now used) (now row) moves ⌝ }
+    ensures { λ r. ⌜ ((x : Achievable (now (table .entry)) (now (marks .entry)) (now (used .entry)) (now (row .entry)) moves)
+        → IsAchiever (now (table .entry)) (now (marks .entry)) (x .search .task) (x .search .over) v target moves r) ⌝ }
+{
+    let mut b: usize = 0;
+    'moves: loop {
+        if b >= moves {
+            break 'moves Achiever::Nobody;
+        }
+        if !used[b] {
+            b += 1;
+            continue 'moves;
+        }
+        let part = part_of(table, marks, b);
+        let mut at = 1;
+        loop {
+            match block::next(part, at) {
+                ItemAt::Effect {
+                    kind,
+                    var,
+                    base,
+                    from,
+                    terms,
+                    after,
+                } => {
+                    if var == v {
+                        let value = block::layer_value(part, from, terms, base, row);
+                        if block::reaches(value, demand(kind, target)) {
+                            break 'moves Achiever::Effect {
+                                index: b,
+                                kind,
+                                base,
+                                from,
+                                terms,
+                                value,
+                            };
+                        }
+                        b += 1;
+                        continue 'moves;
+                    }
+                    at = after;
+                }
+                ItemAt::Need { prop: _, after } => {
+                    at = after;
+                }
+                ItemAt::Add { prop: _, after } => {
+                    at = after;
+                }
+                ItemAt::Delete { prop: _, after } => {
+                    at = after;
+                }
+                ItemAt::Condition {
+                    comparison: _,
+                    bound: _,
+                    from: _,
+                    terms: _,
+                    after,
+                } => {
+                    at = after;
+                }
+                ItemAt::End => {
+                    b += 1;
+                    continue 'moves;
+                }
+            }
+        }
+    }
+}
+
+// What one layer's wants come to: the wants of the layer below, and each move's count there, 0 if it is not taken.
+struct Taken {
+    wants: Targets,
+    counts: [u64; 64],
+}
+
+fn most(a: u64, b: u64) -> u64
+    ensures { λ r. ⌜ r ≡ max a b ⌝ }
+{
+    if a < b { b } else { a }
+}
+
+impl Taken {
+    // Nothing is taken yet.
+    fn none() -> Self
+        ensures { λ r. ⌜ r ≡ freshTaken ⌝ }
+    {
+        let wants = Targets::none();
+        Taken {
+            wants,
+            counts: [0; 64],
+        }
+    }
+
+    // Carried down: the wants alone change.
+    fn rewanted(mut self, wants: Targets) -> Self
+        ensures { λ r. ⌜ Rewanted self wants r ⌝ }
+    {
+        self.wants = wants;
+        self
+    }
+
+    // "A move taken twice in a layer keeps its larger count."
+    fn recounted(mut self, wants: Targets, b: usize, n: u64) -> Self
+        requires { ⌜ b < 64 ⌝ }
+        ensures { λ r. ⌜ Recounted self wants b n r ⌝ }
+    {
+        let old = self.counts[b];
+        self.counts[b] = most(old, n);
+        self.wants = wants;
+        self
+    }
+}
+
+// Is there no target?
+fn is_free(target: i64) -> bool
+    ensures { λ r. ⌜ r ≡ isFree target ⌝ }
+{
+    integer::at_most(target, -9223372036854775808)
+}
+
+// "d the value in t−1 if finite, else 1".
+fn step_size(value: i64) -> u64
+    requires { ⌜ Above0 value ⌝ }
+    ensures { λ r. ⌜ (IsStep value r) × (0 < r) × (r ≤ 8000000001000000) ⌝ }
+{
+    if block::is_unbounded(value) {
+        return 1;
+    }
+    value as u64
+}
+
+fn at_least_zero(z: i64) -> u64
+    ensures { λ r. ⌜ r ≡ up z ⌝ }
+{
+    if z < 0 {
+        return 0;
+    }
+    z as u64
+}
+
+// "Count: 1; for += (T − state value of v)/d rounded up".
+fn runs(kind: u8, target: i64, old: i64, value: i64) -> u64
+    requires { ⌜ (natAbs target ≤ 100000000000000000) × (natAbs old ≤ 1000000000000) × ((kind ≡ 0 → ⊥) → Above0 value) ⌝ }
+    ensures { λ r. ⌜ IsRuns kind target old value r ⌝ }
+{
+    if kind == 0 {
+        return 1;
+    }
+    let d = step_size(value);
+    at_least_zero(integer::ceil_div(integer::sub(target, old), d))
+}
+
+impl Taken {
+    // "take the first that adds the proposition": wants its conditions and counts it once.
+    fn take_adder(
+        self,
+        table: &[u8],
+        marks: &[usize],
+        used: &[bool],
+        row: &[i64],
+        lows: &[i64],
+        moves: usize,
+        p: usize,
+    ) -> Self
+        requires { ⌜ Takeable (now table) (now marks) (now used) (now row) (now lows) moves self ⌝ }
+        ensures { λ r. ⌜ ((x : Takeable (now (table .entry)) (now (marks .entry)) (now (used .entry)) (now (row .entry)) (now (lows .entry)) moves self)
+            → AdderTaken x p r) ⌝ }
+    {
+        let Adder::Move(b) = find_adder(table, marks, used, moves, p) else {
+            return self;
+        };
+        let wants = self.wants;
+        let below = wants.want_block(part_of(table, marks, b), row, lows);
+        self.recounted(below, b, 1)
+    }
+
+    // "or whose effect on v has value ≥ target T (:=) or > 0 (+=)": wants its conditions and that value, and counts its runs from
+    // the state's value `old`.
+    fn take_achiever(
+        self,
+        table: &[u8],
+        marks: &[usize],
+        used: &[bool],
+        row: &[i64],
+        lows: &[i64],
+        moves: usize,
+        v: usize,
+        target: i64,
+        old: i64,
+    ) -> Self
+        requires { ⌜ (Takeable (now table) (now marks) (now used) (now row) (now lows) moves self) × (natAbs target ≤ 10000000000000000) × (natAbs old ≤ 1000000000000) ⌝ }
+        ensures { λ r. ⌜ ((x : Takeable (now (table .entry)) (now (marks .entry)) (now (used .entry)) (now (row .entry)) (now (lows .entry)) moves self)
+            → old ≡ x .start .val v → AchieverTaken x v target r) ⌝ }
+    {
+        let Achiever::Effect {
+            index,
+            kind,
+            base,
+            from,
+            terms,
+            value,
+        } = find_achiever(table, marks, used, row, moves, v, target)
+        else {
+            return self;
+        };
+        let part = part_of(table, marks, index);
+        let wants = self.wants;
+        let conditions = wants.want_block(part, row, lows);
+        let c = integer::sub(demand(kind, target), base);
+        let below = conditions.want_sum(part, from, terms, c, row, lows);
+        self.recounted(below, index, runs(kind, target, old, value))
+    }
+}
+
+// The wanted propositions of the layer above: "what layer t−1 already has is carried down. For any other, try the moves".
+fn descend_props(
+    table: &[u8],
+    marks: &[usize],
+    has: &[bool],
+    used: &[bool],
+    row: &[i64],
+    lows: &[i64],
+    moves: usize,
+    props: usize,
+    upper: Targets,
+) -> Taken
+    requires { ⌜ PropsDescendable (now table) (now marks) (now has) (now used) (now row) (now lows) moves props upper ⌝ }
+    ensures { λ r. ⌜ ((x : PropsDescendable (now (table .entry)) (now (marks .entry)) (now (has .entry)) (now (used .entry)) (now (row .entry)) (now (lows .entry)) moves props upper)
+        → PropsDone x props r) ⌝ }
+{
+    let mut taken = Taken::none();
+    let mut done = 0;
+    while done < props {
+        let p = done;
+        done += 1;
+        if !upper.props[p] {
+            continue;
+        }
+        if has[p] {
+            let wants = taken.wants;
+            taken = taken.rewanted(wants.want_prop(p));
+            continue;
+        }
+        taken = taken.take_adder(table, marks, used, row, lows, moves, p);
+    }
+    taken
+}
+
+// The targets of the layer above, behind the propositions.
+fn descend_values(
+    mut taken: Taken,
+    table: &[u8],
+    marks: &[usize],
+    used: &[bool],
+    row: &[i64],
+    lows: &[i64],
+    start: &[i64],
+    moves: usize,
+    vars: usize,
+    upper: Targets,
+) -> Taken
+    requires { ⌜ ValuesDescendable (now table) (now marks) (now used) (now row) (now lows) (now start) moves vars upper taken ⌝ }
+    ensures { λ r. ⌜ ((x : ValuesDescendable (now (table .entry)) (now (marks .entry)) (now (used .entry)) (now (row .entry)) (now (lows .entry)) (now (start .entry)) moves vars upper taken)
+        → ValuesDone x vars r) ⌝ }
+{
+    let mut done = 0;
+    while done < vars {
+        let v = done;
+        done += 1;
+        let target = upper.target[v];
+        if is_free(target) {
+            continue;
+        }
+        let value = row[v];
+        if block::reaches(value, target) {
+            let wants = taken.wants;
+            taken = taken.rewanted(wants.want_value(v, target));
+            continue;
+        }
+        let old = start[v];
+        taken = taken.take_achiever(table, marks, used, row, lows, moves, v, target, old);
+    }
+    taken
+}
+
+// Does the entry say that layer `t` has what it stands for?
+fn held(entry: i64, t: usize) -> bool
+    requires { ⌜ t < 2 ^ 63 ⌝ }
+    ensures { λ r. ⌜ r ≡ heldBy entry t ⌝ }
+{
+    if entry < 0 {
+        return false;
+    }
+    integer::at_most(entry, t as i64)
+}
+
+// Of the `n` entries from `from` on, which layer `t` has.
+fn read_entries(layers: &[i64], from: usize, n: usize, t: usize) -> [bool; 120]
+    requires { ⌜ (from + n ≤ length (now layers)) × (n ≤ 120) × (t < 2 ^ 63) ⌝ }
+    ensures { λ r. ⌜ Filled false (heldAt (now (layers .entry)) from t) n 120 r ⌝ }
+{
+    let mut flags = [false; 120];
+    let mut i = 0;
+    while i < n {
+        let e = layers[from + i];
+        flags[i] = held(e, t);
+        i += 1;
+    }
+    flags
+}
+
+// The `n` numbers from `from` on.
+fn read_row(layers: &[i64], from: usize, n: usize) -> [i64; 32]
+    requires { ⌜ (from + n ≤ length (now layers)) × (n ≤ 32) ⌝ }
+    ensures { λ r. ⌜ Filled (pos 0) (numberAt (now (layers .entry)) from) n 32 r ⌝ }
+{
+    let mut row = [0; 32];
+    let mut i = 0;
+    while i < n {
+        let x = layers[from + i];
+        row[i] = x;
+        i += 1;
+    }
+    row
+}
+
+fn low(value: i64, old: i64) -> i64
+    ensures { λ r. ⌜ r ≡ lowBy value old ⌝ }
+{
+    if block::is_unbounded(value) {
+        return old;
+    }
+    value
+}
+
+// "layer values for finite and state values for other unbounded ones".
+fn low_row(row: &[i64], start: &[i64], n: usize) -> [i64; 32]
+    requires { ⌜ (n ≤ length (now row)) × (n ≤ length (now start)) × (n ≤ 32) ⌝ }
+    ensures { λ r. ⌜ Filled (pos 0) (lowAt (now (row .entry)) (now (start .entry))) n 32 r ⌝ }
+{
+    let mut lows = [0; 32];
+    let mut v = 0;
+    while v < n {
+        let x = row[v];
+        let y = start[v];
+        lows[v] = low(x, y);
+        v += 1;
+    }
+    lows
+}
+
+// "Begin with the goal in m": what is wanted in the answer layer `m`.
+fn want_goal(
+    table: &[u8],
+    marks: &[usize],
+    layers: &[i64],
+    start: &[i64],
+    props: usize,
+    vars: usize,
+    moves: usize,
+    m: usize,
+) -> Targets
+    requires { ⌜ GoalWantable (now table) (now marks) (now layers) (now start) props vars moves m ⌝ }
+    ensures { λ r. ⌜ ((x : GoalWantable (now (table .entry)) (now (marks .entry)) (now (layers .entry)) (now (start .entry)) props vars moves m) → GoalWanted x r) ⌝ }
+{
+    let row = read_row(layers, props + moves + vars * m, vars);
+    let lows = low_row(&row, start, vars);
+    let part = part_of(table, marks, moves);
+    Targets::none().want_block(part, &row, &lows)
+}
+
+// From the wants of layer t + 1 to those of layer `t`, with the counts of the moves taken there.
+fn descend(
+    table: &[u8],
+    marks: &[usize],
+    layers: &[i64],
+    start: &[i64],
+    props: usize,
+    vars: usize,
+    moves: usize,
+    t: usize,
+    upper: Targets,
+) -> Taken
+    requires { ⌜ (LayerDescendable (now table) (now marks) (now layers) (now start) props vars moves t upper) × (t < 4000) ⌝ }
+    ensures { λ r. ⌜ ((x : LayerDescendable (now (table .entry)) (now (marks .entry)) (now (layers .entry)) (now (start .entry)) props vars moves t upper) → LayerDescended x r) ⌝ }
+{
+    let has = read_entries(layers, 0, props, t);
+    let used = read_entries(layers, props, moves, t);
+    let row = read_row(layers, props + moves + vars * t, vars);
+    let lows = low_row(&row, start, vars);
+    let taken = descend_props(table, marks, &has, &used, &row, &lows, moves, props, upper);
+    descend_values(
+        taken,
+        table,
+        marks,
+        &used,
+        &row,
+        &lows,
+        start,
+        moves,
+        vars,
+        upper,
+    )
+}
+
+// How many of the `moves` counts are not 0.
+fn count_taken(counts: &[u64], moves: usize) -> usize
+    requires { ⌜ moves ≤ length (now counts) ⌝ }
+    ensures { λ r. ⌜ (r ≡ length (layerRecords 0 (countAt (now (counts .entry))) 0 moves)) × (r ≤ moves) ⌝ }
+{
+    let mut n = 0;
+    let mut b = 0;
+    while b < moves {
+        let count = counts[b];
+        b += 1;
+        if count == 0 {
+            continue;
+        }
+        n += 1;
+    }
+    n
+}
+
+fn bit(n: u64) -> u64
+    ensures { λ r. ⌜ (r ≡ oneBit n) × (r ≤ 1) ⌝ }
+{
+    if n == 0 {
+        return 0;
+    }
+    1
+}
+
+// "bit b (of worth 2^b) for move b": the moves whose count is not 0.
+fn first_set(counts: &[u64], moves: usize) -> u64
+    requires { ⌜ (moves ≤ length (now counts)) × (moves ≤ 64) ⌝ }
+    ensures { λ r. ⌜ r ≡ firstMoves (layerRecords 0 (countAt (now (counts .entry))) 0 moves) ⌝ }
+{
+    let mut x: u64 = 0;
+    let mut b = moves;
+    while b > 0 {
+        b -= 1;
+        let n = counts[b];
+        x = bit(n) + 2 * x;
+    }
+    x
+}
+
+// "Record: 52, move (1 byte), count (8 bytes)".
+fn put_record(out: &mut [u8], at: usize, b: usize, n: u64)
+    requires { ⌜ (at + 10 ≤ length (now out)) × (b < 256) ⌝ }
+    ensures { λ r. ⌜ now (out .exit) ≡ put (now (out .entry)) at (oneBytes b n) ⌝ }
+{
+    integer::put_u64(out, at + 2, n);
+    out[at + 1] = b as u8;
+    out[at] = 0x52;
+}
+
+// The records of one layer, its moves rising, from `from` on.
+fn write_records(out: &mut [u8], from: usize, counts: &[u64], moves: usize)
+    requires { ⌜ (moves ≤ length (now counts)) × (moves ≤ 64) × (from + 10 * length (layerRecords 0 (countAt (now counts)) 0 moves) ≤ length (now out)) ⌝ }
+    ensures { λ r. ⌜ now (out .exit) ≡ put (now (out .entry)) from (recordBytes (layerRecords 0 (countAt (now (counts .entry))) 0 moves)) ⌝ }
+{
+    let mut at = from;
+    let mut done = 0;
+    while done < moves {
+        let b = done;
+        let n = counts[b];
+        done += 1;
+        if n == 0 {
+            continue;
+        }
+        put_record(out, at, b, n);
+        at += 10;
+    }
+}
+
+// The number of records and the set of first moves.
+struct Summary {
+    records: usize,
+    first: u64,
+}
+
+// "From answer layer m down": the number of records and the first moves, before a byte is written.
+fn survey(
+    table: &[u8],
+    marks: &[usize],
+    layers: &[i64],
+    props: usize,
+    vars: usize,
+    moves: usize,
+    m: usize,
+) -> Summary
+    requires { ⌜ Stored (now table) (now marks) (now layers) props vars moves m ⌝ }
+    ensures { λ r. ⌜ ((x : Stored (now (table .entry)) (now (marks .entry)) (now (layers .entry)) props vars moves m) → Surveyed x (r .records) (r .first)) ⌝ }
+{
+    let start = read_row(layers, props + moves, vars);
+    let mut wants = want_goal(table, marks, layers, &start, props, vars, moves, m);
+    let mut counts = [0; 64];
+    let mut records = 0;
+    let mut t = m;
+    while t > 0 {
+        t -= 1;
+        let taken = descend(table, marks, layers, &start, props, vars, moves, t, wants);
+        let here = taken.counts;
+        records += count_taken(&here, moves);
+        counts = here;
+        let below = taken.wants;
+        wants = below;
+    }
+    let first = first_set(&counts, moves);
+    Summary { records, first }
+}
+
+// The records, from the last layer's backwards; the output has room for all of them.
+fn write_plan(
+    table: &[u8],
+    marks: &[usize],
+    layers: &[i64],
+    props: usize,
+    vars: usize,
+    moves: usize,
+    m: usize,
+    records: usize,
+    out: &mut [u8],
+)
+    requires { ⌜ Writable (now table) (now marks) (now layers) props vars moves m records (now out) ⌝ }
+    ensures { λ r. ⌜ ((x : Writable (now (table .entry)) (now (marks .entry)) (now (layers .entry)) props vars moves m records (now (out .entry)))
+        → now (out .exit) ≡ put (now (out .entry)) 0 (recordBytes (planRecords (x .stored)))) ⌝ }
+{
+    let start = read_row(layers, props + moves, vars);
+    let mut wants = want_goal(table, marks, layers, &start, props, vars, moves, m);
+    let mut at = 10 * records;
+    let mut t = m;
+    while t > 0 {
+        t -= 1;
+        let taken = descend(table, marks, layers, &start, props, vars, moves, t, wants);
+        let here = taken.counts;
+        at -= 10 * count_taken(&here, moves);
+        write_records(out, at, &here, moves);
+        let below = taken.wants;
+        wants = below;
+    }
+}
+
+// The plan of a stored answer layer `m`: "13 | output shorter than the result" is known before a byte is written.
+fn extract(
+    table: &[u8],
+    marks: &[usize; 66],
+    layers: &[i64],
+    props: usize,
+    vars: usize,
+    moves: usize,
+    m: usize,
+    out: &mut [u8],
+) -> PlanAnswer
+    requires { ⌜ Stored (now table) (now marks) (now layers) props vars moves m ⌝ }
+    ensures { λ r. ⌜ ((x : Stored (now (table .entry)) (now (marks .entry)) (now (layers .entry)) props vars moves m)
+        → Extracted (planRecords x) m (now (out .entry)) (now (out .exit)) r) ⌝ }
+{
+    let summary = survey(table, marks, layers, props, vars, moves, m);
+    let records = summary.records;
+    let first = summary.first;
+    if out.len() < 10 * records {
+        return PlanAnswer::Refused(Refusal {
+            number: 13,
+            place: 0,
+        });
+    }
+    write_plan(table, marks, layers, props, vars, moves, m, records, out);
+    PlanAnswer::Plan {
+        layer: m as u64,
+        layers: m as u64,
+        records: records as u64,
+        first_moves: first,
+    }
+}
+
+// "plan adds the number of records and the first moves".
+pub fn plan(table: &[u8], state: &[u8], layers: &mut [i64], out: &mut [u8]) -> PlanAnswer
+    ensures { λ r. ⌜ (r ≡ planAnswer paper (now (table .entry)) (now (state .entry)) (now (layers .entry)) (now (out .entry)))
+        × (now (layers .exit) ≡ planMemory paper (now (table .entry)) (now (state .entry)) (now (layers .entry)))
+        × (now (out .exit) ≡ planOut paper (now (table .entry)) (now (state .entry)) (now (layers .entry)) (now (out .entry))) ⌝ }
+{
+    let mut marks = [0; 66];
+    match layers::prepare(table, state, &mut marks) {
+        Prepared::Refused(r) => PlanAnswer::Refused(r),
+        Prepared::Ready { props, vars, moves } => {
+            match layers::build(table, &marks, props, vars, moves, state, layers) {
+                Built::Reached { layer } => extract(
+                    table,
+                    &marks,
+                    layers,
+                    props,
+                    vars,
+                    moves,
+                    layer as usize,
+                    out,
+                ),
+                Built::Exhausted { layers: last } => PlanAnswer::NoPlan {
+                    layers: last,
+                    records: 0,
+                    first_moves: 0,
+                },
+                Built::Stopped { number, place } => PlanAnswer::Refused(Refusal { number, place }),
+            }
+        }
+    }
+}
