@@ -1,5 +1,4 @@
-// Reading a table: every check of document 01, "Where a call turns back", in one pass over the bytes, and the part of the
-// table that is one block.
+// Reading a table: every check of document 01, "Where a call turns back", in one pass over the bytes.
 ghost use mathlib.Core.Path.{_≡_};
 ghost use mathlib.Core.Bool.{true, false};
 ghost use Prim.Native.Nat.{ℕ, _+_, _*_, _^_, _<_, _≤_};
@@ -9,7 +8,7 @@ ghost use Rattle.model.specs.Lists.{anyBelow};
 ghost use Rattle.model.specs.Task.{written};
 ghost use Rattle.model.specs.Command.{codeOf, commandOf, ruleOf, width, head, needProp, term, closeCondition, closeEffect};
 ghost use Rattle.model.specs.Reading.{headWanted, varsInRange, weightInRange, boundInRange, baseInRange, comparisonInRange, kindInRange, lengthLimit, reading};
-ghost use Rattle.model.specs.Calls.{readAnswer, blockPart, blockRefusal, refusalNumber, refusalPlace};
+ghost use Rattle.model.specs.Calls.{readAnswer};
 ghost use Rattle.table.specs.Names.{formOf, commandIs, placeOf, wantedOf, ruleIs};
 ghost use Rattle.table.specs.Checks.{standsAt, misplaced, miscounted};
 ghost use Rattle.table.specs.Ranges.{between, wrongOperand};
@@ -861,38 +860,4 @@ pub fn read(table: &[u8]) -> model::ReadAnswer
 {
     let mut marks = no_marks();
     outline(table, Wanted::Both, &mut marks)
-}
-
-// "hands back the bytes of one block as a part of the caller's table": block b is move b, and block A the goal. After a refusal
-// the part is empty and `number` and `place` say why; otherwise both are 0.
-pub fn block<'a>(table: &'a [u8], b: u64, number: &mut u64, place: &mut u64) -> &'a [u8]
-    ensures { λ r. ⌜ (now r ≡ blockPart paper (now (table .entry)) b) × (now (number .exit) ≡ refusalNumber (blockRefusal paper (now (table .entry)) b)) × (now (place .exit) ≡ refusalPlace (blockRefusal paper (now (table .entry)) b)) ⌝ }
-{
-    let mut marks = no_marks();
-    let answer = outline(table, Wanted::Both, &mut marks);
-    match answer {
-        model::ReadAnswer::Refused(reason) => {
-            *number = reason.number;
-            *place = reason.place;
-            &table[0..0]
-        }
-        model::ReadAnswer::Head {
-            kind: _,
-            props: _,
-            vars: _,
-            moves,
-        } => {
-            if moves < b {
-                *number = 10;
-                *place = 0;
-                return &table[0..0];
-            }
-            *number = 0;
-            *place = 0;
-            let i = b as usize;
-            let from = marks[i];
-            let to = marks[i + 1];
-            &table[from..to]
-        }
-    }
 }
