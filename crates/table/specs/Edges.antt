@@ -13,7 +13,7 @@ use Rattle.model.specs.Lists.{any, anyBelow}
 use Rattle.model.specs.Task.{Item, Block, Task}
 use Rattle.model.specs.Circle.{itemEdge, edge, walkTo, circular}
 use Rattle.model.specs.Reading.{Place, start, preamble, inMove, inGoal, finished, closed}
-use Rattle.model.specs.Theorems.Booleans.{T-cases, T-true, true-T, not-false, false-not, and-left, and-right, and-both}
+use Rattle.model.specs.Theorems.Booleans.{T-cases, T-true, true-T, not-false, false-not, and-left, and-right, and-both, T-equal}
 use Rattle.model.specs.Theorems.Searching.{below-suc, anyBelow-cases, anyBelow-at}
 use Rattle.table.specs.Stamps.{or-false, or-true, or-assoc, any-snoc}
 
@@ -137,6 +137,17 @@ none-longer es n m (suc j) h =
     (λ v l s. anyBelow-cases (λ u. tableEdge es u v && walkIn es n (m + j) u) n (unfold walkIn in s)
     (λ u k r. false-not (none-longer es n m j h) (anyBelow-at (walkIn es n (m + j)) n u k (and-right (tableEdge es u v) (walkIn es n (m + j) u) r))))))
 
+-- a walk that ends in v holds one of an edge less that does
+walk-shorter : (es : List Bool) (n m v : ℕ) → T (walkIn es n (suc m) v) → T (walkIn es n m v)
+unfolding walkIn
+walk-shorter es n zero v t = tt
+walk-shorter es n (suc m) v t =
+    anyBelow-cases (λ u. tableEdge es u v && walkIn es n (suc m) u) n t
+    (λ u h s.
+    anyBelow-at (λ w. tableEdge es w v && walkIn es n m w) n u h
+    (and-both (tableEdge es u v) (walkIn es n m u) (and-left (tableEdge es u v) (walkIn es n (suc m) u) s)
+    (walk-shorter es n m u (and-right (tableEdge es u v) (walkIn es n (suc m) u) s))))
+
 module _ (k : Task) (es : List Bool) (same : (u v : ℕ) → u < k .vars → v < k .vars → tableEdge es u v ≡ edge k u v) where
   walk-same : (m v : ℕ) → v < k .vars → walkIn es (k .vars) m v ≡ walkTo k m v
   unfolding walkIn walkTo
@@ -162,6 +173,19 @@ entered es alive v u = tableEdge es u v && getD alive u false
 unfoldable pub aliveAt : List Bool → ℕ → Bool
 aliveAt alive v = getD alive v false
 
+-- is v alive after one round more
+unfoldable pub kept : List Bool → List Bool → ℕ → ℕ → Bool
+kept es alive n v = aliveAt alive v && anyBelow (entered es alive v) n
+
+module _ (es alive : List Bool) (n v : ℕ) {r : Bool} where
+  pub kept-alive : aliveAt alive v ≡ true → r ≡ anyBelow (entered es alive v) n → r ≡ kept es alive n v
+  unfolding kept
+  kept-alive h e = rw h e
+
+  pub kept-dead : aliveAt alive v ≡ false → r ≡ aliveAt alive v → r ≡ kept es alive n v
+  unfolding kept
+  kept-dead h e = rw h (e ∙ h)
+
 pub none-more : (f : ℕ → Bool) (i : ℕ) → anyBelow f i ≡ false → f i ≡ false → anyBelow f (i + 1) ≡ false
 unfolding anyBelow
 none-more f i h k = rw (add-one i, h, k) refl
@@ -181,16 +205,20 @@ rounds-start es n h =
 
 pub rounds-next :
     {es : List Bool} {n m : ℕ} {alive next : List Bool} → Rounds es n m alive → length next ≡ 32
-    → ((v : ℕ) → v < n → aliveAt next v ≡ anyBelow (entered es alive v) n)
+    → ((v : ℕ) → v < n → aliveAt next v ≡ kept es alive n v)
     → Rounds es n (m + 1) next
 rounds-next {es} {n} {m} {alive} {next} h e f =
-    record {
-      size = e;
-      same = λ v l. f v l ∙ anyBelow-same (entered es alive v) (λ u. tableEdge es u v && walkIn es n m u) n (λ u k. each v u k) ∙ (rw (add-one m) (unfold walkIn in refl));
-    }
+    record { size = e; same = λ v l. f v l ∙ onward v l ∙ ap (λ (i : ℕ). walkIn es n i v) (sym (add-one m)) }
   where
     each : (v u : ℕ) → u < n → entered es alive v u ≡ (tableEdge es u v && walkIn es n m u)
     each v u k = unfold entered aliveAt in ap (λ (b : Bool). tableEdge es u v && b) (h .same u k)
+
+    onward : (v : ℕ) → v < n → kept es alive n v ≡ walkIn es n (suc m) v
+    onward v l =
+        unfold kept walkIn in
+        (rw (h .same v l, anyBelow-same (entered es alive v) (λ u. tableEdge es u v && walkIn es n m u) n (each v))
+        (T-equal (walkIn es n m v && walkIn es n (suc m) v) (walkIn es n (suc m) v) (and-right (walkIn es n m v) (walkIn es n (suc m) v))
+        (λ t. and-both (walkIn es n m v) (walkIn es n (suc m) v) (walk-shorter es n m v t) t)))
 
 pub rounds-any : {es : List Bool} {n m : ℕ} {alive : List Bool} → Rounds es n m alive → anyBelow (aliveAt alive) n ≡ anyBelow (walkIn es n m) n
 rounds-any {es} {n} {m} {alive} h = anyBelow-same (aliveAt alive) (walkIn es n m) n (h .same)

@@ -13,7 +13,7 @@ ghost use Rattle.table.specs.Names.{formOf, commandIs, placeOf, wantedOf
 ghost use Rattle.table.specs.Checks.{standsAt, misplaced, miscounted};
 ghost use Rattle.table.specs.Ranges.{between, wrongOperand};
 ghost use Rattle.table.specs.State.{Valid, Passed, headCursor, markCursor, termCursor, itemCursor, wrongAt, repeated, cursorRefusal, checkOf};
-ghost use Rattle.table.specs.Edges.{entered, aliveAt, circularIn};
+ghost use Rattle.table.specs.Edges.{entered, kept, aliveAt, circularIn};
 ghost use Rattle.table.specs.Advance.{Advanced, drawKind};
 ghost use Rattle.table.specs.Answer.{startCursor, endAnswer, Outlined};
 
@@ -664,15 +664,16 @@ fn reached(edges: &[bool; 1024], alive: &[bool; 32], var: usize, n: usize) -> bo
     false
 }
 
-// One edge further: the variables that an edge leads to from one that is alive.
+// One edge further: the variables that an edge leads to from one that is alive. A walk that ends in a variable holds one of an
+// edge less that does, so a variable that is not alive is passed over.
 fn round(edges: &[bool; 1024], alive: &[bool; 32], n: usize) -> [bool; 32]
     requires { ⌜ n ≤ 32 ⌝ }
-    ensures { λ r. ⌜ (length r ≡ 32) × ((v : ℕ) → v < n → aliveAt r v ≡ anyBelow (entered (now (edges .entry)) (now (alive .entry)) v) n) ⌝ }
+    ensures { λ r. ⌜ (length r ≡ 32) × ((v : ℕ) → v < n → aliveAt r v ≡ kept (now (edges .entry)) (now (alive .entry)) n v) ⌝ }
 {
     let mut next = all_alive();
     let mut var = 0;
     while var < n {
-        next[var] = reached(edges, alive, var, n);
+        next[var] = alive[var] && reached(edges, alive, var, n);
         var += 1;
     }
     next

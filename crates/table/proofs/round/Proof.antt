@@ -1,14 +1,15 @@
 -- `round` meets its contract. The entries before var are filled; the measure is the variables left.
 -- Assumes nothing.
-use Prim.Native.Nat.{ℕ, _-_, _≤_}
+use Prim.Native.Nat.{_-_, _≤_}
+use mathlib.Core.Path.{_∙_}
+use mathlib.Core.Logic.{⊎-elim}
 use native.Mathlib.Omega.{arith}
-use Rattle.model.specs.Lists.{anyBelow}
-use Rattle.table.specs.Edges.{entered, Filled, filled-none, filled-more}
+use Rattle.table.specs.Edges.{aliveAt, kept, kept-alive, kept-dead, Filled, filled-none, filled-more}
 use Rattle.table.proofs.round.Statement.{statement}
 use Rattle.table.proofs.round.Tie as tie
 
 abbrev Inv-loop : tie.InvT-loop
-Inv-loop edges alive n next₀ var₀ next var = (var ≤ n) × Filled (λ (v : ℕ). anyBelow (entered edges alive v) n) var next
+Inv-loop edges alive n next₀ var₀ next var = (var ≤ n) × Filled (kept edges alive n) var next
 
 abbrev μ-loop : tie.MeasureT-loop
 μ-loop edges alive n next₀ var₀ next var = n - var
@@ -18,6 +19,9 @@ all-alive-requires c κs = tt
 
 loop-holds : tie.Need-loop-holds Inv-loop μ-loop
 loop-holds c = (omega arith, filled-none _ _ (c .all-alive .ensures))
+
+element-copy-out-if1 : tie.Need-element-copy-out-if1 Inv-loop μ-loop
+element-copy-out-if1 c = omega arith
 
 reached-requires : tie.Need-reached-requires Inv-loop μ-loop
 reached-requires c κs = omega arith
@@ -32,7 +36,12 @@ loop-less : tie.Need-loop-less Inv-loop μ-loop
 loop-less c = omega arith
 
 loop-again : tie.Need-loop-again Inv-loop μ-loop
-loop-again c = (omega arith, filled-more (c .before .before .loop .inv .1) (omega arith) (c .reached .ensures))
+unfolding aliveAt
+loop-again c = (
+  omega arith,
+  filled-more (c .before .before .before .loop .inv .1) (omega arith)
+      (⊎-elim (λ w. kept-alive _ _ _ _ (w .0 .taken) (w .2 ∙ w .1 .ensures)) (λ w. kept-dead _ _ _ _ (w .0 .left) (w .1)) (c .if1 .came)),
+)
 
 returns : tie.Need-returns Inv-loop μ-loop
 returns c = (c .before .loop .inv .1 .size, λ v h. c .before .loop .inv .1 .same v (omega arith))
@@ -45,6 +54,7 @@ round-spec =
     μ-loop
     all-alive-requires
     loop-holds
+    element-copy-out-if1
     reached-requires
     array-write-next
     add-var
