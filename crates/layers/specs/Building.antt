@@ -6,10 +6,10 @@ use native.Mathlib.Numerals.{add-one}
 use native.Mathlib.Omega.{arith}
 use mathlib.Core.Path.{_≡_, refl, sym, ap, _∙_, subst}
 use mathlib.Core.Bool.{Bool, true, false, not, _&&_}
-use mathlib.Core.List.{List}
+use mathlib.Core.List.{List, []}
 use borrow.Author.Tests.{not-false as was-true, not-true as was-false}
 use lib.IntN.{ℤ}
-use lib.ListN.{length}
+use lib.ListN.{length, getD, replicate, getD-replicate}
 use Rattle.layers.specs.declared.Built.{Built as BuiltAnswer}
 use Rattle.layers.specs.declared.Built.the-variants as answer
 use Rattle.layers.specs.declared.NextLayer.{NextLayer}
@@ -21,15 +21,16 @@ use Rattle.model.specs.Move.{State, moveAt}
 use Rattle.model.specs.Layer.{Layer, usable, layer, layerAt, meetsGoal, settled, reached, exhausted, bound}
 use Rattle.model.specs.Memory.{wrong15, overwrite, Built, answered, stopped, build, builtMemory}
 use Rattle.model.specs.Theorems.WellFormed.{TaskOk}
-use Rattle.model.specs.Theorems.Order.{_⊑_}
-use Rattle.model.specs.Theorems.Layers.{layer-rises}
+use Rattle.model.specs.Theorems.Booleans.{T-true, true-T, false-not}
+use Rattle.model.specs.Theorems.Order.{_⊑_, usable-mono}
+use Rattle.model.specs.Theorems.Layers.{layer-rises, move-ok}
 use Rattle.model.specs.Theorems.Answer.{Passed}
 use Rattle.model.specs.Theorems.Bound.{layers-bound}
 use Rattle.model.specs.Theorems.Memories.{Holds, size, holds-memory}
 use Rattle.block.specs.Blocks.{LayerState}
 use Rattle.layers.specs.Comparing.{sameTruth, notAbove, withinAt}
 use Rattle.layers.specs.Raising.{Truths, Values, most, row-values}
-use Rattle.layers.specs.Stepping.{Outlined, rangesOf, IsMet, GoalTestable, Steppable, Stepped}
+use Rattle.layers.specs.Stepping.{Outlined, rangesOf, IsMet, GoalTestable, Steppable, UsedIn, Stepped}
 use Rattle.layers.specs.Checks.{same-layer, within-layer, small-row}
 use Rattle.layers.specs.Answers.{Unrefused, passed-next, unrefused-next, room-there, room-missing, built-reached, built-exhausted, built-large, built-short}
 use Rattle.layers.specs.Storing.{NotesMoves, StoresLayer}
@@ -64,6 +65,23 @@ pub record Turned (k : Task) (s : State) (t : ℕ) (flags : List Bool) (values :
   pub truths : Truths (k .props) flags (layerAt k s (suc t) .has)
   pub row : Values most (k .vars) values (layerAt k s (suc t) .val)
   pub uses : Truths (length (k .moves)) used (λ b. usable (layerAt k s t) (moveAt k b))
+
+-- layers only grow: the moves that a step used are usable in the next layer
+used-next : {k : Task} {s : State} {t : ℕ} {flags : List Bool} {values : List ℤ} {used : List Bool} → TaskOk paper normal k → Turned k s t flags values used → UsedIn k (layerAt k s (suc t)) used
+unfolding layerAt moveAt
+used-next {k} {s} {t} ok u =
+    record {
+      usable-there =
+          λ b h e.
+          T-true (usable (layer (k .moves) s (suc t)) (getD (k .moves) b []))
+          (usable-mono (move-ok ok b h) (layer-rises (k .moves) s t) (true-T (sym (u .uses .same b h) ∙ e)));
+    }
+
+-- before the first step no move is marked
+used-none : {k : Task} {l : Layer} → TaskOk paper normal k → UsedIn k l (replicate 64 false)
+unfolding paper
+used-none ok =
+    record { usable-there = λ b h e. absurd (false-not (getD-replicate 64 b false false (omega (arith, ok .moves))) (true-T e)) }
 
 rises : (k : Task) (s : State) (t v : ℕ) → layerAt k s t .val v ⊑ layerAt k s (suc t) .val v
 unfolding layerAt
@@ -175,8 +193,8 @@ nextLayer false false = outlook.TooLarge
 unfoldable pub sameArrays : ℕ → ℕ → List Bool → List Bool → List ℤ → List ℤ → Bool
 sameArrays props vars has flags row values = allBelow (sameTruth has flags) props && allBelow (notAbove row values) vars
 
-pub record WorkedOut (table marks : List ℕ) (props vars moves : ℕ) (has : List Bool) (row : List ℤ) (flags : List Bool) (values : List ℤ) (flags′ : List Bool) (values′ : List ℤ) (used : List Bool) (r : NextLayer) : Type 0 where
-  pub stepped : Stepped table marks moves has row flags values flags′ values′ used
+pub record WorkedOut (table marks : List ℕ) (props vars moves : ℕ) (has : List Bool) (row : List ℤ) (flags : List Bool) (values : List ℤ) (used : List Bool) (flags′ : List Bool) (values′ : List ℤ) (used′ : List Bool) (r : NextLayer) : Type 0 where
+  pub stepped : Stepped table marks moves has row flags values used flags′ values′ used′
   pub is : r ≡ nextLayer (sameArrays props vars has flags′ row values′) (allBelow (withinAt values′) vars)
 
 -- what the outcome says of the checks
@@ -199,17 +217,17 @@ next-new false true h = (refl, refl)
 next-new false false h = let z : _≡_ {A = ℕ} 0 1 = cc in absurd (omega arith)
 
 -- the three outcomes
-module _ {table marks : List ℕ} {props vars moves : ℕ} {has : List Bool} {row : List ℤ} {flags : List Bool} {values : List ℤ} {flags′ : List Bool} {values′ : List ℤ} {used : List Bool} (st : Stepped table marks moves has row flags values flags′ values′ used) {e : Bool} (same : e ≡ (allBelow (sameTruth has flags′) props && allBelow (notAbove row values′) vars)) where
-  pub worked-same : e ≡ true → WorkedOut table marks props vars moves has row flags values flags′ values′ used outlook.Same
+module _ {table marks : List ℕ} {props vars moves : ℕ} {has : List Bool} {row : List ℤ} {flags : List Bool} {values : List ℤ} {used : List Bool} {flags′ : List Bool} {values′ : List ℤ} {used′ : List Bool} (st : Stepped table marks moves has row flags values used flags′ values′ used′) {e : Bool} (same : e ≡ (allBelow (sameTruth has flags′) props && allBelow (notAbove row values′) vars)) where
+  pub worked-same : e ≡ true → WorkedOut table marks props vars moves has row flags values used flags′ values′ used′ outlook.Same
   unfolding nextLayer sameArrays
   worked-same h = record { stepped = st; is = rw (sym same ∙ h) refl }
 
   module _ (h : e ≡ false) {w : Bool} (within : w ≡ allBelow (withinAt values′) vars) where
-    pub worked-new : w ≡ true → WorkedOut table marks props vars moves has row flags values flags′ values′ used outlook.New
+    pub worked-new : w ≡ true → WorkedOut table marks props vars moves has row flags values used flags′ values′ used′ outlook.New
     unfolding nextLayer sameArrays
     worked-new i = record { stepped = st; is = rw (sym same ∙ h, sym within ∙ i) refl }
 
-    pub worked-large : w ≡ false → WorkedOut table marks props vars moves has row flags values flags′ values′ used outlook.TooLarge
+    pub worked-large : w ≡ false → WorkedOut table marks props vars moves has row flags values used flags′ values′ used′ outlook.TooLarge
     unfolding nextLayer sameArrays
     worked-large i = record { stepped = st; is = rw (sym same ∙ h, sym within ∙ i) refl }
 
@@ -230,11 +248,16 @@ pub record Growable (table marks : List ℕ) (props vars moves : ℕ) (has : Lis
 pub record Grown (table marks : List ℕ) (props vars moves : ℕ) (has : List Bool) (row mem mem′ : List ℤ) (r : BuiltAnswer) : Type 0 where
   pub is : (k : Task) (s : State) (old : List ℤ) → Outlined table marks k → Counts k props vars moves → Layered k s old 0 mem has row → IsBuilt k s old mem′ r
 
--- layer t is the last one, and the memory is free from `end` on
-pub record Growing (table marks : List ℕ) (props vars moves : ℕ) (has₀ : List Bool) (row₀ mem₀ : List ℤ) (t : ℕ) (has : List Bool) (row mem : List ℤ) (end : ℕ) : Type 0 where
+-- layer t is the last one, and the moves marked as used are usable in it
+pub record Grows (k : Task) (s : State) (old : List ℤ) (t : ℕ) (mem : List ℤ) (has : List Bool) (row : List ℤ) (used : List Bool) : Type 0 where
+  pub layered : Layered k s old t mem has row
+  pub used-in : UsedIn k (layerAt k s t) used
+
+-- so it is in every reading, and the memory is free from `end` on
+pub record Growing (table marks : List ℕ) (props vars moves : ℕ) (has₀ : List Bool) (row₀ mem₀ : List ℤ) (t : ℕ) (has : List Bool) (row : List ℤ) (used : List Bool) (mem : List ℤ) (end : ℕ) : Type 0 where
   pub end-is : end ≡ props + moves + vars * suc t
   pub same-length : length mem ≡ length mem₀
-  pub is : (k : Task) (s : State) (old : List ℤ) → Outlined table marks k → Counts k props vars moves → Layered k s old 0 mem₀ has₀ row₀ → Layered k s old t mem has row
+  pub is : (k : Task) (s : State) (old : List ℤ) → Outlined table marks k → Counts k props vars moves → Layered k s old 0 mem₀ has₀ row₀ → Grows k s old t mem has row used
 
 module _ {table marks : List ℕ} {props vars moves : ℕ} {k : Task} {s : State} {old : List ℤ} {t : ℕ} {mem : List ℤ} {has : List Bool} {row : List ℤ} (o : Outlined table marks k) (c : Counts k props vars moves) (a : Layered k s old t mem has row) where
   pub goal-testable-at : GoalTestable table marks moves has row
@@ -283,21 +306,21 @@ module _ {table marks : List ℕ} {props vars moves : ℕ} {k : Task} {s : State
   unfolding meetsGoal
   met-is m = m .is k (layerAt k s t) o (c .moves-is) (a .state)
 
-  turned : {flags : List Bool} {values : List ℤ} {used : List Bool} → Stepped table marks moves has row has row flags values used → Turned k s t flags values used
+  turned : {flags : List Bool} {values : List ℤ} {used used′ : List Bool} → UsedIn k (layerAt k s t) used → Stepped table marks moves has row has row used flags values used′ → Turned k s t flags values used′
   unfolding layerAt layer moveAt
-  turned st =
-      let r = st .is k (layerAt k s t) o (c .moves-is) (a .state) (state-truths k (a .state)) (row-values (a .state .row)) in
+  turned before st =
+      let r = st .is k (layerAt k s t) o (c .moves-is) (a .state) before (state-truths k (a .state)) (row-values (a .state .row)) in
       record { truths = r .0; row = r .1; uses = r .2 }
 
   pub reached-at : {r : Bool} → IsMet table marks moves has row r → r ≡ true → IsBuilt k s old mem (answer.Reached t)
   reached-at m e = layered-reached (o .ok) a (sym (met-is m) ∙ e)
 
-  module _ {m : Bool} (met : IsMet table marks moves has row m) (no-goal : m ≡ false) {flags : List Bool} {values : List ℤ} {used : List Bool} {r : NextLayer} (worked : WorkedOut table marks props vars moves has row has row flags values used r) where
+  module _ {m : Bool} (met : IsMet table marks moves has row m) (no-goal : m ≡ false) {flags : List Bool} {values : List ℤ} {used used′ : List Bool} {r : NextLayer} (before : UsedIn k (layerAt k s t) used) (worked : WorkedOut table marks props vars moves has row has row used flags values used′ r) where
     unmet : meetsGoal k s t ≡ false
     unmet = sym (met-is met) ∙ no-goal
 
-    turn : Turned k s t flags values used
-    turn = turned (worked .stepped)
+    turn : Turned k s t flags values used′
+    turn = turned before (worked .stepped)
 
     settled-is : sameArrays props vars has flags row values ≡ settled k s t
     unfolding sameArrays
@@ -313,7 +336,7 @@ module _ {table marks : List ℕ} {props vars moves : ℕ} {k : Task} {s : State
     large-is = within-is ∙ turned-within (o .ok) a turn
 
     -- "no plan"
-    pub exhausted-at : {mem′ : List ℤ} → r ≡ outlook.Same → NotesMoves props moves t used mem mem′ → IsBuilt k s old mem′ (answer.Exhausted t)
+    pub exhausted-at : {mem′ : List ℤ} → r ≡ outlook.Same → NotesMoves props moves t used′ mem mem′ → IsBuilt k s old mem′ (answer.Exhausted t)
     exhausted-at e n =
         layered-exhausted (o .ok) a unmet
         (sym settled-is ∙ next-same (sameArrays props vars has flags row values) (allBelow (withinAt values) vars) (sym e ∙ worked .is))
@@ -350,31 +373,35 @@ module _ {table marks : List ℕ} {props vars moves : ℕ} {k : Task} {s : State
           {mem′ mem″ : List ℤ} {end : ℕ}
           → props + moves + vars * suc t + vars ≤ length mem
           → end ≡ props + moves + vars * suc t
-          → NotesMoves props moves t used mem mem′
+          → NotesMoves props moves t used′ mem mem′
           → StoresLayer props vars end (t + 1) flags values mem′ mem″
-          → Layered k s old (suc t) mem″ flags values
+          → Grows k s old (suc t) mem″ flags values used′
       next-at {mem′} {mem″} {end} enough at n store =
           let noted = n .is k s (suc t) old (c .props-is) (c .moves-is) (turn .uses) (a .holds) in
           let place : end ≡ size k s (suc t) = at ∙ rw (c .props-is, c .moves-is, c .vars-is) refl in
           let stored = subst (λ (x : ℕ). StoresLayer props vars end x flags values mem′ mem″) (add-one t) store in
-          layered-next (o .ok) a unmet unsettled turn small (sym within-is ∙ new .1) (omega (arith, next-size, a .holds .same-length))
-          (stored .is k s most (suc t) old (c .props-is) (c .vars-is) place (turn .truths) (turn .row) noted)
+          record {
+            layered =
+                layered-next (o .ok) a unmet unsettled turn small (sym within-is ∙ new .1) (omega (arith, next-size, a .holds .same-length))
+                (stored .is k s most (suc t) old (c .props-is) (c .vars-is) place (turn .truths) (turn .row) noted);
+            used-in = used-next (o .ok) turn;
+          }
 
 module _ {table marks : List ℕ} {props vars moves : ℕ} {has₀ : List Bool} {row₀ mem₀ : List ℤ} where
-  pub growing-start : Growing table marks props vars moves has₀ row₀ mem₀ 0 has₀ row₀ mem₀ (props + moves + vars)
-  growing-start = record { end-is = omega arith; same-length = refl; is = λ k s old o c a. a }
+  pub growing-start : Growing table marks props vars moves has₀ row₀ mem₀ 0 has₀ row₀ (replicate 64 false) mem₀ (props + moves + vars)
+  growing-start = record { end-is = omega arith; same-length = refl; is = λ k s old o c a. record { layered = a; used-in = used-none (o .ok) } }
 
   pub growing-next :
-      {t : ℕ} {has : List Bool} {row mem : List ℤ} {end : ℕ} {has′ : List Bool} {row′ mem′ : List ℤ}
-      → Growing table marks props vars moves has₀ row₀ mem₀ t has row mem end
+      {t : ℕ} {has : List Bool} {row : List ℤ} {used : List Bool} {mem : List ℤ} {end : ℕ} {has′ : List Bool} {row′ : List ℤ} {used′ : List Bool} {mem′ : List ℤ}
+      → Growing table marks props vars moves has₀ row₀ mem₀ t has row used mem end
       → length mem′ ≡ length mem
-      → ((k : Task) (s : State) (old : List ℤ) → Outlined table marks k → Counts k props vars moves → Layered k s old t mem has row → Layered k s old (suc t) mem′ has′ row′)
-      → Growing table marks props vars moves has₀ row₀ mem₀ (t + 1) has′ row′ mem′ (end + vars)
-  growing-next {t} {has′} {row′} {mem′} g l f =
+      → ((k : Task) (s : State) (old : List ℤ) → Outlined table marks k → Counts k props vars moves → Grows k s old t mem has row used → Grows k s old (suc t) mem′ has′ row′ used′)
+      → Growing table marks props vars moves has₀ row₀ mem₀ (t + 1) has′ row′ used′ mem′ (end + vars)
+  growing-next {t} {has′} {row′} {used′} {mem′} g l f =
       record {
         end-is = rw (add-one t) (omega (arith, g .end-is, mul-suc vars (suc t)));
         same-length = l ∙ g .same-length;
         is =
             λ k s old o c a.
-            subst (λ (u : ℕ). Layered k s old u mem′ has′ row′) (sym (add-one t)) (f k s old o c (g .is k s old o c a));
+            subst (λ (u : ℕ). Grows k s old u mem′ has′ row′ used′) (sym (add-one t)) (f k s old o c (g .is k s old o c a));
       }

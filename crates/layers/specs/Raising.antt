@@ -10,7 +10,7 @@ use borrow.Author.Tests.{eq-eqb, ne-eqb}
 use lib.Dec.{T, eqb}
 use lib.IntN.{ℤ, pos, natAbs}
 use lib.ListN.{length, getD, set, length-set}
-use lib.Seq.{getD-set-same, getD-set-other}
+use lib.Seq.{getD-set-same, getD-set-other, set-getD}
 use lib.Signed.{_≤ℤ_}
 use native.Mathlib.Decide.{ℕ-discrete}
 use Rattle.integer.specs.Linear.{zlin, natAbs-split, larger, larger-size, larger-is-left, larger-is-right, larger-same}
@@ -22,9 +22,9 @@ use Rattle.model.specs.Layer.{Value, finite, unbounded, Layer, plus, layerSum, 
 use Rattle.model.specs.Memory.{encode}
 use Rattle.model.specs.Theorems.WellFormed.{KindOk, Once}
 use Rattle.model.specs.Theorems.Booleans.{true-T, false-not}
-use Rattle.model.specs.Theorems.Order.{_⊑_, ⊑-refl, ⊑-trans, ⊑-antisym, highest-left, highest-least}
+use Rattle.model.specs.Theorems.Order.{_⊑_, ⊑-refl, ⊑-trans, ⊑-antisym, ⊑-unbounded, highest-left, highest-least}
 use Rattle.block.specs.Items.{Ranges, Left, Followed, EffectFound}
-use Rattle.block.specs.Sums.{Sized, Encoded, LayerRow, LayerSummable, IsLayerValue, sized-more}
+use Rattle.block.specs.Sums.{Sized, Encoded, isMark, mark-yes, LayerRow, LayerSummable, IsLayerValue, sized-more}
 
 -- ---- arrays that hold a layer's propositions and values
 
@@ -72,6 +72,9 @@ encoded-highest {b} {x} {y} {z} {w} small e k = subst (λ (r : ℤ). Encoded b (
     go unbounded (finite c) s t = record { is = larger-is-left (below c t); size = tt }
     go unbounded unbounded s t = record { is = larger-same (pos 9_223_372_036_854_775_807); size = tt }
 
+pub highest-old : {x y : Value} → x ⊑ y → highest y x ≡ y
+highest-old {x} {y} h = ⊑-antisym (highest-least (⊑-refl y) h) (highest-left y x)
+
 -- what an effect offers, in every reading
 pub record IsOffer (kind : ℕ) (value old r : ℤ) : Type 0 where
   pub is : (l : Layer) (v : ℕ) (d : Kind) (x : Value) → KindOk normal d → kindCode d ≡ kind → Encoded most x value → Encoded most (l .val v) old → Encoded most (offer l v d x) r
@@ -117,11 +120,16 @@ pub record Raisable (part : List ℕ) (kind v : ℕ) (c : ℤ) (from n : ℕ) (r
   pub row-is : LayerRow (ranges .vars) row over
   pub room : ranges .vars ≤ length next
 
--- the value of v is raised to what the effect offers
+-- the value of v is raised to what the effect offers, in every reading
 pub record IsRaised (part : List ℕ) (kind v : ℕ) (c : ℤ) (from n : ℕ) (row old new : List ℤ) : Type 0 where
-  pub offers : ℤ
-  pub is : new ≡ set old v (larger (getD old v (pos 0)) offers)
-  pub right : (k : Ranges) (l : Layer) (behind : ℕ) (rest : Block) (g : EffectFound k part kind v c from n behind rest) → k .form ≡ normal → LayerRow (k .vars) row (l .val) → Encoded most (offer l v (g .it .kind) (layerValue l (g .it))) offers
+  pub worth : ℤ
+  pub is : new ≡ set old v worth
+  pub right :
+      (k : Ranges) (l : Layer) (behind : ℕ) (rest : Block) (g : EffectFound k part kind v c from n behind rest) (x : Value)
+      → k .form ≡ normal
+      → LayerRow (k .vars) row (l .val)
+      → Encoded most x (getD old v (pos 0))
+      → Encoded most (highest x (offer l v (g .it .kind) (layerValue l (g .it)))) worth
 
 kind-normal : {f : Form} (d : Kind) → f ≡ normal → KindOk f d → KindOk normal d
 kind-normal d e ok = subst (λ (f : Form). KindOk f d) e ok
@@ -150,15 +158,32 @@ pub raised-by :
     → new ≡ set old v (larger (getD old v (pos 0)) z)
     → IsRaised part kind v c from n row old new
 unfolding layerValue
-raised-by {part} {kind} {v} {c} {from} {n} {row} {value} {z} q o e =
+raised-by {part} {kind} {v} {c} {from} {n} {row} {old} {value} {z} q o e =
     record {
-      offers = z;
+      worth = larger (getD old v (pos 0)) z;
       is = e;
       right =
-          λ k l behind rest g f r.
-          o .is l v (g .it .kind) (layerValue l (g .it)) (kind-normal (g .it .kind) f (g .followed .ok .kind)) (g .is .kind)
+          λ k l behind rest g x f r so-far.
+          encoded-highest (omega arith) so-far
+          (o .is l v (g .it .kind) (layerValue l (g .it)) (kind-normal (g .it .kind) f (g .followed .ok .kind)) (g .is .kind)
           (subst (λ (y : ℤ). Encoded most (plus (layerSum (l .val) (g .it .terms)) (finite y)) value) (sym (g .is .base)) (q .is k (g .it .terms) (l .val) (g .is .terms) r))
-          (encoded-more (omega arith) (r .each v (var-small g)));
+          (encoded-more (omega arith) (r .each v (var-small g))));
+    }
+
+-- nothing is above unbounded
+pub raised-already :
+    {part : List ℕ} {kind v : ℕ} {c : ℤ} {from n : ℕ} {row old : List ℤ}
+    → isMark (getD old v (pos 0)) ≡ true
+    → IsRaised part kind v c from n row old old
+raised-already {v} {old} m =
+    record {
+      worth = getD old v (pos 0);
+      is = sym (set-getD old v (pos 0));
+      right =
+          λ k l behind rest g x f r so-far.
+          let top : x ≡ unbounded = mark-yes (omega arith) so-far m in
+          let y = offer l v (g .it .kind) (layerValue l (g .it)) in
+          encoded-same (sym (highest-old (subst (λ (z : Value). y ⊑ z) (sym top) (⊑-unbounded y)))) so-far;
     }
 
 -- ---- the items of a block, one by one
@@ -186,9 +211,6 @@ pub applying-start :
     → Applying k part l (λ p. h p || adds p b) (λ v. highest (f v) (offered l v (effectOn v b))) at flags row
 applying-start {h} {f} {b} left once t v a =
     record { rest = b; left = left; once = once; h = h; truths = t; gains = λ p. refl; f = f; values = v; above = a; raises = λ u. refl }
-
-pub highest-old : {x y : Value} → x ⊑ y → highest y x ≡ y
-highest-old {x} {y} h = ⊑-antisym (highest-least (⊑-refl y) h) (highest-left y x)
 
 -- an item that neither adds a proposition nor changes a value
 unfoldable pub inert : Item → Bool
@@ -329,23 +351,20 @@ module _ {k : Ranges} {part : List ℕ} {l : Layer} {G : ℕ → Bool} {F : ℕ 
           f = lifted;
           values =
               record {
-                long = omega (arith, ap length (r .is), length-set row v (larger (getD row v (pos 0)) (r .offers)), a .values .long);
+                long = omega (arith, ap length (r .is), length-set row v (r .worth), a .values .long);
                 each = λ u h. subst (λ (w : List ℤ). Encoded most (lifted u) (getD w u (pos 0))) (sym (r .is)) (each u h (ℕ-discrete v u));
               };
           above = λ u. up u (ℕ-discrete v u);
           raises = λ u. raised u (ℕ-discrete v u);
         }
       where
-        z : ℤ
-        z = larger (getD row v (pos 0)) (r .offers)
-
-        each : (u : ℕ) → u < k .vars → Dec (v ≡ u) → Encoded most (lifted u) (getD (set row v z) u (pos 0))
+        each : (u : ℕ) → u < k .vars → Dec (v ≡ u) → Encoded most (lifted u) (getD (set row v (r .worth)) u (pos 0))
         each u h (yes e) =
-            subst (λ (w : ℕ). Encoded most (lifted w) (getD (set row v z) w (pos 0))) e
-            (subst (Encoded most (lifted v)) (sym (getD-set-same row v z (pos 0) (omega (arith, a .values .long, e))))
-            (encoded-same (sym (lifted-here v refl)) (encoded-highest (omega arith) (a .values .each v (omega (arith, e))) (r .right k l after (a .rest) g form old-row))))
+            subst (λ (w : ℕ). Encoded most (lifted w) (getD (set row v (r .worth)) w (pos 0))) e
+            (subst (Encoded most (lifted v)) (sym (getD-set-same row v (r .worth) (pos 0) (omega (arith, a .values .long, e))))
+            (encoded-same (sym (lifted-here v refl)) (r .right k l after (a .rest) g (a .f v) form old-row (a .values .each v (omega (arith, e))))))
         each u h (no e) =
-            subst (Encoded most (lifted u)) (sym (getD-set-other row v u z (pos 0) (λ q. e (sym q)))) (encoded-same (sym (lifted-other u e)) (a .values .each u h))
+            subst (Encoded most (lifted u)) (sym (getD-set-other row v u (r .worth) (pos 0) (λ q. e (sym q)))) (encoded-same (sym (lifted-other u e)) (a .values .each u h))
 
         up : (u : ℕ) → Dec (v ≡ u) → l .val u ⊑ lifted u
         up u (yes e) = subst (λ (x : Value). l .val u ⊑ x) (sym (lifted-here u e)) (⊑-trans (a .above u) (highest-left (a .f u) (offered l u (some (g .it)))))
@@ -479,7 +498,7 @@ module _ {part : List ℕ} {row : List ℤ} {flags : List Bool} {next : List ℤ
   way-effect {v} found r =
       record {
         same-flags = w .same-flags;
-        same-next = ap length (r .is) ∙ length-set next′ v (larger (getD next′ v (pos 0)) (r .offers)) ∙ w .same-next;
+        same-next = ap length (r .is) ∙ length-set next′ v (r .worth) ∙ w .same-next;
         items =
             λ k b left.
             let m = w .items k b left in

@@ -56,14 +56,26 @@ or-none : (x : Bool) → x ≡ (x || false)
 or-none true = refl
 or-none false = refl
 
--- a move's part, with the next layer so far: what it becomes, and whether the move's conditions hold, in every reading
-pub record TakenIn (part : List ℕ) (has : List Bool) (row : List ℤ) (flags : List Bool) (values : List ℤ) (flags′ : List Bool) (values′ : List ℤ) (t : Bool) : Type 0 where
+-- t says whether the move's conditions hold, in every reading in which they do if the step before used the move
+pub record IsUsableAgain (part : List ℕ) (before : Bool) (has : List Bool) (row : List ℤ) (t : Bool) : Type 0 where
+  pub is : (k : Ranges) (b : Block) (l : Layer) → Left k part 1 b → LayerState k has row l → (before ≡ true → usable l b ≡ true) → t ≡ usable l b
+
+module _ {part : List ℕ} {before : Bool} {has : List Bool} {row : List ℤ} {t : Bool} where
+  pub usable-before : before ≡ true → t ≡ before → IsUsableAgain part before has row t
+  usable-before h e = record { is = λ k b l left w again. e ∙ h ∙ sym (again h) }
+
+  pub usable-tested : {r : Bool} → IsUsable part has row r → t ≡ r → IsUsableAgain part before has row t
+  usable-tested u e = record { is = λ k b l left w again. e ∙ u .is k b l left w }
+
+-- a move's part, with the next layer so far: what it becomes, and whether the move's conditions hold, in every such reading
+pub record TakenIn (part : List ℕ) (before : Bool) (has : List Bool) (row : List ℤ) (flags : List Bool) (values : List ℤ) (flags′ : List Bool) (values′ : List ℤ) (t : Bool) : Type 0 where
   pub is :
       (k : Ranges) (b : Block) (l : Layer) (h : ℕ → Bool) (f : ℕ → Value)
       → k .form ≡ normal
       → Left k part 1 b
       → Once b
       → LayerState k has row l
+      → (before ≡ true → usable l b ≡ true)
       → Truths (k .props) flags h
       → Values most (k .vars) values f
       → ((v : ℕ) → l .val v ⊑ f v)
@@ -71,13 +83,13 @@ pub record TakenIn (part : List ℕ) (has : List Bool) (row : List ℤ) (flags :
       × Truths (k .props) flags′ (λ p. h p || (usable l b && adds p b))
       × Values most (k .vars) values′ (λ v. highest (f v) (cond (usable l b) (offered l v (effectOn v b)) (l .val v)))
 
-module _ {part : List ℕ} {has : List Bool} {row : List ℤ} {flags : List Bool} {values : List ℤ} {t : Bool} (u : IsUsable part has row t) where
-  pub taken-usable : {flags′ : List Bool} {values′ : List ℤ} → t ≡ true → Applied part row flags values flags′ values′ → TakenIn part has row flags values flags′ values′ t
+module _ {part : List ℕ} {before : Bool} {has : List Bool} {row : List ℤ} {flags : List Bool} {values : List ℤ} {t : Bool} (u : IsUsableAgain part before has row t) where
+  pub taken-usable : {flags′ : List Bool} {values′ : List ℤ} → t ≡ true → Applied part row flags values flags′ values′ → TakenIn part before has row flags values flags′ values′ t
   taken-usable e a =
       record {
         is =
-            λ k b l h f form left once w hs vs up.
-            let q : t ≡ usable l b = u .is k b l left w in
+            λ k b l h f form left once w again hs vs up.
+            let q : t ≡ usable l b = u .is k b l left w again in
             let yes-b : usable l b ≡ true = sym q ∙ e in
             let r = a .is k b l h f form left once (w .row) hs vs up in (
               q,
@@ -86,12 +98,12 @@ module _ {part : List ℕ} {has : List Bool} {row : List ℤ} {flags : List Bool
             );
       }
 
-  pub taken-unusable : t ≡ false → TakenIn part has row flags values flags values t
+  pub taken-unusable : t ≡ false → TakenIn part before has row flags values flags values t
   taken-unusable e =
       record {
         is =
-            λ k b l h f form left once w hs vs up.
-            let q : t ≡ usable l b = u .is k b l left w in
+            λ k b l h f form left once w again hs vs up.
+            let q : t ≡ usable l b = u .is k b l left w again in
             let no-b : usable l b ≡ false = sym q ∙ e in (
               q,
               truths-same (λ p i. or-none (h p) ∙ ap (λ (x : Bool). h p || (x && adds p b)) (sym no-b)) hs,
@@ -153,6 +165,10 @@ module _ (l : Layer) where
       let a = cond (usable l x) (offered l v (effectOn v x)) (l .val v) in
       let b = cond (usable l m) (offered l v (effectOn v m)) (l .val v) in
       ap (highest a) (raised-snoc v ms m) ∙ sym (highest-assoc a (raised l v ms) b)
+
+-- each move marked as used is usable in the layer
+pub record UsedIn (k : Task) (l : Layer) (used : List Bool) : Type 0 where
+  pub usable-there : (b : ℕ) → b < length (k .moves) → getD used b false ≡ true → usable l (getD (k .moves) b []) ≡ true
 
 -- the next layer from the first b moves, in the arrays
 pub record StepBy (k : Task) (l : Layer) (b : ℕ) (flags : List Bool) (values : List ℤ) (used : List Bool) : Type 0 where
@@ -216,11 +232,13 @@ pub record Stepping (table marks : List ℕ) (moves : ℕ) (has : List Bool) (ro
   pub same-flags : length flags′ ≡ length flags
   pub same-values : length values′ ≡ length values
   pub same-used : length used′ ≡ length used
+  pub same-rest : (c : ℕ) → b ≤ c → getD used′ c false ≡ getD used c false
   pub is :
       (k : Task) (l : Layer)
       → Outlined table marks k
       → moves ≡ length (k .moves)
       → LayerState (rangesOf k) has row l
+      → UsedIn k l used
       → Truths (k .props) flags (l .has)
       → Values most (k .vars) values (l .val)
       → StepBy k l b flags′ values′ used′
@@ -233,8 +251,9 @@ module _ {table marks : List ℕ} {moves : ℕ} {has : List Bool} {row : List �
         same-flags = refl;
         same-values = refl;
         same-used = refl;
+        same-rest = λ c i. refl;
         is =
-            λ k l o c w ts vs.
+            λ k l o c w m ts vs.
             record {
               truths = truths-same (λ p i. or-none (l .has p)) ts;
               row = vs;
@@ -249,35 +268,37 @@ module _ {table marks : List ℕ} {moves : ℕ} {has : List Bool} {row : List �
         → moves ≤ length used
         → length flags″ ≡ length flags′
         → length values″ ≡ length values′
-        → TakenIn (partAt table marks b) has row flags′ values′ flags″ values″ t
+        → TakenIn (partAt table marks b) (getD used′ b false) has row flags′ values′ flags″ values″ t
         → Stepping table marks moves has row flags values used (b + 1) flags″ values″ (set used′ b t)
     stepping-next {t} h room lf lv r =
         record {
           same-flags = lf ∙ s .same-flags;
           same-values = lv ∙ s .same-values;
           same-used = length-set used′ b t ∙ s .same-used;
+          same-rest = λ c i. getD-set-other used′ b c t false (λ q. omega arith) ∙ s .same-rest c (omega arith);
           is =
-              λ k l o c w ts vs.
+              λ k l o c w m ts vs.
               let i : b < length (k .moves) = omega (arith, c) in
-              let p = s .is k l o c w ts vs in
+              let p = s .is k l o c w m ts vs in
               let q =
               r .is (rangesOf k) (getD (k .moves) b []) l (λ x. l .has x || gained l x (take b (k .moves))) (λ x. raised l x (take b (k .moves)))
-              refl (move-left o b i) (move-once o b i) w (p .truths) (p .row) (λ v. raised-old l v (take b (k .moves))) in
+              refl (move-left o b i) (move-once o b i) w (λ e. m .usable-there b i (sym (s .same-rest b (omega arith)) ∙ e)) (p .truths) (p .row) (λ v. raised-old l v (take b (k .moves))) in
               step-next p i (omega (arith, s .same-used)) (q .0) (q .1) (q .2);
         }
 
 -- the next layer, and the moves that made it
-pub record Stepped (table marks : List ℕ) (moves : ℕ) (has : List Bool) (row : List ℤ) (flags : List Bool) (values : List ℤ) (flags′ : List Bool) (values′ : List ℤ) (used : List Bool) : Type 0 where
+pub record Stepped (table marks : List ℕ) (moves : ℕ) (has : List Bool) (row : List ℤ) (flags : List Bool) (values : List ℤ) (used : List Bool) (flags′ : List Bool) (values′ : List ℤ) (used′ : List Bool) : Type 0 where
   pub is :
       (k : Task) (l : Layer)
       → Outlined table marks k
       → moves ≡ length (k .moves)
       → LayerState (rangesOf k) has row l
+      → UsedIn k l used
       → Truths (k .props) flags (l .has)
       → Values most (k .vars) values (l .val)
       → Truths (k .props) flags′ (next (k .moves) l .has)
       × Values most (k .vars) values′ (next (k .moves) l .val)
-      × Truths (length (k .moves)) used (λ b. usable l (getD (k .moves) b []))
+      × Truths (length (k .moves)) used′ (λ b. usable l (getD (k .moves) b []))
 
 pub stepping-end :
     {table marks : List ℕ} {moves : ℕ} {has : List Bool} {row : List ℤ} {flags : List Bool} {values : List ℤ} {used : List Bool}
@@ -285,13 +306,13 @@ pub stepping-end :
     → Stepping table marks moves has row flags values used b flags′ values′ used′
     → moves ≤ b
     → moves ≤ length used
-    → Stepped table marks moves has row flags values flags′ values′ used′
+    → Stepped table marks moves has row flags values used flags′ values′ used′
 unfolding next
 stepping-end {b} {used′} s h room =
     record {
       is =
-          λ k l o c w ts vs.
-          let p = s .is k l o c w ts vs in
+          λ k l o c w m ts vs.
+          let p = s .is k l o c w m ts vs in
           let e : take b (k .moves) ≡ k .moves = take-all b (k .moves) (omega (arith, c)) in (
             truths-same (λ q i. ap (λ (ms : List Block). l .has q || gained l q ms) e) (p .truths),
             values-same (λ v i. ap (raised l v) e) (p .row),

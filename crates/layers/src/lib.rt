@@ -173,7 +173,8 @@ fn offer(kind: u8, value: i64, old: i64) -> i64
     old
 }
 
-// Raises the variable in the next layer to what the effect offers, if that is larger.
+// Raises the variable in the next layer to what the effect offers, if that is larger. Nothing is above unbounded: there the effect's
+// value is not worked out.
 fn raise(
     part: &[u8],
     kind: u8,
@@ -187,10 +188,13 @@ fn raise(
     requires { ⌜ Raisable (now part) kind var base from terms (now row) (now next) ⌝ }
     ensures { λ r. ⌜ IsRaised (now (part .entry)) kind var base from terms (now (row .entry)) (now (next .entry)) (now (next .exit)) ⌝ }
 {
+    let so_far = next[var];
+    if block::is_unbounded(so_far) {
+        return;
+    }
     let value = block::layer_value(part, from, terms, base, row);
     let old = row[var];
     let offered = offer(kind, value, old);
-    let so_far = next[var];
     next[var] = integer::larger(so_far, offered);
 }
 
@@ -239,12 +243,20 @@ fn apply(part: &[u8], row: &[i64], flags: &mut [bool], next: &mut [i64])
     }
 }
 
-// Takes a move's part into the next layer if the move's conditions hold in this one; tells whether they do.
-fn take_in(part: &[u8], has: &[bool], row: &[i64], flags: &mut [bool], next: &mut [i64]) -> bool
+// Takes a move's part into the next layer if the move's conditions hold in this one; tells whether they do. Layers only grow: a
+// move that the step before used is usable again, and is not tested.
+fn take_in(
+    part: &[u8],
+    before: bool,
+    has: &[bool],
+    row: &[i64],
+    flags: &mut [bool],
+    next: &mut [i64],
+) -> bool
     requires { ⌜ Takeable (now part) (now has) (now row) (now flags) (now next) ⌝ }
-    ensures { λ r. ⌜ TakenIn (now (part .entry)) (now (has .entry)) (now (row .entry)) (now (flags .entry)) (now (next .entry)) (now (flags .exit)) (now (next .exit)) r ⌝ }
+    ensures { λ r. ⌜ TakenIn (now (part .entry)) before (now (has .entry)) (now (row .entry)) (now (flags .entry)) (now (next .entry)) (now (flags .exit)) (now (next .exit)) r ⌝ }
 {
-    let usable = block::usable(part, has, row);
+    let usable = before || block::usable(part, has, row);
     if usable {
         apply(part, row, flags, next);
         return usable;
@@ -252,7 +264,8 @@ fn take_in(part: &[u8], has: &[bool], row: &[i64], flags: &mut [bool], next: &mu
     usable
 }
 
-// "from all moves whose conditions hold in layer t": the next layer, begun as this one, and the moves that the step used.
+// "from all moves whose conditions hold in layer t": the next layer, begun as this one, and the moves that the step used. `used` comes
+// with those that the step before used.
 fn step(
     table: &[u8],
     marks: &[usize],
@@ -264,14 +277,15 @@ fn step(
     used: &mut [bool],
 )
     requires { ⌜ Steppable (now table) (now marks) moves (now has) (now row) (now flags) (now next) (now used) ⌝ }
-    ensures { λ r. ⌜ Stepped (now (table .entry)) (now (marks .entry)) moves (now (has .entry)) (now (row .entry)) (now (flags .entry)) (now (next .entry)) (now (flags .exit)) (now (next .exit)) (now (used .exit)) ⌝ }
+    ensures { λ r. ⌜ Stepped (now (table .entry)) (now (marks .entry)) moves (now (has .entry)) (now (row .entry)) (now (flags .entry)) (now (next .entry)) (now (used .entry)) (now (flags .exit)) (now (next .exit)) (now (used .exit)) ⌝ }
 {
     let mut b = 0;
     while b < moves {
         let from = marks[b];
         let to = marks[b + 1];
         let part = &table[from..to];
-        used[b] = take_in(part, has, row, flags, next);
+        let before = used[b];
+        used[b] = take_in(part, before, has, row, flags, next);
         b += 1;
     }
 }
@@ -344,7 +358,7 @@ fn work_out(
     used: &mut [bool],
 ) -> NextLayer
     requires { ⌜ Workable (now table) (now marks) props vars moves (now has) (now row) (now flags) (now next) (now used) ⌝ }
-    ensures { λ r. ⌜ WorkedOut (now (table .entry)) (now (marks .entry)) props vars moves (now (has .entry)) (now (row .entry)) (now (flags .entry)) (now (next .entry)) (now (flags .exit)) (now (next .exit)) (now (used .exit)) r ⌝ }
+    ensures { λ r. ⌜ WorkedOut (now (table .entry)) (now (marks .entry)) props vars moves (now (has .entry)) (now (row .entry)) (now (flags .entry)) (now (next .entry)) (now (used .entry)) (now (flags .exit)) (now (next .exit)) (now (used .exit)) r ⌝ }
 {
     step(table, marks, moves, has, row, flags, next, used);
     if settled(has, flags, row, next, props, vars) {

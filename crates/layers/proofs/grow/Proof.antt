@@ -1,16 +1,16 @@
--- `grow` meets its contract. The invariant: layer `t` is the last one stored, and stands in the two arrays. The measure is what is
--- left of the bound on layers. Assumes nothing.
+-- `grow` meets its contract. The invariant: layer `t` is the last one stored, and stands in the two arrays; the moves marked as used are
+-- usable in it. The measure is what is left of the bound on layers. Assumes nothing.
 use Prim.Native.Nat.{_-_}
 use mathlib.Core.Path.{_≡_, refl, sym, _∙_}
 use lib.ListN.{length}
 use Rattle.model.specs.Layer.{bound}
-use Rattle.layers.specs.Building.{Layered, Growing, growing-start, growing-next, goal-testable-at, workable-at, memory-room, has-room, row-room, count-small, layer-small, reached-at, exhausted-at, below-bound, large-at, short-at, next-at}
+use Rattle.layers.specs.Building.{Layered, Grows, Growing, growing-start, growing-next, goal-testable-at, workable-at, memory-room, has-room, row-room, count-small, layer-small, reached-at, exhausted-at, below-bound, large-at, short-at, next-at}
 use native.Mathlib.Omega.{arith}
 use Rattle.layers.proofs.grow.Statement.{statement}
 use Rattle.layers.proofs.grow.Tie as tie
 
 abbrev Inv-loop : tie.InvT-loop
-Inv-loop table marks props vars moves layers₀ has₀ row₀ used₀ end₀ t₀ layers has row used end t = (length has ≡ 120) × (length row ≡ 32) × (length used ≡ 64) × Growing table marks props vars moves has₀ row₀ layers₀ t has row layers end
+Inv-loop table marks props vars moves layers₀ has₀ row₀ used₀ end₀ t₀ layers has row used end t = (length has ≡ 120) × (length row ≡ 32) × (length used ≡ 64) × Growing table marks props vars moves has₀ row₀ layers₀ t has row used layers end
 
 abbrev μ-loop : tie.MeasureT-loop
 μ-loop table marks props vars moves layers₀ has₀ row₀ used₀ end₀ t₀ layers has row used end t = bound moves vars - t
@@ -28,11 +28,16 @@ add-end-2 c =
 loop-holds : tie.Need-loop-holds Inv-loop μ-loop
 loop-holds c = (c .before .before .pre .has-long, c .before .before .pre .row-long, refl, growing-start)
 
--- layer t in the caller's reading
+-- layer t in the caller's reading, with the moves that the step before used
+current :
+    (c : tie.At-loop Inv-loop μ-loop)
+    → let p = c .before .before .before .pre in Grows (p .task) (p .start) (p .old) (c .loop .t) (c .loop .layers) (c .loop .has) (c .loop .row) (c .loop .used)
+current c = let p = c .before .before .before .pre in c .loop .inv .3 .is (p .task) (p .start) (p .old) (p .outlined) (p .counts) (p .layered)
+
 own :
     (c : tie.At-loop Inv-loop μ-loop)
     → let p = c .before .before .before .pre in Layered (p .task) (p .start) (p .old) (c .loop .t) (c .loop .layers) (c .loop .has) (c .loop .row)
-own c = let p = c .before .before .before .pre in c .loop .inv .3 .is (p .task) (p .start) (p .old) (p .outlined) (p .counts) (p .layered)
+own c = current c .layered
 
 slice-aggregate-goal-met : tie.Need-slice-aggregate-goal-met Inv-loop μ-loop
 slice-aggregate-goal-met c = sym (c .before .loop .inv .0)
@@ -51,7 +56,7 @@ same-length c = c .before .before .before .before .loop .inv .3 .same-length
 returns : tie.Need-returns Inv-loop μ-loop
 returns c =
     let g = c .before .before .before .before .loop .inv .3 in
-    record { is = λ k s old o n a. reached-at o n (g .is k s old o n a) (c .before .goal-met .ensures) (c .if1 .taken) }
+    record { is = λ k s old o n a. reached-at o n (g .is k s old o n a .layered) (c .before .goal-met .ensures) (c .if1 .taken) }
 
 slice-aggregate-work-out : tie.Need-slice-aggregate-work-out Inv-loop μ-loop
 slice-aggregate-work-out c = sym (c .before .before .before .before .before .loop .inv .0)
@@ -108,7 +113,8 @@ returns-2 c =
     record {
       is =
           λ k s old o n a.
-          exhausted-at o n (g .is k s old o n a) (c .before .before .before .before .before .before .before .before .before .before .before .before .before .before .before .before .goal-met .ensures) (c .before .before .before .before .before .before .before .before .before .before .before .before .before .before .before .if1 .left) (c .before .before .before .before .before .before .before .before .before .work-out .ensures) (c .before .before .before .before .enum-told .given .1) (c .before .note-moves .ensures);
+          let h = g .is k s old o n a in
+          exhausted-at o n (h .layered) (c .before .before .before .before .before .before .before .before .before .before .before .before .before .before .before .before .goal-met .ensures) (c .before .before .before .before .before .before .before .before .before .before .before .before .before .before .before .if1 .left) (h .used-in) (c .before .before .before .before .before .before .before .before .before .work-out .ensures) (c .before .before .before .before .enum-told .given .1) (c .before .note-moves .ensures);
     }
 
 enum-told-2 : tie.Need-enum-told-2 Inv-loop μ-loop
@@ -128,7 +134,8 @@ returns-3 c =
     record {
       is =
           λ k s old o n a.
-          large-at o n (g .is k s old o n a) (c .before .before .before .before .before .before .before .before .before .before .before .before .goal-met .ensures) (c .before .before .before .before .before .before .before .before .before .before .before .if1 .left) (c .before .before .before .before .before .work-out .ensures) (c .enum-told2 .given .1);
+          let h = g .is k s old o n a in
+          large-at o n (h .layered) (c .before .before .before .before .before .before .before .before .before .before .before .before .goal-met .ensures) (c .before .before .before .before .before .before .before .before .before .before .before .if1 .left) (h .used-in) (c .before .before .before .before .before .work-out .ensures) (c .enum-told2 .given .1);
     }
 
 enum-told-3 : tie.Need-enum-told-3 Inv-loop μ-loop
@@ -153,7 +160,8 @@ returns-4 c =
     record {
       is =
           λ k s old o n a.
-          short-at o n (g .is k s old o n a) (c .before .before .before .before .before .before .before .before .before .before .before .before .before .goal-met .ensures) (c .before .before .before .before .before .before .before .before .before .before .before .before .if1 .left) (c .before .before .before .before .before .before .work-out .ensures) (c .before .enum-told3 .given .1) (omega (arith, g .end-is, c .if2 .taken));
+          let h = g .is k s old o n a in
+          short-at o n (h .layered) (c .before .before .before .before .before .before .before .before .before .before .before .before .before .goal-met .ensures) (c .before .before .before .before .before .before .before .before .before .before .before .before .if1 .left) (h .used-in) (c .before .before .before .before .before .before .work-out .ensures) (c .before .enum-told3 .given .1) (omega (arith, g .end-is, c .if2 .taken));
     }
 
 slice-aggregate-note-moves-2 : tie.Need-slice-aggregate-note-moves-2 Inv-loop μ-loop
@@ -205,7 +213,7 @@ add-t c =
 loop-less : tie.Need-loop-less Inv-loop μ-loop
 loop-less c =
     let p = c .before .before .before .before .before .before .before .before .before .before .before .before .before .before .before .before .before .before .before .before .before .before .before .before .before .before .before .before .pre in
-    omega (arith, below-bound (p .outlined) (p .counts) (own (c .before .before .before .before .before .before .before .before .before .before .before .before .before .before .before .before .before .before .before .before .before .before .before .before .before)) (c .before .before .before .before .before .before .before .before .before .before .before .before .before .before .before .before .before .before .before .before .before .before .goal-met .ensures) (c .before .before .before .before .before .before .before .before .before .before .before .before .before .before .before .before .before .before .before .before .before .if1 .left) (c .before .before .before .before .before .before .before .before .before .before .before .before .before .before .before .work-out .ensures) (c .before .before .before .before .before .before .before .before .before .before .enum-told3 .given .1))
+    omega (arith, below-bound (p .outlined) (p .counts) (own (c .before .before .before .before .before .before .before .before .before .before .before .before .before .before .before .before .before .before .before .before .before .before .before .before .before)) (c .before .before .before .before .before .before .before .before .before .before .before .before .before .before .before .before .before .before .before .before .before .before .goal-met .ensures) (c .before .before .before .before .before .before .before .before .before .before .before .before .before .before .before .before .before .before .before .before .before .if1 .left) (current (c .before .before .before .before .before .before .before .before .before .before .before .before .before .before .before .before .before .before .before .before .before .before .before .before .before) .used-in) (c .before .before .before .before .before .before .before .before .before .before .before .before .before .before .before .work-out .ensures) (c .before .before .before .before .before .before .before .before .before .before .enum-told3 .given .1))
 
 loop-again : tie.Need-loop-again Inv-loop μ-loop
 loop-again c =
@@ -215,8 +223,8 @@ loop-again c =
       used-long (c .before .before .before .before .before .before .before .before .before .before .before .before .before .before .before),
       growing-next g (c .before .store-layer .kept .0 ∙ c .before .before .before .before .before .before .note-moves2 .kept .0)
           (λ k s old o n a.
-          next-at o n a (c .before .before .before .before .before .before .before .before .before .before .before .before .before .before .before .before .before .before .before .before .before .before .goal-met .ensures) (c .before .before .before .before .before .before .before .before .before .before .before .before .before .before .before .before .before .before .before .before .before .if1 .left) (c .before .before .before .before .before .before .before .before .before .before .before .before .before .before .before .work-out .ensures) (c .before .before .before .before .before .before .before .before .before .before .enum-told3 .given .1)
-          (omega (arith, g .end-is, c .before .before .before .before .before .before .before .before .before .if2 .left, memory-room o n a)) (g .end-is) (c .before .before .before .before .before .before .note-moves2 .ensures) (c .before .store-layer .ensures)),
+          next-at o n (a .layered) (c .before .before .before .before .before .before .before .before .before .before .before .before .before .before .before .before .before .before .before .before .before .before .goal-met .ensures) (c .before .before .before .before .before .before .before .before .before .before .before .before .before .before .before .before .before .before .before .before .before .if1 .left) (a .used-in) (c .before .before .before .before .before .before .before .before .before .before .before .before .before .before .before .work-out .ensures) (c .before .before .before .before .before .before .before .before .before .before .enum-told3 .given .1)
+          (omega (arith, g .end-is, c .before .before .before .before .before .before .before .before .before .if2 .left, memory-room o n (a .layered))) (g .end-is) (c .before .before .before .before .before .before .note-moves2 .ensures) (c .before .store-layer .ensures)),
     )
 
 pub grow-spec : {M : Type 1} → statement M

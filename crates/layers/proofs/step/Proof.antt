@@ -38,13 +38,16 @@ part-part-start c = steppable-ordered (c .before .before .before .before .before
 part-part-end : tie.Need-part-part-end Inv-loop μ-loop
 part-part-end c = steppable-within (c .before .before .before .before .before .before .before .before .before .pre) (c .before .before .loop-test .taken)
 
+slice-read-before : tie.Need-slice-read-before Inv-loop μ-loop
+slice-read-before c = omega (arith, c .before .before .before .before .before .before .before .before .before .before .before .pre .used-room, c .before .before .before .before .before .loop .inv .1 .same-used)
+
 take-in-requires : tie.Need-take-in-requires Inv-loop μ-loop
 take-in-requires c κs =
-    let i = c .before .before .before .before .before in
+    let i = c .before .before .before .before .before .before in
     steppable-takeable (i .before .before .before .before .before .before .before .pre) (i .loop-test .taken) (i .before .loop .inv .1 .same-flags) (i .before .loop .inv .1 .same-values)
 
 slice-write-used : tie.Need-slice-write-used Inv-loop μ-loop
-slice-write-used c = omega (arith, c .before .before .before .before .before .before .before .before .before .before .before .before .before .before .before .before .pre .used-room, c .before .before .before .before .before .before .before .before .before .before .loop .inv .1 .same-used)
+slice-write-used c = omega (arith, c .before .before .before .before .before .before .before .before .before .before .before .before .before .before .before .before .before .pre .used-room, c .before .before .before .before .before .before .before .before .before .before .before .loop .inv .1 .same-used)
 
 add-b : tie.Need-add-b Inv-loop μ-loop
 add-b c = omega arith
@@ -55,7 +58,7 @@ loop-less c = omega arith
 loop-again : tie.Need-loop-again Inv-loop μ-loop
 loop-again c =
     let t = c .before .before .before .take-in in
-    (omega arith, stepping-next (c .before .before .before .before .before .before .before .before .before .before .loop .inv .1) (c .before .before .before .before .before .before .before .before .before .loop-test .taken) (c .before .before .before .before .before .before .before .before .before .before .before .before .before .before .before .before .pre .used-room) (t .kept .1 .1 .1 .0) (t .kept .1 .1 .1 .1 .0) (t .ensures))
+    (omega arith, stepping-next (c .before .before .before .before .before .before .before .before .before .before .before .loop .inv .1) (c .before .before .before .before .before .before .before .before .before .before .loop-test .taken) (c .before .before .before .before .before .before .before .before .before .before .before .before .before .before .before .before .before .pre .used-room) (t .kept .1 .1 .1 .1 .0) (t .kept .1 .1 .1 .1 .1 .0) (t .ensures))
 
 same-length : tie.Need-same-length Inv-loop μ-loop
 same-length c = c .before .loop .inv .1 .same-flags
@@ -84,6 +87,7 @@ step-spec =
     sub-part
     part-part-start
     part-part-end
+    slice-read-before
     take-in-requires
     slice-write-used
     add-b
