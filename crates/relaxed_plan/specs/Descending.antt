@@ -19,20 +19,15 @@ use Rattle.model.specs.Plan.{Target, free, least, Wants, noWants, low, Descent,
 use Rattle.model.specs.Theorems.Targets.{EachTarget}
 use Rattle.block.specs.Sums.{Row, LayerRow}
 use Rattle.relaxed_plan.specs.declared.Targets.{Targets}
-use Rattle.relaxed_plan.specs.declared.Taken.{Taken}
 use Rattle.relaxed_plan.specs.Encoding.{fresh, lowest, code, Encodes, encodes-none, Added, encodes-prop, Raised, encodes-value}
 use Rattle.relaxed_plan.specs.Search.{Searchable}
-use Rattle.relaxed_plan.specs.Taking.{EncodesTaken, Rewanted, taken-wants, Takeable, AdderTaken, AchieverTaken}
+use Rattle.relaxed_plan.specs.Taking.{EncodesTaken, taken-wants, Takeable, AdderTaken, AchieverTaken}
 
 -- nothing is taken yet
 abbrev pub nothing : Descent
 nothing = record { wants = noWants; count = λ b. 0 }
 
-unfoldable pub freshTaken : Taken
-freshTaken = record { wants = fresh; counts = replicate 64 0 }
-
-pub taken-none : {k : Task} → k .props ≤ 120 → k .vars ≤ 32 → length (k .moves) ≤ 64 → EncodesTaken k freshTaken nothing
-unfolding freshTaken
+pub taken-none : {k : Task} → k .props ≤ 120 → k .vars ≤ 32 → length (k .moves) ≤ 64 → EncodesTaken k fresh (replicate 64 0) nothing
 taken-none h i j =
     record {
       wants = encodes-none h i;
@@ -52,11 +47,11 @@ pub record Descendable (table marks : List ℕ) (used : List Bool) (row lows : L
   pub encoded : Encodes (search .task .props) (search .task .vars) upper wants
 
 module _ {table marks : List ℕ} {used : List Bool} {row lows : List ℤ} {moves : ℕ} {upper : Targets} (x : Descendable table marks used row lows moves upper) where
-  pub start-taken : EncodesTaken (x .search .task) freshTaken nothing
+  pub start-taken : EncodesTaken (x .search .task) fresh (replicate 64 0) nothing
   start-taken = taken-none (x .encoded .few-props) (x .encoded .few-vars) (omega (arith, x .few, x .search .many))
 
-  abbrev pub takeable : {t : Taken} {d : Descent} → EncodesTaken (x .search .task) t d → Takeable table marks used row lows moves t
-  takeable {t} {d} e =
+  abbrev pub takeable : {t : Targets} {counts : List ℕ} {d : Descent} → EncodesTaken (x .search .task) t counts d → Takeable table marks used row lows moves t counts
+  takeable {t} {counts} {d} e =
       record { search = x .search; start = x .start; descent = d; values = x .values; low-values = x .low-values; encoded = e }
 
 -- ---- propositions
@@ -71,39 +66,39 @@ pub record PropsDescendable (table marks : List ℕ) (has used : List Bool) (row
 abbrev pub propsBelow : {table marks : List ℕ} {used : List Bool} {row lows : List ℤ} {moves : ℕ} {upper : Targets} → Descendable table marks used row lows moves upper → ℕ → Descent
 propsBelow x n = foldBelow (descendProp (x .search .task) (x .search .over) (x .start) (x .wants)) n nothing
 
-pub record PropsDone {table marks : List ℕ} {has used : List Bool} {row lows : List ℤ} {moves props : ℕ} {upper : Targets} (x : PropsDescendable table marks has used row lows moves props upper) (n : ℕ) (t : Taken) : Type 0 where
-  pub is : EncodesTaken (x .scene .search .task) t (propsBelow (x .scene) n)
+pub record PropsDone {table marks : List ℕ} {has used : List Bool} {row lows : List ℤ} {moves props : ℕ} {upper : Targets} (x : PropsDescendable table marks has used row lows moves props upper) (n : ℕ) (t : Targets) (counts : List ℕ) : Type 0 where
+  pub is : EncodesTaken (x .scene .search .task) t counts (propsBelow (x .scene) n)
 
 module _ {table marks : List ℕ} {has used : List Bool} {row lows : List ℤ} {moves props : ℕ} {upper : Targets} (x : PropsDescendable table marks has used row lows moves props upper) where
-  pub props-start : PropsDone x 0 freshTaken
+  pub props-start : PropsDone x 0 fresh (replicate 64 0)
   unfolding foldBelow
   props-start = record { is = start-taken (x .scene) }
 
-  pub props-end : {n : ℕ} {t : Taken} → n ≤ props → props ≤ n → PropsDone x n t → PropsDone x props t
-  props-end {n} {t} h i d = let e : n ≡ props = omega arith in subst (λ (m : ℕ). PropsDone x m t) e d
+  pub props-end : {n : ℕ} {t : Targets} {counts : List ℕ} → n ≤ props → props ≤ n → PropsDone x n t counts → PropsDone x props t counts
+  props-end {n} {t} {counts} h i d = let e : n ≡ props = omega arith in subst (λ (m : ℕ). PropsDone x m t counts) e d
 
   pub prop-room : {p : ℕ} → p < props → p < 120
   prop-room h = omega (arith, x .scene .encoded .few-props, x .many)
 
-  module _ {p : ℕ} {t : Taken} (h : p < props) (d : PropsDone x p t) where
+  module _ {p : ℕ} {t : Targets} {counts : List ℕ} (h : p < props) (d : PropsDone x p t counts) where
     wanted-is : getD (upper .props) p false ≡ x .scene .wants .props p
     wanted-is = x .scene .encoded .prop p (omega (arith, x .many))
 
-    pub prop-skip : getD (upper .props) p false ≡ false → PropsDone x (p + 1) t
+    pub prop-skip : getD (upper .props) p false ≡ false → PropsDone x (p + 1) t counts
     unfolding foldBelow descendProp
     prop-skip e = rw (add-one p) (record { is = rw (sym wanted-is ∙ e, descendProp) (d .is) })
 
-    pub prop-carry : {r : Taken} {w : Targets} → getD (upper .props) p false ≡ true → getD has p false ≡ true → Added (t .wants) p w → Rewanted t w r → PropsDone x (p + 1) r
+    pub prop-carry : {r : Targets} → getD (upper .props) p false ≡ true → getD has p false ≡ true → Added t p r → PropsDone x (p + 1) r counts
     unfolding foldBelow descendProp carryProp
-    prop-carry e f added same =
+    prop-carry e f added =
         rw (add-one p)
         (record {
           is =
               rw (sym wanted-is ∙ e, descendProp, sym (x .has-is p h) ∙ f)
-              (taken-wants (d .is) (encodes-prop (d .is .wants) (omega (arith, x .many)) added) same);
+              (taken-wants (d .is) (encodes-prop (d .is .wants) (omega (arith, x .many)) added));
         })
 
-    pub prop-take : {r : Taken} → getD (upper .props) p false ≡ true → getD has p false ≡ false → AdderTaken (takeable (x .scene) (d .is)) p r → PropsDone x (p + 1) r
+    pub prop-take : {r : Targets} {more : List ℕ} → getD (upper .props) p false ≡ true → getD has p false ≡ false → AdderTaken (takeable (x .scene) (d .is)) p r more → PropsDone x (p + 1) r more
     unfolding foldBelow descendProp
     prop-take e f taken = rw (add-one p) (record { is = rw (sym wanted-is ∙ e, descendProp, sym (x .has-is p h) ∙ f) (taken .is) })
 
@@ -128,27 +123,27 @@ free-no free {z} e h = absurd (omega (zlin, e, le-false z lowest h))
 free-no (least y) e h = ap least (sym e)
 
 -- the state's values beside, and what is taken for the propositions
-pub record ValuesDescendable (table marks : List ℕ) (used : List Bool) (row lows start : List ℤ) (moves vars : ℕ) (upper : Targets) (t : Taken) : Type 0 where
+pub record ValuesDescendable (table marks : List ℕ) (used : List Bool) (row lows start : List ℤ) (moves vars : ℕ) (upper t : Targets) (counts : List ℕ) : Type 0 where
   pub scene : Descendable table marks used row lows moves upper
   pub many : scene .search .task .vars ≡ vars
   pub start-values : Row vars start (scene .start .val)
   pub small : SmallTargets (scene .wants)
   pub descent : Descent
-  pub taken : EncodesTaken (scene .search .task) t descent
+  pub taken : EncodesTaken (scene .search .task) t counts descent
 
 abbrev pub valuesBelow : {table marks : List ℕ} {used : List Bool} {row lows : List ℤ} {moves : ℕ} {upper : Targets} → Descendable table marks used row lows moves upper → Descent → ℕ → Descent
 valuesBelow x d n = foldBelow (descendValue (x .search .task) (x .search .over) (x .start) (x .wants)) n d
 
-pub record ValuesDone {table marks : List ℕ} {used : List Bool} {row lows start : List ℤ} {moves vars : ℕ} {upper : Targets} {t₀ : Taken} (x : ValuesDescendable table marks used row lows start moves vars upper t₀) (n : ℕ) (t : Taken) : Type 0 where
-  pub is : EncodesTaken (x .scene .search .task) t (valuesBelow (x .scene) (x .descent) n)
+pub record ValuesDone {table marks : List ℕ} {used : List Bool} {row lows start : List ℤ} {moves vars : ℕ} {upper t₀ : Targets} {counts₀ : List ℕ} (x : ValuesDescendable table marks used row lows start moves vars upper t₀ counts₀) (n : ℕ) (t : Targets) (counts : List ℕ) : Type 0 where
+  pub is : EncodesTaken (x .scene .search .task) t counts (valuesBelow (x .scene) (x .descent) n)
 
-module _ {table marks : List ℕ} {used : List Bool} {row lows start : List ℤ} {moves vars : ℕ} {upper : Targets} {t₀ : Taken} (x : ValuesDescendable table marks used row lows start moves vars upper t₀) where
-  pub values-start : ValuesDone x 0 t₀
+module _ {table marks : List ℕ} {used : List Bool} {row lows start : List ℤ} {moves vars : ℕ} {upper t₀ : Targets} {counts₀ : List ℕ} (x : ValuesDescendable table marks used row lows start moves vars upper t₀ counts₀) where
+  pub values-start : ValuesDone x 0 t₀ counts₀
   unfolding foldBelow
   values-start = record { is = x .taken }
 
-  pub values-end : {n : ℕ} {t : Taken} → n ≤ vars → vars ≤ n → ValuesDone x n t → ValuesDone x vars t
-  values-end {n} {t} h i d = let e : n ≡ vars = omega arith in subst (λ (m : ℕ). ValuesDone x m t) e d
+  pub values-end : {n : ℕ} {t : Targets} {counts : List ℕ} → n ≤ vars → vars ≤ n → ValuesDone x n t counts → ValuesDone x vars t counts
+  values-end {n} {t} {counts} h i d = let e : n ≡ vars = omega arith in subst (λ (m : ℕ). ValuesDone x m t counts) e d
 
   pub value-room : {v : ℕ} → v < vars → v < 32
   value-room h = omega (arith, x .scene .encoded .few-vars, x .many)
@@ -179,30 +174,29 @@ module _ {table marks : List ℕ} {used : List Bool} {row lows start : List ℤ}
     pub old-size : natAbs (getD start v (pos 0)) ≤ 1_000_000_000_000
     old-size = subst (λ (z : ℤ). natAbs z ≤ 1_000_000_000_000) (sym old-is) (x .start-values .size v h)
 
-    module _ {t : Taken} (d : ValuesDone x v t) where
-      pub value-skip : isFree (getD (upper .target) v (pos 0)) ≡ true → ValuesDone x (v + 1) t
+    module _ {t : Targets} {counts : List ℕ} (d : ValuesDone x v t counts) where
+      pub value-skip : isFree (getD (upper .target) v (pos 0)) ≡ true → ValuesDone x (v + 1) t counts
       unfolding foldBelow descendValue
       value-skip e = rw (add-one v) (record { is = rw (free-yes (x .scene .wants .target v) target-is (x .small .each v) e, descendValue) (d .is) })
 
       module _ (f : isFree (getD (upper .target) v (pos 0)) ≡ false) where
         pub value-carry :
-            {r : Taken} {w : Targets} → reaches (x .scene .search .over .val v) (getD (upper .target) v (pos 0)) ≡ true
-            → Raised (t .wants) v (getD (upper .target) v (pos 0)) w
-            → Rewanted t w r
-            → ValuesDone x (v + 1) r
+            {r : Targets} → reaches (x .scene .search .over .val v) (getD (upper .target) v (pos 0)) ≡ true
+            → Raised t v (getD (upper .target) v (pos 0)) r
+            → ValuesDone x (v + 1) r counts
         unfolding foldBelow descendValue carryValue
-        value-carry e raised same =
+        value-carry e raised =
             let z = getD (upper .target) v (pos 0) in
             rw (add-one v)
             (record {
               is =
                   rw (least-is f, descendValue, e)
-                  (taken-wants (d .is) (encodes-value (d .is .wants) z (omega (arith, x .many)) (small-mag z (omega (arith, target-size f))) raised) same);
+                  (taken-wants (d .is) (encodes-value (d .is .wants) z (omega (arith, x .many)) (small-mag z (omega (arith, target-size f))) raised));
             })
 
         pub value-take :
-            {r : Taken} → reaches (x .scene .search .over .val v) (getD (upper .target) v (pos 0)) ≡ false
-            → AchieverTaken (takeable (x .scene) (d .is)) v (getD (upper .target) v (pos 0)) r
-            → ValuesDone x (v + 1) r
+            {r : Targets} {more : List ℕ} → reaches (x .scene .search .over .val v) (getD (upper .target) v (pos 0)) ≡ false
+            → AchieverTaken (takeable (x .scene) (d .is)) v (getD (upper .target) v (pos 0)) r more
+            → ValuesDone x (v + 1) r more
         unfolding foldBelow descendValue
         value-take e taken = rw (add-one v) (record { is = rw (least-is f, descendValue, e) (taken .is) })

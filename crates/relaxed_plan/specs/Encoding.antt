@@ -27,6 +27,14 @@ code (least z) = z
 unfoldable pub fresh : Targets
 fresh = record { props = replicate 120 false; target = replicate 32 lowest }
 
+-- these propositions and these targets
+abbrev pub holding : List Bool → List ℤ → Targets
+holding ps ts = record { props = ps; target = ts }
+
+-- the target of v is z or larger
+unfoldable pub raisedAt : List ℤ → ℕ → ℤ → List ℤ
+raisedAt ts v z = set ts v (larger (getD ts v (pos 0)) z)
+
 -- the arrays hold the wants of a table with so many propositions and variables
 pub record Encodes (props vars : ℕ) (t : Targets) (w : Wants) : Type 0 where
   pub few-props : props ≤ 120
@@ -74,7 +82,10 @@ pub record Added (t : Targets) (p : ℕ) (r : Targets) : Type 0 where
 
 pub record Raised (t : Targets) (v : ℕ) (z : ℤ) (r : Targets) : Type 0 where
   pub props : r .props ≡ t .props
-  pub target : r .target ≡ set (t .target) v (larger (getD (t .target) v (pos 0)) z)
+  pub target : r .target ≡ raisedAt (t .target) v z
+
+pub raised-at : {ps : List Bool} {ts rs : List ℤ} {v : ℕ} {z : ℤ} → rs ≡ raisedAt ts v z → Raised (holding ps ts) v z (holding ps rs)
+raised-at e = record { props = refl; target = e }
 
 module _ {props vars : ℕ} {t r : Targets} {w : Wants} (e : Encodes props vars t w) where
   pub encodes-prop : {p : ℕ} → p < props → Added t p r → Encodes props vars r (wantProp w p)
@@ -97,7 +108,7 @@ module _ {props vars : ℕ} {t r : Targets} {w : Wants} (e : Encodes props vars 
       {v : ℕ} (z : ℤ) → v < vars → mag z < 2 ^ 63
       → Raised t v z r
       → Encodes props vars r (wantValue w v z)
-  unfolding wantValue
+  unfolding wantValue raisedAt
   encodes-value {v} z h fits same =
       record {
         few-props = e .few-props;

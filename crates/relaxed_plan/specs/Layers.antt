@@ -21,7 +21,6 @@ use Rattle.model.specs.Theorems.LayerSizes.{layer-small}
 use Rattle.block.specs.Items.{Left}
 use Rattle.block.specs.Sums.{Row, LayerRow}
 use Rattle.relaxed_plan.specs.declared.Targets.{Targets}
-use Rattle.relaxed_plan.specs.declared.Taken.{Taken}
 use Rattle.relaxed_plan.specs.Encoding.{fresh, Encodes, encodes-none}
 use Rattle.relaxed_plan.specs.Blocks.{BlockWantable, BlockWanted}
 use Rattle.relaxed_plan.specs.Search.{partAt, rangesOf, Parts, PartIn}
@@ -156,8 +155,8 @@ pub record LayerDescendable (table marks : List ℕ) (layers start : List ℤ) (
   pub encoded : Encodes (stored .task .props) (stored .task .vars) upper wants
   pub small : SmallTargets wants
 
-pub record LayerDescended {table marks : List ℕ} {layers start : List ℤ} {props vars moves t : ℕ} {upper : Targets} (x : LayerDescendable table marks layers start props vars moves t upper) (r : Taken) : Type 0 where
-  pub is : EncodesTaken (x .stored .task) r (descend (x .stored .task) (layerAt (x .stored .task) (x .stored .start) t) (x .stored .start) (x .wants))
+pub record LayerDescended {table marks : List ℕ} {layers start : List ℤ} {props vars moves t : ℕ} {upper : Targets} (x : LayerDescendable table marks layers start props vars moves t upper) (r : Targets) (counts : List ℕ) : Type 0 where
+  pub is : EncodesTaken (x .stored .task) r counts (descend (x .stored .task) (layerAt (x .stored .task) (x .stored .start) t) (x .stored .start) (x .wants))
 
 module _ {table marks : List ℕ} {layers start : List ℤ} {props vars moves t : ℕ} {upper : Targets} (x : LayerDescendable table marks layers start props vars moves t upper) where
   module _
@@ -198,8 +197,8 @@ module _ {table marks : List ℕ} {layers start : List ℤ} {props vars moves t 
           has-is = λ p h. read-has .done p h ∙ view-has (x .stored .ok) (x .stored .held) (omega (arith, x .below)) p (omega (arith, x .stored .props-is));
         }
 
-    module _ {taken : Taken} (props-done : PropsDone layer-props props taken) where
-      abbrev pub layer-values : ValuesDescendable table marks used row lows start moves vars upper taken
+    module _ {taken : Targets} {counts : List ℕ} (props-done : PropsDone layer-props props taken counts) where
+      abbrev pub layer-values : ValuesDescendable table marks used row lows start moves vars upper taken counts
       layer-values =
           record {
             scene = layer-scene;
@@ -210,16 +209,16 @@ module _ {table marks : List ℕ} {layers start : List ℤ} {props vars moves t 
             taken = props-done .is;
           }
 
-      pub layer-descended : {r : Taken} → ValuesDone layer-values vars r → LayerDescended x r
+      pub layer-descended : {r : Targets} {more : List ℕ} → ValuesDone layer-values vars r more → LayerDescended x r more
       unfolding descend
-      layer-descended {r} d =
+      layer-descended {r} {more} d =
           let k = x .stored .task in
           let l = layerAt (x .stored .task) (x .stored .start) t in
           let s = x .stored .start in
           record {
             is =
-                subst (λ (n : ℕ). EncodesTaken k r (foldBelow (descendValue k l s (x .wants)) n (foldBelow (descendProp k l s (x .wants)) (k .props) nothing)))
+                subst (λ (n : ℕ). EncodesTaken k r more (foldBelow (descendValue k l s (x .wants)) n (foldBelow (descendProp k l s (x .wants)) (k .props) nothing)))
                 (sym (x .stored .vars-is))
-                (subst (λ (n : ℕ). EncodesTaken k r (foldBelow (descendValue k l s (x .wants)) vars (foldBelow (descendProp k l s (x .wants)) n nothing)))
+                (subst (λ (n : ℕ). EncodesTaken k r more (foldBelow (descendValue k l s (x .wants)) vars (foldBelow (descendProp k l s (x .wants)) n nothing)))
                 (sym (x .stored .props-is)) (d .is));
           }

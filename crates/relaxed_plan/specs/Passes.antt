@@ -19,7 +19,6 @@ use Rattle.model.specs.Theorems.TargetSizes.{SmallWants}
 use Rattle.model.specs.Theorems.PlanSizes.{wantsAt, descentAt, wantsAt-answer, wantsAt-down, records-answer, records-down, targets-small, records-most}
 use Rattle.block.specs.Sums.{Row}
 use Rattle.relaxed_plan.specs.declared.Targets.{Targets}
-use Rattle.relaxed_plan.specs.declared.Taken.{Taken}
 use Rattle.relaxed_plan.specs.Encoding.{Encodes}
 use Rattle.relaxed_plan.specs.Descending.{SmallTargets}
 use Rattle.relaxed_plan.specs.Layers.{Stored, stored-moves, GoalWantable, GoalWanted, LayerDescendable, LayerDescended}
@@ -64,24 +63,24 @@ module _ {table marks : List ℕ} {layers : List ℤ} {props vars moves m : ℕ}
           small = small-targets (targets-small (x .ok) (x .small) m (x .right) (x .most) (suc t) h);
         }
 
-    module _ {r : Taken} (e : LayerDescended walk-layer r) where
-      pub walk-next : Walked x t (r .wants)
+    module _ {r : Targets} {counts : List ℕ} (e : LayerDescended walk-layer r counts) where
+      pub walk-next : Walked x t r
       unfolding descentAt
       walk-next =
-          record { encoded = subst (Encodes (x .task .props) (x .task .vars) (r .wants)) (sym (wantsAt-down (x .task) (x .start) m h)) (e .is .wants) }
+          record { encoded = subst (Encodes (x .task .props) (x .task .vars) r) (sym (wantsAt-down (x .task) (x .start) m h)) (e .is .wants) }
 
-      pub walk-long : length (r .counts) ≡ 64
+      pub walk-long : length counts ≡ 64
       walk-long = e .is .long
 
-      pub walk-counted : Counted x t (r .counts)
+      pub walk-counted : Counted x t counts
       unfolding descentAt countAt
       walk-counted =
           record {
             same =
                 λ u.
-                records-same u (descentAt (x .task) (x .start) m t .count) (countAt (r .counts)) 0 (length (x .task .moves))
+                records-same u (descentAt (x .task) (x .start) m t .count) (countAt counts) 0 (length (x .task .moves))
                 (λ b lt. sym (e .is .count b (omega arith)))
-                ∙ ap (layerRecords u (countAt (r .counts)) 0) (x .moves-is);
+                ∙ ap (layerRecords u (countAt counts) 0) (x .moves-is);
           }
 
 -- ---- records of layers

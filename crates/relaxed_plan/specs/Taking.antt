@@ -22,7 +22,6 @@ use Rattle.model.specs.Theorems.WellFormed.{KindOk}
 use Rattle.block.specs.Items.{Left, EffectIs}
 use Rattle.block.specs.Sums.{Row, LayerRow, Encoded, Sized, isMark, mark-yes, mark-no}
 use Rattle.relaxed_plan.specs.declared.Targets.{Targets}
-use Rattle.relaxed_plan.specs.declared.Taken.{Taken}
 use Rattle.relaxed_plan.specs.Encoding.{Encodes, stored-at}
 use Rattle.relaxed_plan.specs.Wanting.{Wantable, Wanted}
 use Rattle.relaxed_plan.specs.Blocks.{BlockWantable, BlockWanted}
@@ -31,42 +30,31 @@ use Rattle.relaxed_plan.specs.Search.{partAt, rangesOf, Searchable, part
 -- ---- counts in an array
 
 -- the arrays hold the wants and the counts of a task
-pub record EncodesTaken (k : Task) (t : Taken) (d : Descent) : Type 0 where
-  pub wants : Encodes (k .props) (k .vars) (t .wants) (d .wants)
+pub record EncodesTaken (k : Task) (t : Targets) (counts : List ℕ) (d : Descent) : Type 0 where
+  pub wants : Encodes (k .props) (k .vars) t (d .wants)
   pub few : length (k .moves) ≤ 64
-  pub long : length (t .counts) ≡ 64
-  pub count : (b : ℕ) → b < length (k .moves) → getD (t .counts) b 0 ≡ d .count b
+  pub long : length counts ≡ 64
+  pub count : (b : ℕ) → b < length (k .moves) → getD counts b 0 ≡ d .count b
 
--- r is t with other wants, and a count n for move b if that is larger
-pub record Rewanted (t : Taken) (w : Targets) (r : Taken) : Type 0 where
-  pub wants : r .wants ≡ w
-  pub counts : r .counts ≡ t .counts
+-- a count n for move b if that is larger
+unfoldable pub countedAt : List ℕ → ℕ → ℕ → List ℕ
+countedAt counts b n = set counts b (max (getD counts b 0) n)
 
-pub record Recounted (t : Taken) (w : Targets) (b n : ℕ) (r : Taken) : Type 0 where
-  pub wants : r .wants ≡ w
-  pub counts : r .counts ≡ set (t .counts) b (max (getD (t .counts) b 0) n)
+module _ {k : Task} {t : Targets} {counts : List ℕ} {d : Descent} (e : EncodesTaken k t counts d) {r : Targets} {w : Wants} (wanted : Encodes (k .props) (k .vars) r w) where
+  pub taken-wants : EncodesTaken k r counts (record { wants = w; count = d .count })
+  taken-wants = record { wants = wanted; few = e .few; long = e .long; count = e .count }
 
-module _ {k : Task} {t r : Taken} {d : Descent} (e : EncodesTaken k t d) {targets : Targets} {w : Wants} (wanted : Encodes (k .props) (k .vars) targets w) where
-  pub taken-wants : Rewanted t targets r → EncodesTaken k r (record { wants = w; count = d .count })
-  taken-wants same =
+  pub taken-counted : {b : ℕ} (n : ℕ) {more : List ℕ} → b < length (k .moves) → more ≡ countedAt counts b n → EncodesTaken k r more (record { wants = w; count = counted (d .count) b n })
+  unfolding counted countedAt
+  taken-counted {b} n lt same =
       record {
-        wants = rw (same .wants) wanted;
+        wants = wanted;
         few = e .few;
-        long = ap length (same .counts) ∙ e .long;
-        count = λ b h. ap (λ (l : List ℕ). getD l b 0) (same .counts) ∙ e .count b h;
-      }
-
-  pub taken-counted : {b n : ℕ} → b < length (k .moves) → Recounted t targets b n r → EncodesTaken k r (record { wants = w; count = counted (d .count) b n })
-  unfolding counted
-  taken-counted {b} {n} lt same =
-      record {
-        wants = rw (same .wants) wanted;
-        few = e .few;
-        long = ap length (same .counts) ∙ length-set (t .counts) b (max (getD (t .counts) b 0) n) ∙ e .long;
+        long = ap length same ∙ length-set counts b (max (getD counts b 0) n) ∙ e .long;
         count =
-            λ c h. rw (same .counts)
-            (stored-at (λ (x : ℕ). x ≡ cond (eqb c b) (max (d .count c) n) (d .count c)) (t .counts) b c
-            (max (getD (t .counts) b 0) n) 0 (omega (arith, e .few, e .long))
+            λ c h. rw same
+            (stored-at (λ (x : ℕ). x ≡ cond (eqb c b) (max (d .count c) n) (d .count c)) counts b c
+            (max (getD counts b 0) n) 0 (omega (arith, e .few, e .long))
             (λ at. rw (eq-eqb c b at, at, e .count b lt) refl)
             (λ off. rw (ne-eqb c b off) (e .count c h)));
       }
@@ -139,17 +127,17 @@ up-nonneg (negsuc n) h = absurd (h .le)
 -- ---- a move that is taken
 
 -- the arguments of a descent: some task, some layer and the state, what is wanted below so far, and the counts
-pub record Takeable (table marks : List ℕ) (used : List Bool) (row lows : List ℤ) (moves : ℕ) (t : Taken) : Type 0 where
+pub record Takeable (table marks : List ℕ) (used : List Bool) (row lows : List ℤ) (moves : ℕ) (t : Targets) (counts : List ℕ) : Type 0 where
   pub search : Searchable table marks used moves
   pub start : State
   pub descent : Descent
   pub values : LayerRow (search .task .vars) row (search .over .val)
   pub low-values : Row (search .task .vars) lows (low (search .over) start)
-  pub encoded : EncodesTaken (search .task) t descent
+  pub encoded : EncodesTaken (search .task) t counts descent
 
-module _ {table marks : List ℕ} {used : List Bool} {row lows : List ℤ} {moves : ℕ} {t : Taken} (x : Takeable table marks used row lows moves t) {b : ℕ} (lt : b < moves) where
+module _ {table marks : List ℕ} {used : List Bool} {row lows : List ℤ} {moves : ℕ} {t : Targets} {counts : List ℕ} (x : Takeable table marks used row lows moves t counts) {b : ℕ} (lt : b < moves) where
   -- the move's conditions, as they are wanted in the layer
-  abbrev pub move-wantable : {part : List ℕ} → part ≡ partAt table marks b → BlockWantable part row lows (t .wants)
+  abbrev pub move-wantable : {part : List ℕ} → part ≡ partAt table marks b → BlockWantable part row lows t
   move-wantable {part} e =
       record {
         ranges = rangesOf (x .search .task);
@@ -168,33 +156,33 @@ module _ {table marks : List ℕ} {used : List Bool} {row lows : List ℤ} {move
   move-small = omega (arith, x .encoded .few, x .search .many)
 
 -- "take the first that adds the proposition .. Want its conditions in t−1 .. Count: 1"
-pub record AdderTaken {table marks : List ℕ} {used : List Bool} {row lows : List ℤ} {moves : ℕ} {t : Taken} (x : Takeable table marks used row lows moves t) (p : ℕ) (r : Taken) : Type 0 where
+pub record AdderTaken {table marks : List ℕ} {used : List Bool} {row lows : List ℤ} {moves : ℕ} {t : Targets} {counts : List ℕ} (x : Takeable table marks used row lows moves t counts) (p : ℕ) (r : Targets) (more : List ℕ) : Type 0 where
   pub is :
-      EncodesTaken (x .search .task) r
+      EncodesTaken (x .search .task) r more
       (takeAdder (x .search .task) (x .search .over) (x .start) (x .descent) (adder (x .search .task) (x .search .over) p))
 
-module _ {table marks : List ℕ} {used : List Bool} {row lows : List ℤ} {moves : ℕ} {t : Taken} (x : Takeable table marks used row lows moves t) {p : ℕ} where
-  pub adder-nobody : adder (x .search .task) (x .search .over) p ≡ none → AdderTaken x p t
+module _ {table marks : List ℕ} {used : List Bool} {row lows : List ℤ} {moves : ℕ} {t : Targets} {counts : List ℕ} (x : Takeable table marks used row lows moves t counts) {p : ℕ} where
+  pub adder-nobody : adder (x .search .task) (x .search .over) p ≡ none → AdderTaken x p t counts
   unfolding takeAdder
   adder-nobody e = record { is = rw e (x .encoded) }
 
   pub adder-taken :
-      {b : ℕ} {part : List ℕ} {w : Targets} {r : Taken} (h : AdderIs (x .search .task) (x .search .over) p moves b) (e : part ≡ partAt table marks b)
+      {b : ℕ} {part : List ℕ} {w : Targets} {more : List ℕ} (h : AdderIs (x .search .task) (x .search .over) p moves b) (e : part ≡ partAt table marks b)
       → BlockWanted (move-wantable x (h .lt) e) w
-      → Recounted t w b 1 r
-      → AdderTaken x p r
+      → more ≡ countedAt counts b 1
+      → AdderTaken x p w more
   unfolding takeAdder
   adder-taken h e wanted same =
-      record { is = rw (h .is) (taken-counted (x .encoded) (wanted .encoded) (omega (arith, h .lt, x .search .many)) same) }
+      record { is = rw (h .is) (taken-counted (x .encoded) (wanted .encoded) 1 (omega (arith, h .lt, x .search .many)) same) }
 
 -- "Want its conditions in t−1, and that value ≥ T (:=) or ≥ 1 (+=)."
-pub record AchieverTaken {table marks : List ℕ} {used : List Bool} {row lows : List ℤ} {moves : ℕ} {t : Taken} (x : Takeable table marks used row lows moves t) (v : ℕ) (z : ℤ) (r : Taken) : Type 0 where
+pub record AchieverTaken {table marks : List ℕ} {used : List Bool} {row lows : List ℤ} {moves : ℕ} {t : Targets} {counts : List ℕ} (x : Takeable table marks used row lows moves t counts) (v : ℕ) (z : ℤ) (r : Targets) (more : List ℕ) : Type 0 where
   pub is :
-      EncodesTaken (x .search .task) r
+      EncodesTaken (x .search .task) r more
       (takeAchiever (x .search .task) (x .search .over) (x .start) (x .descent) v z (achiever (x .search .task) (x .search .over) v z))
 
-module _ {table marks : List ℕ} {used : List Bool} {row lows : List ℤ} {moves : ℕ} {t : Taken} (x : Takeable table marks used row lows moves t) {v : ℕ} {z : ℤ} where
-  pub achiever-nobody : achiever (x .search .task) (x .search .over) v z ≡ none → AchieverTaken x v z t
+module _ {table marks : List ℕ} {used : List Bool} {row lows : List ℤ} {moves : ℕ} {t : Targets} {counts : List ℕ} (x : Takeable table marks used row lows moves t counts) {v : ℕ} {z : ℤ} where
+  pub achiever-nobody : achiever (x .search .task) (x .search .over) v z ≡ none → AchieverTaken x v z t counts
   unfolding takeAchiever
   achiever-nobody e = record { is = rw e (x .encoded) }
 
@@ -226,15 +214,15 @@ module _ {table marks : List ℕ} {used : List Bool} {row lows : List ℤ} {move
         go decrease p q = q
 
     pub achiever-taken :
-        {y c : ℤ} {w u : Targets} {m : ℕ} {r : Taken} (wanted : BlockWanted (move-wantable x (h .lt) e) w)
+        {y c : ℤ} {w u : Targets} {m : ℕ} {more : List ℕ} (wanted : BlockWanted (move-wantable x (h .lt) e) w)
         → y ≡ x .start .val v
         → c ≡ demandBy kd z -ℤ base
         → Wanted (effect-wantable wanted) c u
         → IsRuns kd z y value m
-        → Recounted t u b m r
-        → AchieverTaken x v z r
+        → more ≡ countedAt counts b m
+        → AchieverTaken x v z u more
     unfolding takeAchiever takeEffect
-    achiever-taken {y} {c} {w} {u} {m} {r} wanted old is sum counted-runs same =
+    achiever-taken {y} {c} {w} {u} {m} {more} wanted old is sum counted-runs same =
         let k = x .search .task in
         let l = x .search .over in
         let s = x .start in
@@ -248,6 +236,7 @@ module _ {table marks : List ℕ} {used : List Bool} {row lows : List ℤ} {move
               rw (h .is, h .found-it)
               (taken-counted (x .encoded)
               (subst (λ (i : ℤ). Encodes (k .props) (k .vars) u (wantSum l s (wantBlock l s (x .descent .wants) (moveAt k b)) (h .it .terms) i)) need (sum .encoded))
+              (runs (h .it .kind) z (s .val v) (layerValue l (h .it)))
               (omega (arith, h .lt, x .search .many))
-              (subst (λ (i : ℕ). Recounted t u b i r) many same));
+              (subst (λ (i : ℕ). more ≡ countedAt counts b i) many same));
         }

@@ -3,7 +3,7 @@
 use Prim.Native.Nat.{ℕ, _+_, _*_, _-_, _^_, _≤_, _<_}
 use native.Mathlib.Omega.{arith}
 use mathlib.Core.Path.{_≡_, refl, sym, ap, _∙_, subst}
-use mathlib.Core.Bool.{true, false}
+use mathlib.Core.Bool.{Bool, true, false}
 use mathlib.Core.List.{List, [], _∷_}
 use lib.Dec.{T}
 use lib.IntN.{ℤ, pos, negsuc, natAbs, _-ℤ_, _*ℤ_}
@@ -20,7 +20,7 @@ use Rattle.model.specs.Theorems.WellFormed.{WeightOk}
 use Rattle.block.specs.Items.{Ranges, Terms, TermAt, IsVariable, IsWeight, IsScaled, first-of, term-at, terms-place, terms-behind, term-var-small}
 use Rattle.block.specs.Sums.{Row, Summable, IsSum, LayerRow, Encoded, Sized, isMark, mark-yes, mark-no}
 use Rattle.relaxed_plan.specs.declared.Targets.{Targets}
-use Rattle.relaxed_plan.specs.Encoding.{Encodes, Raised, encodes-value}
+use Rattle.relaxed_plan.specs.Encoding.{Encodes, holding, Raised, encodes-value}
 
 -- ---- the term at an offset, and the value of its variable in a layer
 
@@ -103,6 +103,11 @@ pub record Finitely (part : List ℕ) (from n : ℕ) (row : List ℤ) (t : Targe
   pub values : LayerRow (ranges .vars) row (over .val)
   pub encoded : Encodes (ranges .props) (ranges .vars) t wants
 
+-- so with some propositions beside the targets
+pub record FinitelyIn (part : List ℕ) (from n : ℕ) (row target : List ℤ) : Type 0 where
+  pub props : List Bool
+  pub it : Finitely part from n row (holding props target)
+
 -- i of the terms are passed
 pub record FinitelyDone {part : List ℕ} {from n : ℕ} {row : List ℤ} {t : Targets} (x : Finitely part from n row t) (i : ℕ) (u : Targets) : Type 0 where
   pub others : List Term
@@ -182,6 +187,10 @@ pub record Wantable (part : List ℕ) (from n : ℕ) (row lows : List ℤ) (t : 
   pub values : LayerRow (ranges .vars) row (over .val)
   pub low-values : Row (ranges .vars) lows (low over start)
   pub encoded : Encodes (ranges .props) (ranges .vars) t wants
+
+pub record WantableIn (part : List ℕ) (from n : ℕ) (row lows target : List ℤ) : Type 0 where
+  pub props : List Bool
+  pub it : Wantable part from n row lows (holding props target)
 
 -- the targets r hold what wanting the sum with c makes of the wants
 pub record Wanted {part : List ℕ} {from n : ℕ} {row lows : List ℤ} {t : Targets} (x : Wantable part from n row lows t) (c : ℤ) (r : Targets) : Type 0 where
@@ -304,8 +313,8 @@ divisor-of {w} {d} h q e =
     }
 
 -- the first of the n terms is unbounded in some such layer
-pub record Unbounded (part : List ℕ) (at n v : ℕ) (c : ℤ) (row lows : List ℤ) (t : Targets) : Type 0 where
-  pub wantable : Wantable part at n row lows t
+pub record UnboundedIn (part : List ℕ) (at n v : ℕ) (c : ℤ) (row lows target : List ℤ) : Type 0 where
+  pub wantable : WantableIn part at n row lows target
   pub some : 0 < n
   pub variable : IsVariable part at v
   pub mark : isMark (getD row v (pos 0)) ≡ true

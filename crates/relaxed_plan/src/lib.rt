@@ -6,25 +6,26 @@ use model::PlanAnswer;
 use model::Refusal;
 ghost use mathlib.Core.Path.{_≡_};
 ghost use Prim.Native.Nat.{_+_, _*_, _^_, _<_, _≤_, max};
-ghost use lib.ListN.{length};
-ghost use mathlib.Core.Bool.{true, false};
+ghost use lib.ListN.{length, replicate};
+ghost use mathlib.Core.Bool.{Bool, true, false};
+ghost use mathlib.Core.List.{List};
 ghost use lib.IntN.{pos, natAbs};
 ghost use Rattle.integer.specs.Linear.{larger, up};
 ghost use Rattle.model.specs.Plan.{wantFinite, layerRecords, firstMoves};
 ghost use Rattle.model.specs.Limits.{paper};
 ghost use Rattle.model.specs.Calls.{recordBytes, planAnswer, planMemory, planOut};
 ghost use Rattle.integer.specs.Store.{put};
-ghost use Rattle.relaxed_plan.specs.Wanting.{Finitely, Wantable, Wanted, Unbounded, NormalTerm, IsDivisor};
+ghost use Rattle.relaxed_plan.specs.Wanting.{Finitely, FinitelyIn, Wantable, WantableIn, Wanted, UnboundedIn, NormalTerm, IsDivisor};
 ghost use Rattle.relaxed_plan.specs.Blocks.{BlockWantable, BlockWanted};
 ghost use Rattle.relaxed_plan.specs.Search.{PartIn, partAt, demandBy, Searchable, IsAdder, Achievable, IsAchiever};
-ghost use Rattle.relaxed_plan.specs.Taking.{Rewanted, Recounted, Above0, IsStep, IsRuns, Takeable, AdderTaken, AchieverTaken};
-ghost use Rattle.relaxed_plan.specs.Descending.{freshTaken, isFree, PropsDescendable, PropsDone, ValuesDescendable, ValuesDone};
+ghost use Rattle.relaxed_plan.specs.Taking.{countedAt, Above0, IsStep, IsRuns, Takeable, AdderTaken, AchieverTaken};
+ghost use Rattle.relaxed_plan.specs.Descending.{isFree, PropsDescendable, PropsDone, ValuesDescendable, ValuesDone};
 ghost use Rattle.relaxed_plan.specs.View.{Filled, heldBy, heldAt, numberAt, lowBy, lowAt};
 ghost use Rattle.relaxed_plan.specs.Layers.{Stored, GoalWantable, GoalWanted, LayerDescendable, LayerDescended};
 ghost use Rattle.relaxed_plan.specs.Records.{countAt, oneBit, oneBytes};
 ghost use Rattle.relaxed_plan.specs.Passes.{Surveyed, Writable, planRecords};
 ghost use Rattle.relaxed_plan.specs.Answer.{Extracted};
-ghost use Rattle.relaxed_plan.specs.Encoding.{fresh, Added, Raised, Encodes};
+ghost use Rattle.relaxed_plan.specs.Encoding.{fresh, holding, raisedAt, Added, Encodes};
 
 // "keep wanted propositions and one target (the largest) a variable": the least 64-bit number where a variable has no target.
 struct Targets {
@@ -52,55 +53,7 @@ impl Targets {
         self
     }
 
-    // Wants that the variable reaches `z`.
-    fn want_value(mut self, v: usize, z: i64) -> Self
-        requires { ⌜ v < 32 ⌝ }
-        ensures { λ r. ⌜ Raised self v z r ⌝ }
-    {
-        let old = self.target[v];
-        self.target[v] = integer::larger(old, z);
-        self
-    }
-
-    // "each finite variable's target is its layer value": of the `n` terms from `from` on.
-    fn want_finite(mut self, part: &[u8], from: usize, n: usize, row: &[i64]) -> Self
-        requires { ⌜ Finitely (now part) from n (now row) self ⌝ }
-        ensures { λ r. ⌜ ((x : Finitely (now (part .entry)) from n (now (row .entry)) self)
-            → Encodes (x .ranges .props) (x .ranges .vars) r (wantFinite (x .over) (x .wants) (x .ts))) ⌝ }
-    {
-        let mut i = 0;
-        while i < n {
-            let v = block::variable(part, from + 4 * i);
-            let x = row[v];
-            i += 1;
-            if block::is_unbounded(x) {
-                continue;
-            }
-            self = self.want_value(v, x);
-        }
-        self
-    }
-
-    // The target of the lowest unbounded variable `v`, whose term stands at `at`, and those of the terms behind it.
-    fn want_unbounded(
-        self,
-        part: &[u8],
-        at: usize,
-        n: usize,
-        v: usize,
-        c: i64,
-        row: &[i64],
-        lows: &[i64],
-    ) -> Self
-        requires { ⌜ Unbounded (now part) at n v c (now row) (now lows) self ⌝ }
-        ensures { λ r. ⌜ ((x : Wantable (now (part .entry)) at n (now (row .entry)) (now (lows .entry)) self) → Wanted x c r) ⌝ }
-    {
-        let others = self.want_finite(part, at + 4, n - 1, row);
-        let rest = integer::sub(c, block::sum_real(part, at + 4, n - 1, lows));
-        others.want_value(v, integer::ceil_div(rest, divisor(part, at)))
-    }
-
-    // "To want "sum ≥ c" in layer t": the sum of the `n` terms from `from` on, over the layer's row and the row of low values.
+    // "To want "sum ≥ c" in layer t".
     fn want_sum(
         mut self,
         part: &[u8],
@@ -113,19 +66,7 @@ impl Targets {
         requires { ⌜ (Wantable (now part) from n (now row) (now lows) self) × (natAbs c ≤ 100000000000000000) ⌝ }
         ensures { λ r. ⌜ ((x : Wantable (now (part .entry)) from n (now (row .entry)) (now (lows .entry)) self) → Wanted x c r) ⌝ }
     {
-        let mut left = c;
-        let mut i = 0;
-        while i < n {
-            let at = from + 4 * i;
-            let v = block::variable(part, at);
-            let x = row[v];
-            if block::is_unbounded(x) {
-                return self.want_unbounded(part, at, n - i, v, left, row, lows);
-            }
-            left = integer::sub(left, block::scaled(part, at, x));
-            self = self.want_value(v, x);
-            i += 1;
-        }
+        raise_sum(&mut self.target, part, from, n, c, row, lows);
         self
     }
 
@@ -148,7 +89,7 @@ impl Targets {
                     terms,
                     after,
                 } => {
-                    self = self.want_sum(part, from, terms, bound, row, lows);
+                    raise_sum(&mut self.target, part, from, terms, bound, row, lows);
                     at = after;
                 }
                 ItemAt::Add { prop: _, after } => {
@@ -172,6 +113,85 @@ impl Targets {
                 }
             }
         }
+    }
+}
+
+// Targets are raised where they stand: a call by value copies them all.
+
+// The target of the variable is `z` or larger.
+fn raise_target(target: &mut [i64; 32], v: usize, z: i64)
+    requires { ⌜ v < 32 ⌝ }
+    ensures { λ r. ⌜ now (target .exit) ≡ raisedAt (now (target .entry)) v z ⌝ }
+{
+    let old = target[v];
+    target[v] = integer::larger(old, z);
+}
+
+// "each finite variable's target is its layer value": of the `n` terms from `from` on.
+fn raise_finite(target: &mut [i64; 32], part: &[u8], from: usize, n: usize, row: &[i64])
+    requires { ⌜ FinitelyIn (now part) from n (now row) (now target) ⌝ }
+    ensures { λ r. ⌜ ((ps : List Bool) (x : Finitely (now (part .entry)) from n (now (row .entry)) (holding ps (now (target .entry))))
+        → Encodes (x .ranges .props) (x .ranges .vars) (holding ps (now (target .exit))) (wantFinite (x .over) (x .wants) (x .ts))) ⌝ }
+{
+    let mut i = 0;
+    while i < n {
+        let v = block::variable(part, from + 4 * i);
+        let x = row[v];
+        i += 1;
+        if block::is_unbounded(x) {
+            continue;
+        }
+        raise_target(target, v, x);
+    }
+}
+
+// The target of the lowest unbounded variable `v`, whose term stands at `at`, and those of the terms behind it.
+fn raise_unbounded(
+    target: &mut [i64; 32],
+    part: &[u8],
+    at: usize,
+    n: usize,
+    v: usize,
+    c: i64,
+    row: &[i64],
+    lows: &[i64],
+)
+    requires { ⌜ UnboundedIn (now part) at n v c (now row) (now lows) (now target) ⌝ }
+    ensures { λ r. ⌜ ((ps : List Bool) (x : Wantable (now (part .entry)) at n (now (row .entry)) (now (lows .entry)) (holding ps (now (target .entry))))
+        → Wanted x c (holding ps (now (target .exit)))) ⌝ }
+{
+    raise_finite(target, part, at + 4, n - 1, row);
+    let rest = integer::sub(c, block::sum_real(part, at + 4, n - 1, lows));
+    raise_target(target, v, integer::ceil_div(rest, divisor(part, at)));
+}
+
+// The sum of the `n` terms from `from` on is wanted to be `c` or larger, over the layer's row and the row of low values.
+fn raise_sum(
+    target: &mut [i64; 32],
+    part: &[u8],
+    from: usize,
+    n: usize,
+    c: i64,
+    row: &[i64],
+    lows: &[i64],
+)
+    requires { ⌜ (WantableIn (now part) from n (now row) (now lows) (now target)) × (natAbs c ≤ 100000000000000000) ⌝ }
+    ensures { λ r. ⌜ ((ps : List Bool) (x : Wantable (now (part .entry)) from n (now (row .entry)) (now (lows .entry)) (holding ps (now (target .entry))))
+        → Wanted x c (holding ps (now (target .exit)))) ⌝ }
+{
+    let mut left = c;
+    let mut i = 0;
+    while i < n {
+        let at = from + 4 * i;
+        let v = block::variable(part, at);
+        let x = row[v];
+        if block::is_unbounded(x) {
+            raise_unbounded(target, part, at, n - i, v, left, row, lows);
+            return;
+        }
+        left = integer::sub(left, block::scaled(part, at, x));
+        raise_target(target, v, x);
+        i += 1;
     }
 }
 
@@ -361,48 +381,25 @@ fn find_achiever(
     }
 }
 
-// What one layer's wants come to: the wants of the layer below, and each move's count there, 0 if it is not taken.
-struct Taken {
-    wants: Targets,
-    counts: [u64; 64],
-}
-
 fn most(a: u64, b: u64) -> u64
     ensures { λ r. ⌜ r ≡ max a b ⌝ }
 {
     if a < b { b } else { a }
 }
 
-impl Taken {
-    // Nothing is taken yet.
-    fn none() -> Self
-        ensures { λ r. ⌜ r ≡ freshTaken ⌝ }
-    {
-        let wants = Targets::none();
-        Taken {
-            wants,
-            counts: [0; 64],
-        }
-    }
+// "A move taken twice in a layer keeps its larger count."
+fn recount(counts: &mut [u64; 64], b: usize, n: u64)
+    requires { ⌜ b < 64 ⌝ }
+    ensures { λ r. ⌜ now (counts .exit) ≡ countedAt (now (counts .entry)) b n ⌝ }
+{
+    let old = counts[b];
+    counts[b] = most(old, n);
+}
 
-    // Carried down: the wants alone change.
-    fn rewanted(mut self, wants: Targets) -> Self
-        ensures { λ r. ⌜ Rewanted self wants r ⌝ }
-    {
-        self.wants = wants;
-        self
-    }
-
-    // "A move taken twice in a layer keeps its larger count."
-    fn recounted(mut self, wants: Targets, b: usize, n: u64) -> Self
-        requires { ⌜ b < 64 ⌝ }
-        ensures { λ r. ⌜ Recounted self wants b n r ⌝ }
-    {
-        let old = self.counts[b];
-        self.counts[b] = most(old, n);
-        self.wants = wants;
-        self
-    }
+fn no_counts() -> [u64; 64]
+    ensures { λ r. ⌜ r ≡ replicate 64 0 ⌝ }
+{
+    [0; 64]
 }
 
 // Is there no target?
@@ -444,7 +441,8 @@ fn runs(kind: u8, target: i64, old: i64, value: i64) -> u64
     at_least_zero(integer::ceil_div(integer::sub(target, old), d))
 }
 
-impl Taken {
+// From the wants of a layer to those of the layer below it. A move's count there is 0 if it is not taken.
+impl Targets {
     // "take the first that adds the proposition": wants its conditions and counts it once.
     fn take_adder(
         self,
@@ -455,17 +453,17 @@ impl Taken {
         lows: &[i64],
         moves: usize,
         p: usize,
+        counts: &mut [u64; 64],
     ) -> Self
-        requires { ⌜ Takeable (now table) (now marks) (now used) (now row) (now lows) moves self ⌝ }
-        ensures { λ r. ⌜ ((x : Takeable (now (table .entry)) (now (marks .entry)) (now (used .entry)) (now (row .entry)) (now (lows .entry)) moves self)
-            → AdderTaken x p r) ⌝ }
+        requires { ⌜ Takeable (now table) (now marks) (now used) (now row) (now lows) moves self (now counts) ⌝ }
+        ensures { λ r. ⌜ ((x : Takeable (now (table .entry)) (now (marks .entry)) (now (used .entry)) (now (row .entry)) (now (lows .entry)) moves self (now (counts .entry)))
+            → AdderTaken x p r (now (counts .exit))) ⌝ }
     {
         let Adder::Move(b) = find_adder(table, marks, used, moves, p) else {
             return self;
         };
-        let wants = self.wants;
-        let below = wants.want_block(part_of(table, marks, b), row, lows);
-        self.recounted(below, b, 1)
+        recount(counts, b, 1);
+        self.want_block(part_of(table, marks, b), row, lows)
     }
 
     // "or whose effect on v has value ≥ target T (:=) or > 0 (+=)": wants its conditions and that value, and counts its runs from
@@ -481,10 +479,11 @@ impl Taken {
         v: usize,
         target: i64,
         old: i64,
+        counts: &mut [u64; 64],
     ) -> Self
-        requires { ⌜ (Takeable (now table) (now marks) (now used) (now row) (now lows) moves self) × (natAbs target ≤ 10000000000000000) × (natAbs old ≤ 1000000000000) ⌝ }
-        ensures { λ r. ⌜ ((x : Takeable (now (table .entry)) (now (marks .entry)) (now (used .entry)) (now (row .entry)) (now (lows .entry)) moves self)
-            → old ≡ x .start .val v → AchieverTaken x v target r) ⌝ }
+        requires { ⌜ (Takeable (now table) (now marks) (now used) (now row) (now lows) moves self (now counts)) × (natAbs target ≤ 10000000000000000) × (natAbs old ≤ 1000000000000) ⌝ }
+        ensures { λ r. ⌜ ((x : Takeable (now (table .entry)) (now (marks .entry)) (now (used .entry)) (now (row .entry)) (now (lows .entry)) moves self (now (counts .entry)))
+            → old ≡ x .start .val v → AchieverTaken x v target r (now (counts .exit))) ⌝ }
     {
         let Achiever::Effect {
             index,
@@ -497,84 +496,95 @@ impl Taken {
         else {
             return self;
         };
+        recount(counts, index, runs(kind, target, old, value));
         let part = part_of(table, marks, index);
-        let wants = self.wants;
-        let conditions = wants.want_block(part, row, lows);
+        let conditions = self.want_block(part, row, lows);
         let c = integer::sub(demand(kind, target), base);
-        let below = conditions.want_sum(part, from, terms, c, row, lows);
-        self.recounted(below, index, runs(kind, target, old, value))
+        conditions.want_sum(part, from, terms, c, row, lows)
     }
-}
 
-// The wanted propositions of the layer above: "what layer t−1 already has is carried down. For any other, try the moves".
-fn descend_props(
-    table: &[u8],
-    marks: &[usize],
-    has: &[bool],
-    used: &[bool],
-    row: &[i64],
-    lows: &[i64],
-    moves: usize,
-    props: usize,
-    upper: Targets,
-) -> Taken
-    requires { ⌜ PropsDescendable (now table) (now marks) (now has) (now used) (now row) (now lows) moves props upper ⌝ }
-    ensures { λ r. ⌜ ((x : PropsDescendable (now (table .entry)) (now (marks .entry)) (now (has .entry)) (now (used .entry)) (now (row .entry)) (now (lows .entry)) moves props upper)
-        → PropsDone x props r) ⌝ }
-{
-    let mut taken = Taken::none();
-    let mut done = 0;
-    while done < props {
-        let p = done;
-        done += 1;
-        if !upper.props[p] {
-            continue;
+    // The wanted propositions: "what layer t−1 already has is carried down. For any other, try the moves".
+    fn descend_props(
+        self,
+        table: &[u8],
+        marks: &[usize],
+        has: &[bool],
+        used: &[bool],
+        row: &[i64],
+        lows: &[i64],
+        moves: usize,
+        props: usize,
+        counts: &mut [u64; 64],
+    ) -> Self
+        requires { ⌜ PropsDescendable (now table) (now marks) (now has) (now used) (now row) (now lows) moves props self ⌝ }
+        ensures { λ r. ⌜ ((x : PropsDescendable (now (table .entry)) (now (marks .entry)) (now (has .entry)) (now (used .entry)) (now (row .entry)) (now (lows .entry)) moves props self)
+            → PropsDone x props r (now (counts .exit))) ⌝ }
+    {
+        let mut below = Targets::none();
+        *counts = no_counts();
+        let mut done = 0;
+        while done < props {
+            let p = done;
+            done += 1;
+            if !self.props[p] {
+                continue;
+            }
+            if has[p] {
+                below.props[p] = true;
+                continue;
+            }
+            below = below.take_adder(table, marks, used, row, lows, moves, p, counts);
         }
-        if has[p] {
-            let wants = taken.wants;
-            taken = taken.rewanted(wants.want_prop(p));
-            continue;
-        }
-        taken = taken.take_adder(table, marks, used, row, lows, moves, p);
+        below
     }
-    taken
-}
 
-// The targets of the layer above, behind the propositions.
-fn descend_values(
-    mut taken: Taken,
-    table: &[u8],
-    marks: &[usize],
-    used: &[bool],
-    row: &[i64],
-    lows: &[i64],
-    start: &[i64],
-    moves: usize,
-    vars: usize,
-    upper: Targets,
-) -> Taken
-    requires { ⌜ ValuesDescendable (now table) (now marks) (now used) (now row) (now lows) (now start) moves vars upper taken ⌝ }
-    ensures { λ r. ⌜ ((x : ValuesDescendable (now (table .entry)) (now (marks .entry)) (now (used .entry)) (now (row .entry)) (now (lows .entry)) (now (start .entry)) moves vars upper taken)
-        → ValuesDone x vars r) ⌝ }
-{
-    let mut done = 0;
-    while done < vars {
-        let v = done;
-        done += 1;
-        let target = upper.target[v];
-        if is_free(target) {
-            continue;
+    // The targets, behind the propositions: `below` is what the propositions came to.
+    fn descend_values(
+        self,
+        mut below: Targets,
+        table: &[u8],
+        marks: &[usize],
+        used: &[bool],
+        row: &[i64],
+        lows: &[i64],
+        start: &[i64],
+        moves: usize,
+        vars: usize,
+        counts: &mut [u64; 64],
+    ) -> Self
+        requires { ⌜ ValuesDescendable (now table) (now marks) (now used) (now row) (now lows) (now start) moves vars self below (now counts) ⌝ }
+        ensures { λ r. ⌜ ((x : ValuesDescendable (now (table .entry)) (now (marks .entry)) (now (used .entry)) (now (row .entry)) (now (lows .entry)) (now (start .entry)) moves vars self below (now (counts .entry)))
+            → ValuesDone x vars r (now (counts .exit))) ⌝ }
+    {
+        let mut done = 0;
+        while done < vars {
+            let v = done;
+            done += 1;
+            let target = self.target[v];
+            if is_free(target) {
+                continue;
+            }
+            let value = row[v];
+            if block::reaches(value, target) {
+                raise_target(&mut below.target, v, target);
+                continue;
+            }
+            let old = start[v];
+            below = below.take_achiever(
+                table,
+                marks,
+                used,
+                row,
+                lows,
+                moves,
+                v,
+                target,
+                old,
+                counts,
+            );
         }
-        let value = row[v];
-        if block::reaches(value, target) {
-            let wants = taken.wants;
-            taken = taken.rewanted(wants.want_value(v, target));
-            continue;
-        }
-        let old = start[v];
-        taken = taken.take_achiever(table, marks, used, row, lows, moves, v, target, old);
+        below
     }
-    taken
 }
 
 // Does the entry say that layer `t` has what it stands for?
@@ -663,38 +673,51 @@ fn want_goal(
     Targets::none().want_block(part, &row, &lows)
 }
 
-// From the wants of layer t + 1 to those of layer `t`, with the counts of the moves taken there.
-fn descend(
-    table: &[u8],
-    marks: &[usize],
-    layers: &[i64],
-    start: &[i64],
-    props: usize,
-    vars: usize,
-    moves: usize,
-    t: usize,
-    upper: Targets,
-) -> Taken
-    requires { ⌜ (LayerDescendable (now table) (now marks) (now layers) (now start) props vars moves t upper) × (t < 4000) ⌝ }
-    ensures { λ r. ⌜ ((x : LayerDescendable (now (table .entry)) (now (marks .entry)) (now (layers .entry)) (now (start .entry)) props vars moves t upper) → LayerDescended x r) ⌝ }
-{
-    let has = read_entries(layers, 0, props, t);
-    let used = read_entries(layers, props, moves, t);
-    let row = read_row(layers, props + moves + vars * t, vars);
-    let lows = low_row(&row, start, vars);
-    let taken = descend_props(table, marks, &has, &used, &row, &lows, moves, props, upper);
-    descend_values(
-        taken,
-        table,
-        marks,
-        &used,
-        &row,
-        &lows,
-        start,
-        moves,
-        vars,
-        upper,
-    )
+impl Targets {
+    // From the wants of layer t + 1 to those of layer `t`, with the counts of the moves taken there.
+    fn descend(
+        self,
+        table: &[u8],
+        marks: &[usize],
+        layers: &[i64],
+        start: &[i64],
+        props: usize,
+        vars: usize,
+        moves: usize,
+        t: usize,
+        counts: &mut [u64; 64],
+    ) -> Self
+        requires { ⌜ (LayerDescendable (now table) (now marks) (now layers) (now start) props vars moves t self) × (t < 4000) ⌝ }
+        ensures { λ r. ⌜ ((x : LayerDescendable (now (table .entry)) (now (marks .entry)) (now (layers .entry)) (now (start .entry)) props vars moves t self) → LayerDescended x r (now (counts .exit))) ⌝ }
+    {
+        let has = read_entries(layers, 0, props, t);
+        let used = read_entries(layers, props, moves, t);
+        let row = read_row(layers, props + moves + vars * t, vars);
+        let lows = low_row(&row, start, vars);
+        let below = self.descend_props(
+            table,
+            marks,
+            &has,
+            &used,
+            &row,
+            &lows,
+            moves,
+            props,
+            counts,
+        );
+        self.descend_values(
+            below,
+            table,
+            marks,
+            &used,
+            &row,
+            &lows,
+            start,
+            moves,
+            vars,
+            counts,
+        )
+    }
 }
 
 // How many of the `moves` counts are not 0.
@@ -789,17 +812,23 @@ fn survey(
 {
     let start = read_row(layers, props + moves, vars);
     let mut wants = want_goal(table, marks, layers, &start, props, vars, moves, m);
-    let mut counts = [0; 64];
+    let mut counts = no_counts();
     let mut records = 0;
     let mut t = m;
     while t > 0 {
         t -= 1;
-        let taken = descend(table, marks, layers, &start, props, vars, moves, t, wants);
-        let here = taken.counts;
-        records += count_taken(&here, moves);
-        counts = here;
-        let below = taken.wants;
-        wants = below;
+        wants = wants.descend(
+            table,
+            marks,
+            layers,
+            &start,
+            props,
+            vars,
+            moves,
+            t,
+            &mut counts,
+        );
+        records += count_taken(&counts, moves);
     }
     let first = first_set(&counts, moves);
     Summary { records, first }
@@ -823,16 +852,24 @@ fn write_plan(
 {
     let start = read_row(layers, props + moves, vars);
     let mut wants = want_goal(table, marks, layers, &start, props, vars, moves, m);
+    let mut counts = no_counts();
     let mut at = 10 * records;
     let mut t = m;
     while t > 0 {
         t -= 1;
-        let taken = descend(table, marks, layers, &start, props, vars, moves, t, wants);
-        let here = taken.counts;
-        at -= 10 * count_taken(&here, moves);
-        write_records(out, at, &here, moves);
-        let below = taken.wants;
-        wants = below;
+        wants = wants.descend(
+            table,
+            marks,
+            layers,
+            &start,
+            props,
+            vars,
+            moves,
+            t,
+            &mut counts,
+        );
+        at -= 10 * count_taken(&counts, moves);
+        write_records(out, at, &counts, moves);
     }
 }
 

@@ -1,10 +1,10 @@
 -- `survey` meets its contract. The invariant: in every reading, the wants are those of layer `t`, and the records of the layers from
 -- `t` on are counted. The measure is `t`. Assumes nothing.
-use Prim.Native.Nat.{_-_, _≤_, _<_}
+use Prim.Native.Nat.{ℕ, _-_, _≤_, _<_}
 use native.Mathlib.Omega.{arith}
-use mathlib.Core.Path.{_≡_, refl}
+use mathlib.Core.Path.{_≡_, sym, ap, _∙_}
 use borrow.Author.Needs.{needs}
-use lib.ListN.{length}
+use lib.ListN.{length, length-replicate}
 use Rattle.relaxed_plan.specs.Layers.{Stored, stored-vars, stored-moves, stored-room, stored-entries, stored-start}
 use Rattle.relaxed_plan.specs.Passes.{walk-goal, walk-start, walk-layer, walk-next, walk-long, walk-counted, Surveying, survey-start, survey-down, survey-next, survey-few, survey-end}
 use Rattle.relaxed_plan.proofs.survey.Statement.{statement}
@@ -33,13 +33,16 @@ slice-aggregate-want-goal c = search needs
 want-goal-requires : tie.Need-want-goal-requires Inv-loop μ-loop
 want-goal-requires c κs = walk-goal (c .before .before .before .before .pre) (stored-start (c .before .before .before .before .pre) (c .before .read-row .ensures))
 
+no-counts-requires : tie.Need-no-counts-requires Inv-loop μ-loop
+no-counts-requires c κs = tt
+
 loop-holds : tie.Need-loop-holds Inv-loop μ-loop
 loop-holds c = (
   omega arith,
-  refl,
+  ap length (c .no-counts .ensures) ∙ length-replicate {A = ℕ} 64 0,
   λ x.
-      let row = stored-start x (c .before .before .read-row .ensures) in
-      survey-start x (walk-start x row (c .want-goal .ensures (walk-goal x row))) refl,
+      let row = stored-start x (c .before .before .before .read-row .ensures) in
+      survey-start x (walk-start x row (c .before .want-goal .ensures (walk-goal x row))) (c .no-counts .ensures),
 )
 
 sub-t : tie.Need-sub-t Inv-loop μ-loop
@@ -50,30 +53,39 @@ slice-aggregate-descend c = search needs
 
 descend-requires : tie.Need-descend-requires Inv-loop μ-loop
 descend-requires c κs =
-    let x = c .before .before .before .before .before .before .before .before .pre in
-    let row = stored-start x (c .before .before .before .before .before .read-row .ensures) in
-    let s = survey-down (c .before .loop-test .taken) (c .before .before .loop .inv .2 x) in
-    let lt : c .before .before .loop .t - 1 < c .before .before .before .before .before .before .before .before .args .m = omega (arith, c .before .loop-test .taken, c .before .before .loop .inv .0) in
+    let x = c .before .before .before .before .before .before .before .before .before .before .pre in
+    let i = c .before .before in
+    let row = stored-start x (i .before .before .before .before .before .read-row .ensures) in
+    let s = survey-down (i .loop-test .taken) (i .before .loop .inv .2 x) in
+    let lt : i .before .loop .t - 1 < i .before .before .before .before .before .before .before .before .args .m = omega (arith, i .loop-test .taken, i .before .loop .inv .0) in
     (walk-layer x row lt (s .walked), omega (arith, x .most, lt))
 
 slice-aggregate-count-taken : tie.Need-slice-aggregate-count-taken Inv-loop μ-loop
-slice-aggregate-count-taken c = search needs
+slice-aggregate-count-taken c =
+    let x = c .before .before .before .before .before .before .before .before .before .before .before .before .pre in
+    let i = c .before .before .before .before in
+    let row = stored-start x (i .before .before .before .before .before .read-row .ensures) in
+    let s = survey-down (i .loop-test .taken) (i .before .loop .inv .2 x) in
+    let lt : i .before .loop .t - 1 < i .before .before .before .before .before .before .before .before .args .m = omega (arith, i .loop-test .taken, i .before .loop .inv .0) in
+    sym (walk-long x row lt (s .walked) (c .before .descend .ensures (walk-layer x row lt (s .walked))))
 
 count-taken-requires : tie.Need-count-taken-requires Inv-loop μ-loop
 count-taken-requires c κs =
-    let x = c .before .before .before .before .before .before .before .before .before .before .before .pre in
-    let row = stored-start x (c .before .before .before .before .before .before .before .before .read-row .ensures) in
-    let s = survey-down (c .before .before .before .before .loop-test .taken) (c .before .before .before .before .before .loop .inv .2 x) in
-    let lt : c .before .before .before .before .before .loop .t - 1 < c .before .before .before .before .before .before .before .before .before .before .before .args .m = omega (arith, c .before .before .before .before .loop-test .taken, c .before .before .before .before .before .loop .inv .0) in
-    omega (arith, walk-long x row lt (s .walked) (c .before .before .descend .ensures (walk-layer x row lt (s .walked))), stored-moves x)
+    let x = c .before .before .before .before .before .before .before .before .before .before .before .before .pre in
+    let i = c .before .before .before .before in
+    let row = stored-start x (i .before .before .before .before .before .read-row .ensures) in
+    let s = survey-down (i .loop-test .taken) (i .before .loop .inv .2 x) in
+    let lt : i .before .loop .t - 1 < i .before .before .before .before .before .before .before .before .args .m = omega (arith, i .loop-test .taken, i .before .loop .inv .0) in
+    omega (arith, walk-long x row lt (s .walked) (c .before .descend .ensures (walk-layer x row lt (s .walked))), stored-moves x)
 
 add-records : tie.Need-add-records Inv-loop μ-loop
 add-records c =
-    let x = c .before .before .before .before .before .before .before .before .before .before .before .before .pre in
-    let row = stored-start x (c .before .before .before .before .before .before .before .before .before .read-row .ensures) in
-    let s = survey-down (c .before .before .before .before .before .loop-test .taken) (c .before .before .before .before .before .before .loop .inv .2 x) in
-    let lt : c .before .before .before .before .before .before .loop .t - 1 < c .before .before .before .before .before .before .before .before .before .before .before .before .args .m = omega (arith, c .before .before .before .before .before .loop-test .taken, c .before .before .before .before .before .before .loop .inv .0) in
-    let e = c .before .before .before .descend .ensures (walk-layer x row lt (s .walked)) in
+    let x = c .before .before .before .before .before .before .before .before .before .before .before .before .before .pre in
+    let i = c .before .before .before .before .before in
+    let row = stored-start x (i .before .before .before .before .before .read-row .ensures) in
+    let s = survey-down (i .loop-test .taken) (i .before .loop .inv .2 x) in
+    let lt : i .before .loop .t - 1 < i .before .before .before .before .before .before .before .before .args .m = omega (arith, i .loop-test .taken, i .before .loop .inv .0) in
+    let e = c .before .before .descend .ensures (walk-layer x row lt (s .walked)) in
     omega (arith, survey-few x (survey-next x lt s (walk-next x row lt (s .walked) e) (walk-counted x row lt (s .walked) e) (c .count-taken .ensures .0)))
 
 loop-less : tie.Need-loop-less Inv-loop μ-loop
@@ -82,23 +94,27 @@ loop-less c = omega arith
 loop-again : tie.Need-loop-again Inv-loop μ-loop
 loop-again c =
     let x₀ = c .before .before .before .before .before .before .before .before .before .before .before .before .before .pre in
-    let row₀ = stored-start x₀ (c .before .before .before .before .before .before .before .before .before .before .read-row .ensures) in
-    let s₀ = survey-down (c .before .before .before .before .before .before .loop-test .taken) (c .before .before .before .before .before .before .before .loop .inv .2 x₀) in
-    let lt : c .before .before .before .before .before .before .before .loop .t - 1 < c .before .before .before .before .before .before .before .before .before .before .before .before .before .args .m = omega (arith, c .before .before .before .before .before .before .loop-test .taken, c .before .before .before .before .before .before .before .loop .inv .0) in (
+    let i = c .before .before .before .before .before in
+    let row₀ = stored-start x₀ (i .before .before .before .before .before .read-row .ensures) in
+    let s₀ = survey-down (i .loop-test .taken) (i .before .loop .inv .2 x₀) in
+    let lt : i .before .loop .t - 1 < i .before .before .before .before .before .before .before .before .args .m = omega (arith, i .loop-test .taken, i .before .loop .inv .0) in (
       omega arith,
-      walk-long x₀ row₀ lt (s₀ .walked) (c .before .before .before .before .descend .ensures (walk-layer x₀ row₀ lt (s₀ .walked))),
+      walk-long x₀ row₀ lt (s₀ .walked) (c .before .before .descend .ensures (walk-layer x₀ row₀ lt (s₀ .walked))),
       λ x.
-          let row = stored-start x (c .before .before .before .before .before .before .before .before .before .before .read-row .ensures) in
-          let s = survey-down (c .before .before .before .before .before .before .loop-test .taken) (c .before .before .before .before .before .before .before .loop .inv .2 x) in
-          let e = c .before .before .before .before .descend .ensures (walk-layer x row lt (s .walked)) in
-          survey-next x lt s (walk-next x row lt (s .walked) e) (walk-counted x row lt (s .walked) e) (c .before .count-taken .ensures .0),
+          let row = stored-start x (i .before .before .before .before .before .read-row .ensures) in
+          let s = survey-down (i .loop-test .taken) (i .before .loop .inv .2 x) in
+          let e = c .before .before .descend .ensures (walk-layer x row lt (s .walked)) in
+          survey-next x lt s (walk-next x row lt (s .walked) e) (walk-counted x row lt (s .walked) e) (c .count-taken .ensures .0),
     )
 
 slice-aggregate-first-set : tie.Need-slice-aggregate-first-set Inv-loop μ-loop
 slice-aggregate-first-set c = search needs
 
 first-set-requires : tie.Need-first-set-requires Inv-loop μ-loop
-first-set-requires c κs = (omega (arith, c .before .before .loop .inv .1, stored-moves (c .before .before .before .before .before .before .before .before .pre)), stored-moves (c .before .before .before .before .before .before .before .before .pre))
+first-set-requires c κs =
+    let l = c .before .before in
+    let few = stored-moves (l .before .before .before .before .before .before .before .pre) in
+    (omega (arith, l .loop .inv .1, few), few)
 
 returns : tie.Need-returns Inv-loop μ-loop
 returns c x = survey-end x _ (c .before .before .loop-test .left) (c .before .before .before .loop .inv .2 x) (c .first-set .ensures)
@@ -113,6 +129,7 @@ survey-spec =
     read-row-requires
     slice-aggregate-want-goal
     want-goal-requires
+    no-counts-requires
     loop-holds
     sub-t
     slice-aggregate-descend

@@ -1,30 +1,33 @@
--- `descend_props` meets its contract. The invariant: in every reading, the propositions below `done` are descended. The measure is
+-- `Targets::descend_props` meets its contract. The invariant: in every reading, the propositions below `done` are descended. The measure is
 -- the number of propositions that are left. Assumes nothing.
 use Prim.Native.Nat.{_-_, _≤_}
 use native.Mathlib.Omega.{arith}
-use mathlib.Core.Path.{sym, subst}
+use mathlib.Core.Path.{refl}
 use borrow.Author.Tests.{not-true, not-false}
 use Rattle.relaxed_plan.specs.Descending.{PropsDescendable, PropsDone, props-start, props-end, prop-room, prop-skip, prop-carry, prop-take, takeable}
-use Rattle.relaxed_plan.proofs.descend_props.Statement.{statement}
-use Rattle.relaxed_plan.proofs.descend_props.Tie as tie
+use Rattle.relaxed_plan.proofs.Targets.descend_props.Statement.{statement}
+use Rattle.relaxed_plan.proofs.Targets.descend_props.Tie as tie
 
 abbrev Inv-loop : tie.InvT-loop
-Inv-loop table marks has used row lows moves props upper taken₀ done₀ taken done = (done ≤ props) × ((x : PropsDescendable table marks has used row lows moves props upper) → PropsDone x done taken)
+Inv-loop table marks has used row lows moves props counts₀ self below₀ done₀ counts below done = (done ≤ props) × ((x : PropsDescendable table marks has used row lows moves props self) → PropsDone x done below counts)
 
 abbrev μ-loop : tie.MeasureT-loop
-μ-loop table marks has used row lows moves props upper taken₀ done₀ taken done = props - done
+μ-loop table marks has used row lows moves props counts₀ self below₀ done₀ counts below done = props - done
 
 none-requires : tie.Need-none-requires Inv-loop μ-loop
 none-requires c κs = tt
 
+no-counts-requires : tie.Need-no-counts-requires Inv-loop μ-loop
+no-counts-requires c κs = tt
+
 loop-holds : tie.Need-loop-holds Inv-loop μ-loop
-loop-holds c = (omega arith, λ x. subst (PropsDone x 0) (sym (c .none .ensures)) (props-start x))
+loop-holds c = (omega arith, λ x. rw (c .before .none .ensures, c .no-counts .ensures) (props-start x))
 
 add-done : tie.Need-add-done Inv-loop μ-loop
 add-done c = omega arith
 
 element-copy-out-if1 : tie.Need-element-copy-out-if1 Inv-loop μ-loop
-element-copy-out-if1 c = prop-room (c .before .before .before .before .before .before .before .pre) (c .loop-test .taken)
+element-copy-out-if1 c = prop-room (c .before .before .before .before .before .before .before .before .pre) (c .loop-test .taken)
 
 loop-less : tie.Need-loop-less Inv-loop μ-loop
 loop-less c = omega arith
@@ -35,28 +38,25 @@ loop-again c =
     (omega arith, λ x. prop-skip x (i .loop-test .taken) (i .before .loop .inv .1 x) (not-true _ (c .if1 .taken)))
 
 shared-slice-read-if2 : tie.Need-shared-slice-read-if2 Inv-loop μ-loop
-shared-slice-read-if2 c = omega (arith, c .before .before .before .before .before .before .before .before .before .before .pre .long)
+shared-slice-read-if2 c = omega (arith, c .before .before .before .before .before .before .before .before .before .before .before .pre .long)
 
-want-prop-requires : tie.Need-want-prop-requires Inv-loop μ-loop
-want-prop-requires c κs =
-    let i = c .before .before .before .before .before in
-    prop-room (i .before .before .before .before .before .before .before .pre) (i .loop-test .taken)
-
-rewanted-requires : tie.Need-rewanted-requires Inv-loop μ-loop
-rewanted-requires c κs = tt
+element-write-below : tie.Need-element-write-below Inv-loop μ-loop
+element-write-below c =
+    let i = c .before .before .before .before in
+    prop-room (i .before .before .before .before .before .before .before .before .pre) (i .loop-test .taken)
 
 loop-less-2 : tie.Need-loop-less-2 Inv-loop μ-loop
 loop-less-2 c = omega arith
 
 loop-again-2 : tie.Need-loop-again-2 Inv-loop μ-loop
 loop-again-2 c =
-    let i = c .before .before .before .before .before .before .before in
-    (omega arith, λ x. prop-carry x (i .loop-test .taken) (i .before .loop .inv .1 x) (not-false _ (c .before .before .before .before .before .if1 .left)) (c .before .before .before .if2 .taken) (c .before .want-prop .ensures) (c .rewanted .ensures))
+    let i = c .before .before .before .before in
+    (omega arith, λ x. prop-carry x (i .loop-test .taken) (i .before .loop .inv .1 x) (not-false _ (c .before .before .if1 .left)) (c .if2 .taken) (record { props = refl; target = refl }))
 
 take-adder-requires : tie.Need-take-adder-requires Inv-loop μ-loop
 take-adder-requires c κs =
-    let i = c .before .before .before .before in
-    let x = i .before .before .before .before .before .before .before .pre in
+    let i = c .before .before .before .before .before in
+    let x = i .before .before .before .before .before .before .before .before .pre in
     takeable (x .scene) (i .before .loop .inv .1 x .is)
 
 loop-less-3 : tie.Need-loop-less-3 Inv-loop μ-loop
@@ -64,11 +64,11 @@ loop-less-3 c = omega arith
 
 loop-again-3 : tie.Need-loop-again-3 Inv-loop μ-loop
 loop-again-3 c =
-    let i = c .before .before .before .before .before in (
+    let i = c .before .before .before .before .before .before in (
       omega arith,
       λ x.
           let d = i .before .loop .inv .1 x in
-          prop-take x (i .loop-test .taken) d (not-false _ (c .before .before .before .if1 .left)) (c .before .if2 .left) (c .take-adder .ensures (takeable (x .scene) (d .is))),
+          prop-take x (i .loop-test .taken) d (not-false _ (c .before .before .before .before .if1 .left)) (c .before .before .if2 .left) (c .take-adder .ensures (takeable (x .scene) (d .is))),
     )
 
 returns : tie.Need-returns Inv-loop μ-loop
@@ -81,14 +81,14 @@ descend-props-spec =
     Inv-loop
     μ-loop
     none-requires
+    no-counts-requires
     loop-holds
     add-done
     element-copy-out-if1
     loop-less
     loop-again
     shared-slice-read-if2
-    want-prop-requires
-    rewanted-requires
+    element-write-below
     loop-less-2
     loop-again-2
     take-adder-requires

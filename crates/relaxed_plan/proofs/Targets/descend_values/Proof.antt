@@ -1,4 +1,4 @@
--- `descend_values` meets its contract. The invariant: in every reading, the variables below `done` are descended. The measure is
+-- `Targets::descend_values` meets its contract. The invariant: in every reading, the variables below `done` are descended. The measure is
 -- the number of variables that are left. Assumes nothing.
 use Prim.Native.Nat.{_-_, _≤_}
 use native.Mathlib.Omega.{arith}
@@ -7,15 +7,16 @@ use lib.IntN.{pos}
 use lib.ListN.{getD}
 use Rattle.integer.specs.Linear.{back}
 use Rattle.model.specs.Layer.{reaches}
+use Rattle.relaxed_plan.specs.Encoding.{raised-at}
 use Rattle.relaxed_plan.specs.Descending.{isFree, ValuesDescendable, ValuesDone, values-start, values-end, value-room, row-room, start-room, target-size, value-is, old-is, old-size, value-skip, value-carry, value-take, takeable}
-use Rattle.relaxed_plan.proofs.descend_values.Statement.{statement}
-use Rattle.relaxed_plan.proofs.descend_values.Tie as tie
+use Rattle.relaxed_plan.proofs.Targets.descend_values.Statement.{statement}
+use Rattle.relaxed_plan.proofs.Targets.descend_values.Tie as tie
 
 abbrev Inv-loop : tie.InvT-loop
-Inv-loop taken₀ table marks used row lows start moves vars upper done₀ taken done = (done ≤ vars) × ((x : ValuesDescendable table marks used row lows start moves vars upper taken₀) → ValuesDone x done taken)
+Inv-loop table marks used row lows start moves vars counts₀ self below₀ done₀ counts below done = (done ≤ vars) × ((x : ValuesDescendable table marks used row lows start moves vars self below₀ counts₀) → ValuesDone x done below counts)
 
 abbrev μ-loop : tie.MeasureT-loop
-μ-loop taken₀ table marks used row lows start moves vars upper done₀ taken done = vars - done
+μ-loop table marks used row lows start moves vars counts₀ self below₀ done₀ counts below done = vars - done
 
 loop-holds : tie.Need-loop-holds Inv-loop μ-loop
 loop-holds c = (omega arith, λ x. values-start x)
@@ -36,15 +37,15 @@ loop-less : tie.Need-loop-less Inv-loop μ-loop
 loop-less c = omega arith
 
 -- the tests on the target and on the layer's value
-freed : (c : tie.After-is-free Inv-loop μ-loop) → c .is-free .result ≡ isFree (getD (c .before .before .before .before .before .before .before .args .t10 .target) (c .before .before .before .loop .done) (pos 0))
+freed : (c : tie.After-is-free Inv-loop μ-loop) → c .is-free .result ≡ isFree (getD (c .before .before .before .before .before .before .before .args .t1 .target) (c .before .before .before .loop .done) (pos 0))
 freed c = c .is-free .ensures ∙ ap isFree (back _ (c .before .target .given))
 
 reached :
     (c : tie.After-reaches Inv-loop μ-loop)
     → let i = c .before .before .before .before .before in
     let a = i .before .before .before .before .before .args in
-    (x : ValuesDescendable (a .table .now) (a .marks .now) (a .used .now) (a .row .now) (a .lows .now) (a .start .now) (a .moves) (a .vars) (a .t10) (a .taken))
-    → reaches (x .scene .search .over .val (i .before .loop .done)) (getD (a .t10 .target) (i .before .loop .done) (pos 0)) ≡ c .reaches .result
+    (x : ValuesDescendable (a .table .now) (a .marks .now) (a .used .now) (a .row .now) (a .lows .now) (a .start .now) (a .moves) (a .vars) (a .t1) (a .t2) (a .counts .now))
+    → reaches (x .scene .search .over .val (i .before .loop .done)) (getD (a .t1 .target) (i .before .loop .done) (pos 0)) ≡ c .reaches .result
 reached c x =
     let i = c .before .before .before .before .before in
     value-is x (i .loop-test .taken) _ (λ w e. c .reaches .ensures w (back _ (c .before .value .given) ∙ e) ∙ ap (reaches w) (back _ (c .before .before .before .before .target .given)))
@@ -63,22 +64,19 @@ shared-slice-copy-out-value c = let i = c .before .before .before in row-room (i
 reaches-requires : tie.Need-reaches-requires Inv-loop μ-loop
 reaches-requires c κs = tt
 
-want-value-requires : tie.Need-want-value-requires Inv-loop μ-loop
-want-value-requires c κs = let i = c .before .before .before .before .before .before .before in value-room (i .before .before .before .before .before .pre) (i .loop-test .taken)
-
-rewanted-requires : tie.Need-rewanted-requires Inv-loop μ-loop
-rewanted-requires c κs = tt
+raise-target-requires : tie.Need-raise-target-requires Inv-loop μ-loop
+raise-target-requires c κs = let i = c .before .before .before .before .before .before .before in value-room (i .before .before .before .before .before .pre) (i .loop-test .taken)
 
 loop-less-2 : tie.Need-loop-less-2 Inv-loop μ-loop
 loop-less-2 c = omega arith
 
 loop-again-2 : tie.Need-loop-again-2 Inv-loop μ-loop
 loop-again-2 c =
-    let i = c .before .before .before .before .before .before .before .before .before in (
+    let i = c .before .before .before .before .before .before .before .before in (
       omega arith,
       λ x.
-          value-carry x (i .loop-test .taken) (i .before .loop .inv .1 x) (sym (freed (c .before .before .before .before .before .before .before)) ∙ c .before .before .before .before .before .before .if1 .left) (reached (c .before .before .before .before) x ∙ c .before .before .before .if2 .taken)
-          (rw (back _ (c .before .before .before .before .before .before .before .before .target .given)) at (c .before .want-value .ensures)) (c .rewanted .ensures),
+          value-carry x (i .loop-test .taken) (i .before .loop .inv .1 x) (sym (freed (c .before .before .before .before .before .before)) ∙ c .before .before .before .before .before .if1 .left) (reached (c .before .before .before) x ∙ c .before .before .if2 .taken)
+          (raised-at (rw (back _ (c .before .before .before .before .before .before .before .target .given)) at (c .raise-target .ensures))),
     )
 
 mul-old : tie.Need-mul-old Inv-loop μ-loop
@@ -89,25 +87,25 @@ shared-slice-copy-out-old c = let i = c .before .before .before .before .before 
 
 take-achiever-requires : tie.Need-take-achiever-requires Inv-loop μ-loop
 take-achiever-requires c κs =
-    let i = c .before .before .before .before .before .before .before in
+    let i = c .before .before .before .before .before .before .before .before in
     let x = i .before .before .before .before .before .pre in
-    rw (back _ (c .before .before .before .before .before .before .target .given), back _ (c .old .given))
-    (takeable (x .scene) (i .before .loop .inv .1 x .is), target-size x (i .loop-test .taken) (sym (freed (c .before .before .before .before .before)) ∙ c .before .before .before .before .if1 .left), old-size x (i .loop-test .taken))
+    rw (back _ (c .before .before .before .before .before .before .before .target .given), back _ (c .before .old .given))
+    (takeable (x .scene) (i .before .loop .inv .1 x .is), target-size x (i .loop-test .taken) (sym (freed (c .before .before .before .before .before .before)) ∙ c .before .before .before .before .before .if1 .left), old-size x (i .loop-test .taken))
 
 loop-less-3 : tie.Need-loop-less-3 Inv-loop μ-loop
 loop-less-3 c = omega arith
 
 loop-again-3 : tie.Need-loop-again-3 Inv-loop μ-loop
 loop-again-3 c =
-    let i = c .before .before .before .before .before .before .before .before in
+    let i = c .before .before .before .before .before .before .before .before .before in
     let a = i .before .before .before .before .before .args in
-    let z = getD (a .t10 .target) (i .before .loop .done) (pos 0) in
+    let z = getD (a .t1 .target) (i .before .loop .done) (pos 0) in
     let y = getD (a .start .now) (i .before .loop .done) (pos 0) in (
       omega arith,
       λ x.
           let d = i .before .loop .inv .1 x in
-          let taken = rw (back z (c .before .before .before .before .before .before .before .target .given), back y (c .before .old .given)) at (c .take-achiever .ensures (takeable (x .scene) (d .is))) in
-          value-take x (i .loop-test .taken) d (sym (freed (c .before .before .before .before .before .before)) ∙ c .before .before .before .before .before .if1 .left) (reached (c .before .before .before) x ∙ c .before .before .if2 .left) (taken (old-is x (i .loop-test .taken))),
+          let taken = rw (back z (c .before .before .before .before .before .before .before .before .target .given), back y (c .before .before .old .given)) at (c .take-achiever .ensures (takeable (x .scene) (d .is))) in
+          value-take x (i .loop-test .taken) d (sym (freed (c .before .before .before .before .before .before .before)) ∙ c .before .before .before .before .before .before .if1 .left) (reached (c .before .before .before .before) x ∙ c .before .before .before .if2 .left) (taken (old-is x (i .loop-test .taken))),
     )
 
 returns : tie.Need-returns Inv-loop μ-loop
@@ -129,8 +127,7 @@ descend-values-spec =
     mul-value
     shared-slice-copy-out-value
     reaches-requires
-    want-value-requires
-    rewanted-requires
+    raise-target-requires
     loop-less-2
     loop-again-2
     mul-old

@@ -1,10 +1,10 @@
--- `Taken::take_adder` meets its contract. Assumes nothing.
+-- `Targets::take_adder` meets its contract. Assumes nothing.
 use mathlib.Core.Path.{subst}
 use Rattle.relaxed_plan.specs.Search.{IsAdder, part-in}
 use Rattle.relaxed_plan.specs.Taking.{move-wantable, move-small, adder-nobody, adder-taken}
 use borrow.Author.Needs.{needs}
-use Rattle.relaxed_plan.proofs.Taken.take_adder.Statement.{statement}
-use Rattle.relaxed_plan.proofs.Taken.take_adder.Tie as tie
+use Rattle.relaxed_plan.proofs.Targets.take_adder.Statement.{statement}
+use Rattle.relaxed_plan.proofs.Targets.take_adder.Tie as tie
 
 find-adder-requires : tie.Need-find-adder-requires
 find-adder-requires c κs = search needs
@@ -20,34 +20,37 @@ returns c x =
     let f = c .before .before in
     adder-nobody x (subst (IsAdder (x .search .task) (x .search .over) _ _) (c .enum-told .given .1) (f .find-adder .ensures (x .search)))
 
-part-of-requires : tie.Need-part-of-requires
-part-of-requires c κs =
+recount-requires : tie.Need-recount-requires
+recount-requires c κs =
     let m = c .before .before in
     let f = m .before .before in
     let x = f .before .before .before .before .pre in
-    part-in (x .search) (subst (IsAdder (x .search .task) (x .search .over) _ _) (m .b .given .1) (f .find-adder .ensures (x .search)) .lt)
+    let h = subst (IsAdder (x .search .task) (x .search .over) _ _) (m .b .given .1) (f .find-adder .ensures (x .search)) in
+    move-small x (h .lt)
 
-want-block-requires : tie.Need-want-block-requires
-want-block-requires c κs =
+part-of-requires : tie.Need-part-of-requires
+part-of-requires c κs =
     let m = c .before .before .before in
     let f = m .before .before in
     let x = f .before .before .before .before .pre in
-    move-wantable x (subst (IsAdder (x .search .task) (x .search .over) _ _) (m .b .given .1) (f .find-adder .ensures (x .search)) .lt) (c .part-of .ensures)
+    let h = subst (IsAdder (x .search .task) (x .search .over) _ _) (m .b .given .1) (f .find-adder .ensures (x .search)) in
+    part-in (x .search) (h .lt)
 
-recounted-requires : tie.Need-recounted-requires
-recounted-requires c κs =
+want-block-requires : tie.Need-want-block-requires
+want-block-requires c κs =
     let m = c .before .before .before .before in
     let f = m .before .before in
     let x = f .before .before .before .before .pre in
-    move-small x (subst (IsAdder (x .search .task) (x .search .over) _ _) (m .b .given .1) (f .find-adder .ensures (x .search)) .lt)
+    let h = subst (IsAdder (x .search .task) (x .search .over) _ _) (m .b .given .1) (f .find-adder .ensures (x .search)) in
+    move-wantable x (h .lt) (c .part-of .ensures)
 
 returns-2 : tie.Need-returns-2
 returns-2 c x =
-    let w = c .before in
-    let m = w .before .before .before .before in
+    let p = c .before in
+    let m = p .before .before .before .before in
     let f = m .before .before in
     let h = subst (IsAdder (x .search .task) (x .search .over) _ _) (m .b .given .1) (f .find-adder .ensures (x .search)) in
-    adder-taken x h (w .before .part-of .ensures) (w .want-block .ensures (move-wantable x (h .lt) (w .before .part-of .ensures))) (c .recounted .ensures)
+    adder-taken x h (p .part-of .ensures) (c .want-block .ensures (move-wantable x (h .lt) (p .part-of .ensures))) (p .before .recount .ensures)
 
 pub take-adder-spec : {M : Type 1} → statement M
 take-adder-spec =
@@ -57,7 +60,7 @@ take-adder-spec =
     enum-known-b
     enum-told
     returns
+    recount-requires
     part-of-requires
     want-block-requires
-    recounted-requires
     returns-2)

@@ -1,9 +1,9 @@
--- `descend` meets its contract. Assumes nothing.
+-- `Targets::descend` meets its contract. Assumes nothing.
 use native.Mathlib.Omega.{arith}
 use Rattle.relaxed_plan.specs.Layers.{stored-props, stored-vars, stored-moves, stored-entries, stored-room, layer-props, layer-values, layer-descended}
 use borrow.Author.Needs.{needs}
-use Rattle.relaxed_plan.proofs.descend.Statement.{statement}
-use Rattle.relaxed_plan.proofs.descend.Tie as tie
+use Rattle.relaxed_plan.proofs.Targets.descend.Statement.{statement}
+use Rattle.relaxed_plan.proofs.Targets.descend.Tie as tie
 
 read-entries-requires : tie.Need-read-entries-requires
 read-entries-requires c κs =
@@ -54,7 +54,9 @@ slice-aggregate-descend-props-4 : tie.Need-slice-aggregate-descend-props-4
 slice-aggregate-descend-props-4 c = search needs
 
 descend-props-requires : tie.Need-descend-props-requires
-descend-props-requires c κs = layer-props (c .before .before .before .before .before .before .before .before .before .before .before .pre .0) (c .before .before .before .before .before .before .before .before .read-entries .ensures) (c .before .before .before .before .before .before .before .read-entries2 .ensures) (c .before .before .before .before .before .before .read-row .ensures) (c .before .before .before .before .low-row .ensures)
+descend-props-requires c κs =
+    let l = c .before in
+    layer-props (l .before .before .before .before .before .before .before .before .before .before .before .pre .0) (l .before .before .before .before .before .before .before .before .read-entries .ensures) (l .before .before .before .before .before .before .before .read-entries2 .ensures) (l .before .before .before .before .before .before .read-row .ensures) (l .before .before .before .before .low-row .ensures)
 
 slice-aggregate-descend-values : tie.Need-slice-aggregate-descend-values
 slice-aggregate-descend-values c = search needs
@@ -67,13 +69,25 @@ slice-aggregate-descend-values-3 c = search needs
 
 descend-values-requires : tie.Need-descend-values-requires
 descend-values-requires c κs =
-    let x = c .before .before .before .before .before .before .before .before .before .before .before .before .before .before .before .pre .0 in
-    layer-values x (c .before .before .before .before .before .before .before .before .before .before .before .before .read-entries .ensures) (c .before .before .before .before .before .before .before .before .before .before .before .read-entries2 .ensures) (c .before .before .before .before .before .before .before .before .before .before .read-row .ensures) (c .before .before .before .before .before .before .before .before .low-row .ensures) (c .before .before .before .descend-props .ensures (layer-props x (c .before .before .before .before .before .before .before .before .before .before .before .before .read-entries .ensures) (c .before .before .before .before .before .before .before .before .before .before .before .read-entries2 .ensures) (c .before .before .before .before .before .before .before .before .before .before .read-row .ensures) (c .before .before .before .before .before .before .before .before .low-row .ensures)))
+    let d = c .before .before .before .before in
+    let l = d .before .before in
+    let x = l .before .before .before .before .before .before .before .before .before .before .before .pre .0 in
+    let has = l .before .before .before .before .before .before .before .before .read-entries .ensures in
+    let used = l .before .before .before .before .before .before .before .read-entries2 .ensures in
+    let row = l .before .before .before .before .before .before .read-row .ensures in
+    let lows = l .before .before .before .before .low-row .ensures in
+    layer-values x has used row lows (d .descend-props .ensures (layer-props x has used row lows))
 
 returns : tie.Need-returns
 returns c x =
-    let props-done = c .before .before .before .before .descend-props .ensures (layer-props x (c .before .before .before .before .before .before .before .before .before .before .before .before .before .read-entries .ensures) (c .before .before .before .before .before .before .before .before .before .before .before .before .read-entries2 .ensures) (c .before .before .before .before .before .before .before .before .before .before .before .read-row .ensures) (c .before .before .before .before .before .before .before .before .before .low-row .ensures)) in
-    layer-descended x (c .before .before .before .before .before .before .before .before .before .before .before .before .before .read-entries .ensures) (c .before .before .before .before .before .before .before .before .before .before .before .before .read-entries2 .ensures) (c .before .before .before .before .before .before .before .before .before .before .before .read-row .ensures) (c .before .before .before .before .before .before .before .before .before .low-row .ensures) props-done (c .descend-values .ensures (layer-values x (c .before .before .before .before .before .before .before .before .before .before .before .before .before .read-entries .ensures) (c .before .before .before .before .before .before .before .before .before .before .before .before .read-entries2 .ensures) (c .before .before .before .before .before .before .before .before .before .before .before .read-row .ensures) (c .before .before .before .before .before .before .before .before .before .low-row .ensures) props-done))
+    let d = c .before .before .before .before .before in
+    let l = d .before .before in
+    let has = l .before .before .before .before .before .before .before .before .read-entries .ensures in
+    let used = l .before .before .before .before .before .before .before .read-entries2 .ensures in
+    let row = l .before .before .before .before .before .before .read-row .ensures in
+    let lows = l .before .before .before .before .low-row .ensures in
+    let done = d .descend-props .ensures (layer-props x has used row lows) in
+    layer-descended x has used row lows done (c .descend-values .ensures (layer-values x has used row lows done))
 
 pub descend-spec : {M : Type 1} → statement M
 descend-spec =

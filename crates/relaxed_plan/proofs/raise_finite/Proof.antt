@@ -1,29 +1,32 @@
--- `Targets::want_finite` meets its contract. The invariant: in every reading, the first `i` terms are passed. The measure is the
+-- `raise_finite` meets its contract. The invariant: in every reading, the first `i` terms are passed. The measure is the
 -- number of terms that are left. Assumes nothing.
 use Prim.Native.Nat.{_-_, _≤_}
 use native.Mathlib.Omega.{arith}
 use mathlib.Core.Path.{_≡_, sym, ap, _∙_}
+use mathlib.Core.Bool.{Bool}
+use mathlib.Core.List.{List}
 use lib.IntN.{pos}
 use lib.ListN.{getD}
 use Rattle.integer.specs.Linear.{back}
 use Rattle.block.specs.Sums.{isMark, few-terms}
 use Rattle.relaxed_plan.specs.Wanting.{Finitely, FinitelyDone, finitely-start, finitely-end, finitely-term, finitely-read, finitely-skip, finitely-raise}
-use Rattle.relaxed_plan.proofs.Targets.want_finite.Statement.{statement}
-use Rattle.relaxed_plan.proofs.Targets.want_finite.Tie as tie
+use Rattle.relaxed_plan.specs.Encoding.{holding, raised-at}
+use Rattle.relaxed_plan.proofs.raise_finite.Statement.{statement}
+use Rattle.relaxed_plan.proofs.raise_finite.Tie as tie
 
 abbrev Inv-loop : tie.InvT-loop
-Inv-loop self₀ part from n row i₀ self i =
-    (i ≤ n) × (n ≤ 8) × ((x : Finitely part from n row self₀) → FinitelyDone x i self)
+Inv-loop target₀ part from n row i₀ target i =
+    (i ≤ n) × (n ≤ 8) × ((ps : List Bool) (x : Finitely part from n row (holding ps target₀)) → FinitelyDone x i (holding ps target))
 
 abbrev μ-loop : tie.MeasureT-loop
-μ-loop self₀ part from n row i₀ self i = n - i
+μ-loop target₀ part from n row i₀ target i = n - i
 
 -- the invariant in the reading that the caller has
-own : (c : tie.At-loop Inv-loop μ-loop) → FinitelyDone (c .before .before .pre) (c .loop .i) (c .loop .self)
-own c = c .loop .inv .2 (c .before .before .pre)
+own : (c : tie.At-loop Inv-loop μ-loop) → FinitelyDone (c .before .before .pre .it) (c .loop .i) (holding (c .before .before .pre .props) (c .loop .target))
+own c = c .loop .inv .2 _ (c .before .before .pre .it)
 
 loop-holds : tie.Need-loop-holds Inv-loop μ-loop
-loop-holds c = (omega arith, few-terms (c .before .pre .terms), λ x. finitely-start x)
+loop-holds c = (omega arith, few-terms (c .before .pre .it .terms), λ ps x. finitely-start x)
 
 mul-variable : tie.Need-mul-variable Inv-loop μ-loop
 mul-variable c = omega arith
@@ -43,10 +46,10 @@ mul-x c = omega (arith, shared-slice-copy-out-x c)
 is-unbounded-requires : tie.Need-is-unbounded-requires Inv-loop μ-loop
 is-unbounded-requires c κs = tt
 
-want-value-requires : tie.Need-want-value-requires Inv-loop μ-loop
-want-value-requires c κs =
-    let i = c .before .before .before .before in
-    omega (arith, finitely-read _ (own (i .before)) (i .loop-test .taken) (c .before .before .before .variable .ensures) .small, own (i .before) .encoded .few-vars)
+raise-target-requires : tie.Need-raise-target-requires Inv-loop μ-loop
+raise-target-requires c κs =
+    let i = c .before .before .before .before .before in
+    omega (arith, finitely-read _ (own (i .before)) (i .loop-test .taken) (c .before .before .before .before .variable .ensures) .small, own (i .before) .encoded .few-vars)
 
 add-i : tie.Need-add-i Inv-loop μ-loop
 add-i c = omega arith
@@ -66,25 +69,25 @@ loop-again c =
     let i = c .before .before .before .before in (
       omega arith,
       omega arith,
-      λ x. finitely-skip x (i .before .loop .inv .2 x) (i .loop-test .taken) (c .before .before .before .variable .ensures) (sym (mark (c .before)) ∙ c .if1 .taken),
+      λ ps x. finitely-skip x (i .before .loop .inv .2 ps x) (i .loop-test .taken) (c .before .before .before .variable .ensures) (sym (mark (c .before)) ∙ c .if1 .taken),
     )
 
 loop-again-2 : tie.Need-loop-again-2 Inv-loop μ-loop
 loop-again-2 c =
-    let u = c .before .before in
+    let u = c .before .before .before in
     let i = u .before .before .before in (
       omega arith,
       omega arith,
-      λ x.
-          finitely-raise x (i .before .loop .inv .2 x) (i .loop-test .taken) (u .before .before .variable .ensures) (sym (mark u) ∙ c .before .if1 .left)
-          (rw (back _ (u .before .x .given)) at (c .want-value .ensures)),
+      λ ps x.
+          finitely-raise x (i .before .loop .inv .2 ps x) (i .loop-test .taken) (u .before .before .variable .ensures) (sym (mark u) ∙ c .before .before .if1 .left)
+          (raised-at (rw (back _ (u .before .x .given)) at (c .raise-target .ensures))),
     )
 
 returns : tie.Need-returns Inv-loop μ-loop
-returns c x = finitely-end x (c .before .loop .inv .2 x) (c .loop-test .left)
+returns c ps x = finitely-end x (c .before .loop .inv .2 ps x) (c .loop-test .left)
 
-pub want-finite-spec : {M : Type 1} → statement M
-want-finite-spec =
+pub raise-finite-spec : {M : Type 1} → statement M
+raise-finite-spec =
     tie.close
     (tie.spec
     Inv-loop
@@ -99,7 +102,7 @@ want-finite-spec =
     is-unbounded-requires
     loop-less
     loop-again
-    want-value-requires
+    raise-target-requires
     loop-less-2
     loop-again-2
     returns)
