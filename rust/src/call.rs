@@ -86,6 +86,12 @@ impl CallKind {
         }
     }
 
+    /// The call's name.
+    pub fn name(self) -> &'static str {
+        let name = self.file().strip_suffix(".txt");
+        name.expect("a file of outcomes is a text")
+    }
+
     /// The file of this call's outcomes.
     pub fn file(self) -> &'static str {
         match self {

@@ -10,8 +10,8 @@ mod tuned;
 pub use crate::call::hex;
 pub use call::{call, sized_calls};
 pub use damage::{
-    command_string, deletions, insertions, random_bytes, single_byte_changes, spoil, truncations,
-    wrong_state,
+    command_string, damage, deletions, insertions, random_bytes, single_byte_changes, spoil,
+    truncations, wrong_state,
 };
 pub use rng::Rng;
 pub use sizes::Sizes;

@@ -3,7 +3,7 @@
 use std::fmt::Debug;
 
 /// How many canaries stand on each side.
-const MARGIN: usize = 64;
+pub const MARGIN: usize = 64;
 
 /// An element with a canary for each position, so that copied canaries show too.
 pub trait Canary: Copy + Debug + PartialEq {

@@ -6,10 +6,13 @@
 
 pub mod answer;
 pub mod call;
+pub mod corpus;
 pub mod engine;
+pub mod fenced;
 pub mod generate;
 pub mod guarded;
 pub mod harness;
+pub mod input;
 pub mod proved;
 pub mod reference;
 pub mod tally;

@@ -34,6 +34,11 @@ impl<'e> Tally<'e> {
         }
     }
 
+    /// Calls by the number of their refusal; 0 for accepted ones.
+    pub fn counts(&self) -> &[usize; 16] {
+        &self.counts
+    }
+
     pub fn inputs(&self) -> usize {
         self.counts.iter().sum()
     }

@@ -1,6 +1,7 @@
 //! Inputs that are wrong, or likely to be.
 
 use super::rng::Rng;
+use crate::call::Call;
 use crate::reference::table::{
     Block, Change, Effect, Item, Kind, Table, Term, MOVE_LIMIT, NUMBER_LIMIT, PROPOSITION_LIMIT,
     WEIGHT_LIMIT,
@@ -254,4 +255,38 @@ pub fn wrong_state(rng: &mut Rng, state: &[u8]) -> Vec<u8> {
         _ => wrong.push(0),
     }
     wrong
+}
+
+/// Damages the table, and now and then the state.
+pub fn damage(rng: &mut Rng, call: &mut Call) {
+    match call {
+        Call::Read { table } | Call::Block { table, .. } | Call::Normalise { table, .. } => {
+            damage_bytes(rng, table);
+        }
+        Call::Step { table, state, .. }
+        | Call::Decide { table, state, .. }
+        | Call::Plan { table, state, .. }
+        | Call::Listing { task: table, state } => {
+            let bytes = if rng.chance(1, 4) { state } else { table };
+            damage_bytes(rng, bytes);
+        }
+    }
+}
+
+/// Up to four changes: a byte set, stepped, put in, taken out, or a stretch moved.
+fn damage_bytes(rng: &mut Rng, bytes: &mut Vec<u8>) {
+    for _ in 0..=rng.below(4) {
+        if bytes.is_empty() {
+            return;
+        }
+        let at = rng.below(bytes.len());
+        match rng.below(6) {
+            0 => bytes[at] = rng.byte(),
+            1 => bytes[at] = bytes[at].wrapping_add(1),
+            2 => bytes[at] = bytes[at].wrapping_sub(1),
+            3 => bytes.insert(at, rng.byte()),
+            4 => drop(bytes.remove(at)),
+            _ => bytes[at..].rotate_left(1),
+        }
+    }
 }

@@ -1,0 +1,67 @@
+//! The calls that are kept from fuzzing, a line each: the call's name, then its fields.
+
+use crate::call::{Call, CallKind};
+use crate::harness::outcomes;
+use std::fs;
+use std::path::Path;
+
+/// The kept calls.
+///
+/// # Panics
+/// If their file cannot be read.
+pub fn kept() -> Vec<Call> {
+    let file = Path::new(env!("CARGO_MANIFEST_DIR")).join("tests/data/corpus.txt");
+    let text = fs::read_to_string(file).expect("the corpus is there");
+    let calls: Result<Vec<Call>, String> = text.lines().map(parse).collect();
+    calls.expect("every line is a call")
+}
+
+/// The calls of all recorded outcomes.
+///
+/// # Panics
+/// If their files cannot be read.
+pub fn recorded() -> Vec<Call> {
+    let calls = |kind| {
+        let calls = outcomes(kind);
+        let fields = calls.lines().filter_map(|line| line.split_once(" -> "));
+        let calls: Result<Vec<Call>, String> =
+            fields.map(|(call, _)| Call::parse(kind, call)).collect();
+        calls.expect("every line has a call")
+    };
+    CallKind::ALL.into_iter().flat_map(calls).collect()
+}
+
+/// The line of a call.
+pub fn line(call: &Call) -> String {
+    format!("{} {call}", call.kind().name())
+}
+
+/// The call of a line.
+pub fn parse(line: &str) -> Result<Call, String> {
+    let (name, fields) = line.split_once(' ').ok_or("a line has fields")?;
+    let kind = CallKind::ALL.into_iter().find(|kind| kind.name() == name);
+    Call::parse(kind.ok_or_else(|| format!("no call: {name}"))?, fields)
+}
+
+#[cfg(test)]
+mod tests {
+    use super::*;
+
+    #[test]
+    fn lines_are_read_back() {
+        let call = Call::Block {
+            table: vec![0x4E, 0, 0, 0, 0x47, 0x45],
+            block: 3,
+        };
+        assert_eq!(line(&call), "block 4e0000004745 3");
+        assert_eq!(parse(&line(&call)), Ok(call));
+        assert!(parse("block").is_err());
+        assert!(parse("blocks 45 0").is_err());
+    }
+
+    #[test]
+    fn every_recorded_call_is_there() {
+        let lines: usize = CallKind::ALL.into_iter().map(CallKind::lines).sum();
+        assert_eq!(recorded().len(), lines);
+    }
+}
