@@ -3,13 +3,12 @@
 //! Each figure is the median of repeated samples; the two engines take turns. Memories are
 //! lent again as the call before left them.
 
-use campaign::engine::{Engine, Reference};
+use campaign::engine::{Engine, REFERENCE};
 use campaign::generate::{dense, m1, task_of, waves, Rng, Task};
 use campaign::harness::layer_bound;
-use campaign::proved::{answered, raw};
+use campaign::proved::raw;
 use campaign::reference::semantics::saturate;
 use campaign::reference::table::Kind;
-use campaign::reference::{normal_form, parse_table};
 use std::hint::black_box;
 use std::time::{Duration, Instant};
 
@@ -48,19 +47,14 @@ impl Bench {
 
     /// The task with the normal form of its table.
     fn normal(&self) -> Bench {
-        let written = parse_table(&self.task.table).expect("a written table is accepted");
-        let task = Task {
-            table: normal_form(&written).encode(),
-            state: self.task.state.clone(),
-        };
-        Bench::new(&format!("{}, normal", self.name), task)
+        Bench::new(&format!("{}, normal", self.name), self.task.normal())
     }
 
     fn read(&mut self) -> Times {
         let table = &self.task.table;
         compare(
-            || answered(raw::read(table)).is_ok(),
-            || Reference.read(table).is_ok(),
+            || raw::read(table).is_ok(),
+            || REFERENCE.read(table).is_ok(),
         )
     }
 
@@ -68,8 +62,8 @@ impl Bench {
         let table = &self.task.table;
         let mut others = self.out.clone();
         compare(
-            || answered(raw::normalise(table, &mut self.out)).is_ok(),
-            || Reference.normalise(table, &mut others).is_ok(),
+            || raw::normalise(table, &mut self.out).is_ok(),
+            || REFERENCE.normalise(table, &mut others).is_ok(),
         )
     }
 
@@ -78,7 +72,7 @@ impl Bench {
         let Task { table, state } = &self.task;
         let mut out = state.clone();
         let mut moves = 0..u64::from(table[3]);
-        let usable = moves.find(|mv| Reference.step(table, state, *mv, &mut out).is_ok());
+        let usable = moves.find(|mv| REFERENCE.step(table, state, *mv, &mut out).is_ok());
         usable.unwrap_or(0)
     }
 
@@ -87,8 +81,8 @@ impl Bench {
         let Task { table, state } = &self.task;
         let mut others = self.out.clone();
         compare(
-            || answered(raw::step(table, state, mv, &mut self.out)).is_ok(),
-            || Reference.step(table, state, mv, &mut others).is_ok(),
+            || raw::step(table, state, mv, &mut self.out).is_ok(),
+            || REFERENCE.step(table, state, mv, &mut others).is_ok(),
         )
     }
 
@@ -96,8 +90,8 @@ impl Bench {
         let Task { table, state } = &self.task;
         let mut others = self.layers.clone();
         compare(
-            || answered(raw::decide(table, state, &mut self.layers)).is_ok(),
-            || Reference.decide(table, state, &mut others).is_ok(),
+            || raw::decide(table, state, &mut self.layers).is_ok(),
+            || REFERENCE.decide(table, state, &mut others).is_ok(),
         )
     }
 
@@ -108,17 +102,16 @@ impl Bench {
         compare(
             || {
                 let lent = (&mut self.layers, &mut self.out);
-                let answer = raw::plan(table, state, lent.0, lent.1, &mut records, &mut first);
-                answered(answer).is_ok()
+                raw::plan(table, state, lent.0, lent.1, &mut records, &mut first).is_ok()
             },
-            || Reference.plan(table, state, &mut layers, &mut out).is_ok(),
+            || REFERENCE.plan(table, state, &mut layers, &mut out).is_ok(),
         )
     }
 
     /// The layers that `decide` reports.
     fn reported_layers(&mut self) -> u64 {
         let Task { table, state } = &self.task;
-        let decision = Reference.decide(table, state, &mut self.layers);
+        let decision = REFERENCE.decide(table, state, &mut self.layers);
         decision.map_or(0, |decision| decision.layers)
     }
 }

@@ -2,7 +2,7 @@
 //! fences, compared with the reference. `./fuzz` in the repository's root builds and runs it.
 
 use campaign::call::Fill;
-use campaign::engine::Reference;
+use campaign::engine::REFERENCE;
 use campaign::fenced::Fenced;
 use campaign::generate::{call, damage, Rng};
 use campaign::harness::compare_over;
@@ -31,7 +31,7 @@ pub unsafe extern "C" fn LLVMFuzzerTestOneInput(input: *const u8, length: usize)
 
 fn check(input: &[u8]) {
     let fill = Fill::Seeded(input.len() as u64);
-    if let Err(difference) = compare_over(&decode(input), fill, &Reference, &Fenced(PROVED)) {
+    if let Err(difference) = compare_over(&decode(input), fill, &REFERENCE, &Fenced(PROVED)) {
         eprintln!("{difference}\n  before: {fill:?}");
         abort();
     }

@@ -106,6 +106,18 @@ pub struct Decision {
     pub layers: u64,
 }
 
+impl Decision {
+    /// The answer of `plan` with this decision.
+    pub fn with_plan(self, records: u64, first: u64) -> Plan {
+        Plan {
+            answer: self.answer,
+            layers: self.layers,
+            records,
+            first,
+        }
+    }
+}
+
 impl fmt::Display for Decision {
     fn fmt(&self, f: &mut fmt::Formatter<'_>) -> fmt::Result {
         write!(f, "{} layers {}", self.answer, self.layers)

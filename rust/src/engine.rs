@@ -29,8 +29,13 @@ pub trait Engine {
 
     /// What the listing program prints; by default made of `normalise` and `plan`.
     fn listing(&self, task: &[u8], state: &[u8]) -> String {
-        listing_of(self, task, state).unwrap_or_else(|refusal| format!("{refusal}\n"))
+        made_listing(self, task, state)
     }
+}
+
+/// A listing made of `normalise` and `plan`.
+fn made_listing<E: Engine + ?Sized>(engine: &E, task: &[u8], state: &[u8]) -> String {
+    listing_of(engine, task, state).unwrap_or_else(|refusal| format!("{refusal}\n"))
 }
 
 fn listing_of<E: Engine + ?Sized>(
@@ -53,46 +58,6 @@ fn listing_of<E: Engine + ?Sized>(
     Ok(text)
 }
 
-/// The reference implementation.
-#[derive(Clone, Copy, Debug, Default)]
-pub struct Reference;
-
-impl Engine for Reference {
-    fn read(&self, table: &[u8]) -> Result<Head, Refusal> {
-        reference::read(table)
-    }
-
-    fn block<'t>(&self, table: &'t [u8], b: u64) -> Result<&'t [u8], Refusal> {
-        reference::block(table, b)
-    }
-
-    fn normalise(&self, table: &[u8], out: &mut [u8]) -> Result<usize, Refusal> {
-        reference::normalise(table, out)
-    }
-
-    fn step(&self, table: &[u8], state: &[u8], mv: u64, out: &mut [u8]) -> Result<usize, Refusal> {
-        reference::step(table, state, mv, out)
-    }
-
-    fn decide(&self, table: &[u8], state: &[u8], layers: &mut [i64]) -> Result<Decision, Refusal> {
-        reference::decide(table, state, layers)
-    }
-
-    fn plan(
-        &self,
-        table: &[u8],
-        state: &[u8],
-        layers: &mut [i64],
-        out: &mut [u8],
-    ) -> Result<Plan, Refusal> {
-        reference::plan(table, state, layers, out)
-    }
-
-    fn listing(&self, task: &[u8], state: &[u8]) -> String {
-        reference::listing(task, state)
-    }
-}
-
 /// An engine made of single functions.
 ///
 /// A program links only the functions that it names here.
@@ -104,6 +69,7 @@ pub struct Calls {
     pub step: Step,
     pub decide: Decide,
     pub plan: Planning,
+    pub listing: Listing,
 }
 
 type Read = fn(&[u8]) -> Result<Head, Refusal>;
@@ -112,9 +78,22 @@ type Normalise = fn(&[u8], &mut [u8]) -> Result<usize, Refusal>;
 type Step = fn(&[u8], &[u8], u64, &mut [u8]) -> Result<usize, Refusal>;
 type Decide = fn(&[u8], &[u8], &mut [i64]) -> Result<Decision, Refusal>;
 type Planning = fn(&[u8], &[u8], &mut [i64], &mut [u8]) -> Result<Plan, Refusal>;
+/// Given the other calls too.
+type Listing = fn(&Calls, &[u8], &[u8]) -> String;
+
+/// The reference implementation.
+pub const REFERENCE: Calls = Calls {
+    read: reference::read,
+    block: reference::block,
+    normalise: reference::normalise,
+    step: reference::step,
+    decide: reference::decide,
+    plan: reference::plan,
+    listing: |_, task, state| reference::listing(task, state),
+};
 
 impl Calls {
-    /// No call at all: each panics.
+    /// No call at all: each panics. A listing is made of the other calls.
     pub const NONE: Calls = Calls {
         read: |_| absent("read"),
         block: |_, _| absent("block"),
@@ -122,6 +101,7 @@ impl Calls {
         step: |_, _, _, _| absent("step"),
         decide: |_, _, _| absent("decide"),
         plan: |_, _, _, _| absent("plan"),
+        listing: made_listing,
     };
 }
 
@@ -158,5 +138,9 @@ impl Engine for Calls {
         out: &mut [u8],
     ) -> Result<Plan, Refusal> {
         (self.plan)(table, state, layers, out)
+    }
+
+    fn listing(&self, task: &[u8], state: &[u8]) -> String {
+        (self.listing)(self, task, state)
     }
 }

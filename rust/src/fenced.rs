@@ -186,7 +186,7 @@ impl<E: Engine> Engine for Fenced<E> {
 #[cfg(test)]
 mod tests {
     use super::*;
-    use crate::engine::{Calls, Reference};
+    use crate::engine::{Calls, REFERENCE};
     use crate::generate::m1;
     use std::env;
     use std::os::unix::process::ExitStatusExt;
@@ -217,8 +217,8 @@ mod tests {
         let table = m1().table;
         for b in 0..5 {
             let [one, other] = [
-                Reference.block(&table, b),
-                Fenced(Reference).block(&table, b),
+                REFERENCE.block(&table, b),
+                Fenced(REFERENCE).block(&table, b),
             ];
             assert_eq!(
                 one.map(<[u8]>::as_ptr_range),

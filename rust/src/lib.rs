@@ -12,6 +12,7 @@ pub mod fenced;
 pub mod generate;
 pub mod guarded;
 pub mod harness;
+pub mod impostors;
 pub mod input;
 pub mod proved;
 pub mod reference;

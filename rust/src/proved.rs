@@ -5,7 +5,7 @@
 
 pub mod raw;
 
-use crate::answer::{Answer, Decision, Head, Plan, Reason, Refusal};
+use crate::answer::{Answer, Decision, Head, Plan, Refusal};
 use crate::engine::Calls;
 use crate::guarded::Guarded;
 
@@ -17,6 +17,7 @@ pub const PROVED: Calls = Calls {
     step,
     decide,
     plan,
+    ..Calls::NONE
 };
 
 /// Marks "no plan" in the result of `decide` and `plan`.
@@ -25,22 +26,8 @@ const NO_PLAN: u32 = 1 << 31;
 /// What plan's two further numbers hold before a call.
 const UNWRITTEN: [u64; 2] = [0x0123_4567_89AB_CDEF, 0xFEDC_BA98_7654_3210];
 
-/// The result in an answer's number, or the refusal.
-///
-/// # Panics
-/// If the refusal's number is unknown.
-pub fn answered(number: u64) -> Result<u32, Refusal> {
-    let [reason, low] = [number >> 32, number & 0xFFFF_FFFF];
-    if reason == 0 {
-        return Ok(low as u32);
-    }
-    let known = u8::try_from(reason).ok().and_then(Reason::from_number);
-    let reason = known.unwrap_or_else(|| panic!("refusal {reason} is unknown"));
-    Err(Refusal { reason, place: low })
-}
-
 pub fn read(table: &[u8]) -> Result<Head, Refusal> {
-    let [kind, p, v_or_n, a] = answered(raw::read(table))?.to_be_bytes();
+    let [kind, p, v_or_n, a] = raw::read(table)?.to_be_bytes();
     Ok(Head { kind, p, v_or_n, a })
 }
 
@@ -51,7 +38,7 @@ pub fn read(table: &[u8]) -> Result<Head, Refusal> {
 /// changed.
 pub fn block(table: &[u8], block: u64) -> Result<&[u8], Refusal> {
     let mut out = Guarded::filled(table.len() + 1, |i| !(i as u8));
-    let answer = answered(raw::block(table, block, out.lend()));
+    let answer = raw::block(table, block, out.lend());
     out.check("copy of the block")
         .expect("all canaries are whole");
     let length = answer.map_or(0, |length| length as usize);
@@ -64,15 +51,15 @@ pub fn block(table: &[u8], block: u64) -> Result<&[u8], Refusal> {
 }
 
 pub fn normalise(table: &[u8], out: &mut [u8]) -> Result<usize, Refusal> {
-    answered(raw::normalise(table, out)).map(|length| length as usize)
+    raw::normalise(table, out).map(|length| length as usize)
 }
 
 pub fn step(table: &[u8], state: &[u8], mv: u64, out: &mut [u8]) -> Result<usize, Refusal> {
-    answered(raw::step(table, state, mv, out)).map(|length| length as usize)
+    raw::step(table, state, mv, out).map(|length| length as usize)
 }
 
 pub fn decide(table: &[u8], state: &[u8], layers: &mut [i64]) -> Result<Decision, Refusal> {
-    answered(raw::decide(table, state, layers)).map(decision)
+    raw::decide(table, state, layers).map(decision)
 }
 
 /// # Panics
@@ -85,7 +72,7 @@ pub fn plan(
 ) -> Result<Plan, Refusal> {
     let [mut records, mut first] = UNWRITTEN.map(|number| Guarded::holding(&[number]));
     let [one, other] = [&mut records, &mut first].map(|number| &mut number.lend()[0]);
-    let answer = answered(raw::plan(table, state, layers, out, one, other));
+    let answer = raw::plan(table, state, layers, out, one, other);
     let numbers = [&records, &first].map(|number| {
         number
             .check("a number of the plan")
@@ -96,14 +83,7 @@ pub fn plan(
         answer.is_ok() || numbers == UNWRITTEN,
         "a refusal wrote a number"
     );
-    let Decision { answer, layers } = decision(answer?);
-    let [records, first] = numbers;
-    Ok(Plan {
-        answer,
-        layers,
-        records,
-        first,
-    })
+    Ok(decision(answer?).with_plan(numbers[0], numbers[1]))
 }
 
 fn decision(result: u32) -> Decision {
@@ -120,9 +100,7 @@ mod tests {
     use super::*;
 
     #[test]
-    fn numbers_are_taken_apart() {
-        assert_eq!(answered(0x5401_0203), Ok(0x5401_0203));
-        assert_eq!(answered((9 << 32) + 5), Err(Reason::StateRange.at(5)));
+    fn decisions_are_taken_apart() {
         assert_eq!(
             decision(7),
             Decision {
@@ -137,11 +115,5 @@ mod tests {
                 layers: 7
             }
         );
-    }
-
-    #[test]
-    #[should_panic(expected = "refusal 16 is unknown")]
-    fn an_unknown_refusal_is_found() {
-        let _ = answered(16 << 32);
     }
 }

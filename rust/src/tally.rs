@@ -1,7 +1,7 @@
 //! Two engines compared on many calls, counted by what they answer.
 
 use crate::call::{Call, Fill};
-use crate::engine::{Engine, Reference};
+use crate::engine::{Engine, REFERENCE};
 use crate::generate::Rng;
 use crate::harness::compare_over;
 
@@ -28,7 +28,7 @@ impl<'e> Tally<'e> {
     /// If the outcomes differ; the message has the call in hexadecimal and both outcomes.
     pub fn check(&mut self, call: &Call) {
         let fill = Fill::Seeded(self.rng.next_u64());
-        match compare_over(call, fill, &Reference, self.engine) {
+        match compare_over(call, fill, &REFERENCE, self.engine) {
             Ok(outcome) => self.counts[refusal_number(&outcome)] += 1,
             Err(difference) => panic!("{difference}\n  before: {fill:?}"),
         }
@@ -87,6 +87,6 @@ mod tests {
     #[test]
     #[should_panic(expected = "refusal 2")]
     fn a_missing_refusal_is_found() {
-        Tally::new(&Reference, 1).expect(0, &[2]);
+        Tally::new(&REFERENCE, 1).expect(0, &[2]);
     }
 }

@@ -2,13 +2,13 @@
 
 use campaign::answer::{Answer, Decision, Head, Plan, Reason, Refusal};
 use campaign::call::bytes;
-use campaign::engine::{Engine, Reference};
+use campaign::engine::{Engine, REFERENCE};
 use campaign::generate;
 use campaign::guarded::Guarded;
 use campaign::harness::{self, Planned};
 use campaign::reference::semantics::{real_run, RealRun};
 
-const ENGINE: &dyn Engine = &Reference;
+const ENGINE: &dyn Engine = &REFERENCE;
 const U: i64 = i64::MAX;
 
 fn m1() -> Vec<u8> {

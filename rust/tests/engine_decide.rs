@@ -3,7 +3,7 @@
 mod common;
 
 use campaign::answer::{Answer, Reason};
-use campaign::call::{Call, CallKind};
+use campaign::call::CallKind;
 use campaign::engine::{Calls, Engine};
 use campaign::generate::{m1, single_byte_changes, truncations, wrong_state, Rng, Sizes, Task};
 use campaign::guarded::Guarded;
@@ -22,18 +22,10 @@ fn recorded_decisions() {
     check_lines(ENGINE, CallKind::Decide);
 }
 
-fn decide_call(task: &Task, numbers: usize) -> Call {
-    Call::Decide {
-        table: task.table.clone(),
-        state: task.state.clone(),
-        numbers,
-    }
-}
-
 /// Decides with memories of lengths around the end of each layer.
 fn check_memories(tally: &mut Tally, rng: &mut Rng, task: &Task) {
     for numbers in Sizes::of(task).memories(rng) {
-        tally.check(&decide_call(task, numbers));
+        tally.check(&task.decide(numbers));
     }
 }
 
@@ -78,10 +70,10 @@ fn memories_of_every_length() {
     let short = |task: &Task| Sizes::of(task).memory() < 100;
     for task in common::normal_tasks(306, 1_500).filter(short) {
         for numbers in 0..Sizes::of(&task).memory() + 3 {
-            tally.check(&decide_call(&task, numbers));
+            tally.check(&task.decide(numbers));
         }
         let state = wrong_state(&mut rng, &task.state);
-        tally.check(&decide_call(&Task { state, ..task }, 100));
+        tally.check(&Task { state, ..task }.decide(100));
     }
     tally.expect(30_000, &[0, 8, 9, 14]);
 }
@@ -114,14 +106,14 @@ fn hundreds_of_layers() {
 fn damaged_tables() {
     let mut rng = Rng::new(313);
     let mut tally = Tally::new(ENGINE, 314);
-    let Task { table, state } = common::normal_form(&m1());
+    let Task { table, state } = m1().normal();
     for table in single_byte_changes(&table).chain(truncations(&table)) {
         let state = state.clone();
         let numbers = rng.below(24);
-        tally.check(&decide_call(&Task { table, state }, numbers));
+        tally.check(&Task { table, state }.decide(numbers));
     }
     for task in common::spoilt_tasks(&mut rng, 8_000) {
-        tally.check(&decide_call(&task, 40));
+        tally.check(&task.decide(40));
     }
     tally.expect(25_000, &[0, 2, 3, 4, 5, 6, 7, 8, 14]);
 }

@@ -32,26 +32,17 @@ fn recorded_listings() {
     check_lines(ENGINE, CallKind::Listing);
 }
 
-fn plan_call(task: &Task, numbers: usize, room: usize) -> Call {
-    Call::Plan {
-        table: task.table.clone(),
-        state: task.state.clone(),
-        numbers,
-        room,
-    }
-}
-
 /// Plans with memories of lengths around the end of each layer, and with outputs of lengths
 /// around those of the records.
 fn check_sizes(tally: &mut Tally, rng: &mut Rng, task: &Task) {
     let sizes = Sizes::of(task);
     let plans = sizes.plans(rng);
     for numbers in sizes.memories(rng) {
-        tally.check(&plan_call(task, numbers, *rng.pick(&plans)));
+        tally.check(&task.plan(numbers, *rng.pick(&plans)));
     }
     for room in plans {
         let numbers = sizes.memory() + rng.below(2);
-        tally.check(&plan_call(task, numbers, room));
+        tally.check(&task.plan(numbers, room));
     }
 }
 
@@ -159,18 +150,18 @@ fn hundreds_of_layers() {
 fn damaged_tables_and_states() {
     let mut rng = Rng::new(409);
     let mut tally = Tally::new(ENGINE, 410);
-    let Task { table, state } = common::normal_form(&m1());
+    let Task { table, state } = m1().normal();
     for table in single_byte_changes(&table).chain(truncations(&table)) {
         let state = state.clone();
         let (numbers, room) = (rng.below(24), rng.below(40));
-        tally.check(&plan_call(&Task { table, state }, numbers, room));
+        tally.check(&Task { table, state }.plan(numbers, room));
     }
     for task in common::spoilt_tasks(&mut rng, 4_000) {
-        tally.check(&plan_call(&task, 40, 40));
+        tally.check(&task.plan(40, 40));
     }
     for task in common::normal_tasks(411, 2_000) {
         let state = wrong_state(&mut rng, &task.state);
-        tally.check(&plan_call(&Task { state, ..task }, 200, 100));
+        tally.check(&Task { state, ..task }.plan(200, 100));
     }
     tally.expect(20_000, &[0, 2, 3, 4, 5, 6, 7, 8, 9, 13, 14]);
 }

@@ -1,14 +1,14 @@
 //! The proved engine's read and block reader, over their C functions.
 
 use campaign::call::{Call, CallKind};
-use campaign::engine::{Calls, Engine, Reference};
+use campaign::engine::{Calls, Engine, REFERENCE};
 use campaign::generate::{
     command_string, deletions, dense, full_length, insertions, m1, random_bytes,
     single_byte_changes, spoil, task, task_of, truncations, Rng, Task,
 };
 use campaign::guarded::Guarded;
 use campaign::harness::{check_lines, normalised};
-use campaign::proved::{self, answered, raw};
+use campaign::proved::{self, raw};
 use campaign::reference::parse_table;
 use campaign::reference::table::Kind;
 use campaign::tally::Tally;
@@ -81,7 +81,7 @@ fn valid_tables_of_all_sizes() {
 /// M1, its normal form, and short tables with all sorts of entries.
 fn short_tables(rng: &mut Rng) -> Vec<Vec<u8>> {
     let written = m1().table;
-    let normal = normalised(&Reference, &written).expect("M1 has a normal form");
+    let normal = normalised(&REFERENCE, &written).expect("M1 has a normal form");
     let mut tables = vec![written, normal];
     for kind in KINDS {
         let short = |table: &Vec<u8>| (50..90).contains(&table.len());
@@ -181,10 +181,10 @@ fn check_copy(rng: &mut Rng, table: &[u8], block: u64, room: usize) {
     let before: Vec<u8> = (0..room).map(|_| rng.byte()).collect();
     let mut out = Guarded::holding(&before);
     let lent = Guarded::holding(table);
-    let answer = answered(raw::block(lent.lent(), block, out.lend()));
+    let answer = raw::block(lent.lent(), block, out.lend());
     lent.check_unchanged("table", table).unwrap();
     out.check("copy").unwrap();
-    let expected = Reference.block(table, block);
+    let expected = REFERENCE.block(table, block);
     let task = Call::Block {
         table: table.to_vec(),
         block,
@@ -207,7 +207,7 @@ fn copies_of_blocks_fill_what_there_is() {
         for kind in KINDS {
             let table = task(&mut rng, kind).table;
             for block in 0..=u64::from(table[3]) + 1 {
-                let length = Reference.block(&table, block).map_or(3, <[u8]>::len);
+                let length = REFERENCE.block(&table, block).map_or(3, <[u8]>::len);
                 for room in (length.saturating_sub(3)..length + 4).chain([0, 1]) {
                     check_copy(&mut rng, &table, block, room);
                 }

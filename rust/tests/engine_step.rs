@@ -2,17 +2,17 @@
 
 use campaign::answer::Reason;
 use campaign::call::{Call, CallKind};
-use campaign::engine::{Calls, Engine, Reference};
+use campaign::engine::{Calls, Engine, REFERENCE};
 use campaign::generate::{
-    command_string, dense, full_length, insertions, m1, single_byte_changes, spoil, state_for,
-    task, task_of, truncations, waves, wrong_state, Rng, Task,
+    command_string, dense, full_length, insertions, m1, normal_length, single_byte_changes, spoil,
+    state_for, task, task_of, truncations, waves, wrong_state, Rng, Task,
 };
 use campaign::guarded::Guarded;
 use campaign::harness::{check_lines, normalised};
 use campaign::proved;
+use campaign::reference::parse_table;
 use campaign::reference::semantics::{real_run, RealRun, RealState};
 use campaign::reference::table::Kind;
-use campaign::reference::{normal_form, parse_table};
 use campaign::tally::Tally;
 
 const ENGINE: &dyn Engine = &Calls {
@@ -36,14 +36,6 @@ fn rooms(rng: &mut Rng, length: usize) -> Vec<usize> {
     let mut rooms: Vec<usize> = (length.saturating_sub(2)..length + 3).collect();
     rooms.extend([0, rng.below(length + 1), length + rng.below(90)]);
     rooms
-}
-
-/// The length of the normal form, or that of the table itself.
-fn normal_length(table: &[u8]) -> usize {
-    match parse_table(table) {
-        Ok(written) if written.kind == Kind::Written => normal_form(&written).encode().len(),
-        _ => table.len(),
-    }
 }
 
 fn check_normalise(tally: &mut Tally, rng: &mut Rng, table: &[u8]) {
@@ -124,7 +116,7 @@ fn any_move(rng: &mut Rng, table: &[u8]) -> u64 {
 fn usable_move(rng: &mut Rng, table: &[u8], state: &[u8]) -> u64 {
     let mut out = vec![0; state.len()];
     let usable = |mv: &u64| {
-        let answer = Reference.step(table, state, *mv, &mut out);
+        let answer = REFERENCE.step(table, state, *mv, &mut out);
         answer != Err(Reason::ConditionsFail.at(0))
     };
     let tried: Vec<u64> = (0..8).map(|_| any_move(rng, table)).collect();
@@ -270,7 +262,7 @@ fn normal_forms_are_accepted() {
     for _ in 0..1_000 {
         let Task { table, .. } = task(&mut rng, Kind::Written);
         let normal = normalised(ENGINE, &table).unwrap();
-        let head = Reference.read(&normal).expect("a normal form is accepted");
+        let head = REFERENCE.read(&normal).expect("a normal form is accepted");
         assert_eq!([head.kind, head.p, head.a], [0x4E, table[1], table[3]]);
         assert_eq!(head.v_or_n, 2 * table[2]);
     }

@@ -1,5 +1,6 @@
 //! The listing program, run as a user runs it: in a folder with task.bin and state.bin.
 
+use campaign::call::unhex;
 use std::fs;
 use std::path::{Path, PathBuf};
 use std::process::Command;
@@ -46,12 +47,7 @@ impl Drop for Folder {
 }
 
 fn bytes(hex: &str) -> Vec<u8> {
-    if hex == "-" {
-        return Vec::new();
-    }
-    (0..hex.len() / 2)
-        .map(|i| u8::from_str_radix(&hex[2 * i..2 * i + 2], 16).expect("hexadecimal"))
-        .collect()
+    unhex(hex).expect("hexadecimal")
 }
 
 #[test]

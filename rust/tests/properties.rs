@@ -2,7 +2,7 @@
 
 use campaign::answer::{Answer, Head, Reason, Refusal};
 use campaign::call::Call;
-use campaign::engine::{Engine, Reference};
+use campaign::engine::{Engine, REFERENCE};
 use campaign::generate::{
     self, at_value_limit, call, command_string, deletions, full_length, insertions, random_bytes,
     single_byte_changes, sized_calls, state_for, task, truncations, waves, wrong_state, Rng, Task,
@@ -14,7 +14,7 @@ use campaign::reference::semantics::{
 use campaign::reference::table::{Block, Change, Condition, Effect, Kind, Table, Term};
 use campaign::reference::{parse_table, parse_task, State};
 
-const ENGINE: &dyn Engine = &Reference;
+const ENGINE: &dyn Engine = &REFERENCE;
 
 fn tasks(seed: u64, count: usize, kind: Kind) -> impl Iterator<Item = Task> {
     let mut rng = Rng::new(seed);

@@ -2,9 +2,9 @@
 
 use campaign::answer::{Reason, Refusal};
 use campaign::call::bytes;
-use campaign::engine::{Engine, Reference};
+use campaign::engine::{Engine, REFERENCE};
 
-const ENGINE: &dyn Engine = &Reference;
+const ENGINE: &dyn Engine = &REFERENCE;
 
 /// The number and the place of what `read` answers, or none.
 fn refusal(table: &str) -> Option<(u8, u64)> {

@@ -25,14 +25,17 @@ pub fn call(rng: &mut Rng) -> Call {
             table,
         },
         (Kind::Written, 2 | 3) => Call::Listing { task: table, state },
-        (Kind::Written, 4 | 5) => normalise_call(rng, table),
+        (Kind::Written, 4 | 5) => Call::Normalise {
+            room: around(rng, normal_length(&table)),
+            table,
+        },
         (Kind::Written, _) => Call::Step {
             mv: any_index(rng, &table),
             room: around(rng, state.len()),
             table,
             state,
         },
-        (Kind::Normal, _) => planning_call(rng, table, state),
+        (Kind::Normal, _) => planning_call(rng, &Task { table, state }),
     }
 }
 
@@ -43,40 +46,23 @@ pub fn sized_calls(task: &Task) -> Vec<Call> {
         entries,
         layer,
         plan,
-    } = Needs::of(&task.table, &task.state);
+    } = Needs::of(task);
     let layers = plan.map_or(0, |plan| plan.layers as usize);
     let records = plan.map_or(0, |plan| 10 * plan.records as usize);
     let exact = entries + layer * (layers + 1);
     let mut calls = Vec::new();
     for layers in 1..=layers + 1 {
         let short = (entries + layer * layers).saturating_sub(1);
-        calls.push(decide_call(task, short));
-        calls.push(plan_call(task, short, records));
+        calls.push(task.decide(short));
+        calls.push(task.plan(short, records));
     }
     for numbers in [exact, exact + 5] {
-        calls.push(decide_call(task, numbers));
+        calls.push(task.decide(numbers));
         for room in [records.saturating_sub(1), records, records + 3] {
-            calls.push(plan_call(task, numbers, room));
+            calls.push(task.plan(numbers, room));
         }
     }
     calls
-}
-
-fn decide_call(task: &Task, numbers: usize) -> Call {
-    Call::Decide {
-        table: task.table.clone(),
-        state: task.state.clone(),
-        numbers,
-    }
-}
-
-fn plan_call(task: &Task, numbers: usize, room: usize) -> Call {
-    Call::Plan {
-        table: task.table.clone(),
-        state: task.state.clone(),
-        numbers,
-        room,
-    }
 }
 
 /// A table that is mostly accepted and of the given kind, with a state.
@@ -103,10 +89,7 @@ fn any_task(rng: &mut Rng, kind: Kind) -> Task {
 /// The task with the normal form of its table, if that is a written one.
 fn normalised(task: Task) -> Task {
     match parse_table(&task.table) {
-        Ok(table) if table.kind == Kind::Written => Task {
-            table: normal_form(&table).encode(),
-            state: task.state,
-        },
+        Ok(table) if table.kind == Kind::Written => task.normal(),
         _ => task,
     }
 }
@@ -157,23 +140,20 @@ fn any_index(rng: &mut Rng, table: &[u8]) -> u64 {
     rng.below(usize::from(moves) + 2) as u64
 }
 
-fn normalise_call(rng: &mut Rng, table: Vec<u8>) -> Call {
-    let length = match parse_table(&table) {
+/// The length of the normal form, or that of the table itself if it has none.
+pub fn normal_length(table: &[u8]) -> usize {
+    match parse_table(table) {
         Ok(written) if written.kind == Kind::Written => normal_form(&written).encode().len(),
         _ => table.len(),
-    };
-    Call::Normalise {
-        room: around(rng, length),
-        table,
     }
 }
 
-fn planning_call(rng: &mut Rng, table: Vec<u8>, state: Vec<u8>) -> Call {
+fn planning_call(rng: &mut Rng, task: &Task) -> Call {
     let Needs {
         entries,
         layer,
         plan,
-    } = Needs::of(&table, &state);
+    } = Needs::of(task);
     let layers = plan.map_or(4, |plan| plan.layers as usize + 1);
     let numbers = match rng.below(6) {
         0 => around(rng, entries + layer),
@@ -182,18 +162,9 @@ fn planning_call(rng: &mut Rng, table: Vec<u8>, state: Vec<u8>) -> Call {
     };
     let records = plan.map_or(2, |plan| plan.records as usize);
     if rng.chance(1, 3) {
-        return Call::Decide {
-            table,
-            state,
-            numbers,
-        };
+        return task.decide(numbers);
     }
-    Call::Plan {
-        table,
-        state,
-        numbers,
-        room: around(rng, 10 * records),
-    }
+    task.plan(numbers, around(rng, 10 * records))
 }
 
 /// A size at or around the one that is needed.
@@ -214,7 +185,7 @@ struct Needs {
 }
 
 impl Needs {
-    fn of(table: &[u8], state: &[u8]) -> Needs {
+    fn of(Task { table, state }: &Task) -> Needs {
         let counts = |table: Table| (table.propositions + table.moves.len(), table.variables);
         let (entries, layer) = parse_table(table).map_or((3, 2), counts);
         let mut memory = vec![0; entries + layer * 4_000];

@@ -1,13 +1,13 @@
 //! Accepted tables with states, most of them with a plan.
 
 use super::rng::Rng;
-use crate::call::hex;
+use crate::call::{hex, Call};
 use crate::reference::semantics::{saturate_table, Saturation};
 use crate::reference::table::{
     Block, Change, Comparison, Condition, Effect, Item, Kind, Table, Term, MOVE_LIMIT,
     NUMBER_LIMIT, PROPOSITION_LIMIT, TERM_LIMIT, WEIGHT_LIMIT,
 };
-use crate::reference::{normal_conditions, normal_form, State};
+use crate::reference::{normal_conditions, normal_form, parse_table, State};
 use std::fmt;
 
 /// The bytes of an accepted table and of an accepted state.
@@ -15,6 +15,39 @@ use std::fmt;
 pub struct Task {
     pub table: Vec<u8>,
     pub state: Vec<u8>,
+}
+
+impl Task {
+    /// The task with the normal form of its written table.
+    ///
+    /// # Panics
+    /// If the table is refused.
+    pub fn normal(&self) -> Task {
+        let written = parse_table(&self.table).expect("a written table is accepted");
+        Task {
+            table: normal_form(&written).encode(),
+            state: self.state.clone(),
+        }
+    }
+
+    /// `decide` of this task with so many numbers of memory.
+    pub fn decide(&self, numbers: usize) -> Call {
+        Call::Decide {
+            table: self.table.clone(),
+            state: self.state.clone(),
+            numbers,
+        }
+    }
+
+    /// `plan` of this task with so many numbers of memory and bytes of output.
+    pub fn plan(&self, numbers: usize, room: usize) -> Call {
+        Call::Plan {
+            table: self.table.clone(),
+            state: self.state.clone(),
+            numbers,
+            room,
+        }
+    }
 }
 
 /// Both in hexadecimal.

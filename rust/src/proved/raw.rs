@@ -1,7 +1,9 @@
-//! The exported C functions over slices. Each answers the library's own number: bits 32
-//! to 63 the refusal's number, 0 if accepted; bits 0 to 31 the place, or the result.
+//! The exported C functions over slices. Each answers a number: bits 32 to 63 are the
+//! refusal's number, 0 if accepted; bits 0 to 31 the place, or the result.
 
 #![allow(unsafe_code)]
+
+use crate::answer::{Reason, Refusal};
 
 extern "C" {
     fn lapyndo_read(table: *const u8, table_len: usize) -> u64;
@@ -49,16 +51,30 @@ extern "C" {
     ) -> u64;
 }
 
+/// The result in an answer's number, or the refusal.
+///
+/// # Panics
+/// If the refusal's number is unknown.
+fn answered(number: u64) -> Result<u32, Refusal> {
+    let [reason, low] = [number >> 32, number & 0xFFFF_FFFF];
+    if reason == 0 {
+        return Ok(low as u32);
+    }
+    let known = u8::try_from(reason).ok().and_then(Reason::from_number);
+    let reason = known.unwrap_or_else(|| panic!("refusal {reason} is unknown"));
+    Err(Refusal { reason, place: low })
+}
+
 // Every pointer below comes from a reference and is passed with the length of its slice.
 // The functions keep no pointer, and references to mutable memory do not overlap others.
 
-pub fn read(table: &[u8]) -> u64 {
-    unsafe { lapyndo_read(table.as_ptr(), table.len()) }
+pub fn read(table: &[u8]) -> Result<u32, Refusal> {
+    answered(unsafe { lapyndo_read(table.as_ptr(), table.len()) })
 }
 
 /// Copies as much of the block's part as fits.
-pub fn block(table: &[u8], block: u64, out: &mut [u8]) -> u64 {
-    unsafe {
+pub fn block(table: &[u8], block: u64, out: &mut [u8]) -> Result<u32, Refusal> {
+    answered(unsafe {
         lapyndo_block(
             table.as_ptr(),
             table.len(),
@@ -66,15 +82,15 @@ pub fn block(table: &[u8], block: u64, out: &mut [u8]) -> u64 {
             out.as_mut_ptr(),
             out.len(),
         )
-    }
+    })
 }
 
-pub fn normalise(table: &[u8], out: &mut [u8]) -> u64 {
-    unsafe { lapyndo_normalise(table.as_ptr(), table.len(), out.as_mut_ptr(), out.len()) }
+pub fn normalise(table: &[u8], out: &mut [u8]) -> Result<u32, Refusal> {
+    answered(unsafe { lapyndo_normalise(table.as_ptr(), table.len(), out.as_mut_ptr(), out.len()) })
 }
 
-pub fn step(table: &[u8], state: &[u8], mv: u64, out: &mut [u8]) -> u64 {
-    unsafe {
+pub fn step(table: &[u8], state: &[u8], mv: u64, out: &mut [u8]) -> Result<u32, Refusal> {
+    answered(unsafe {
         lapyndo_step(
             table.as_ptr(),
             table.len(),
@@ -84,11 +100,11 @@ pub fn step(table: &[u8], state: &[u8], mv: u64, out: &mut [u8]) -> u64 {
             out.as_mut_ptr(),
             out.len(),
         )
-    }
+    })
 }
 
-pub fn decide(table: &[u8], state: &[u8], layers: &mut [i64]) -> u64 {
-    unsafe {
+pub fn decide(table: &[u8], state: &[u8], layers: &mut [i64]) -> Result<u32, Refusal> {
+    answered(unsafe {
         lapyndo_decide(
             table.as_ptr(),
             table.len(),
@@ -97,7 +113,7 @@ pub fn decide(table: &[u8], state: &[u8], layers: &mut [i64]) -> u64 {
             layers.as_mut_ptr(),
             layers.len(),
         )
-    }
+    })
 }
 
 /// Writes the number of records and the set of first moves in an answer only.
@@ -108,8 +124,8 @@ pub fn plan(
     out: &mut [u8],
     records: &mut u64,
     first_moves: &mut u64,
-) -> u64 {
-    unsafe {
+) -> Result<u32, Refusal> {
+    answered(unsafe {
         lapyndo_plan(
             table.as_ptr(),
             table.len(),
@@ -122,5 +138,22 @@ pub fn plan(
             records,
             first_moves,
         )
+    })
+}
+
+#[cfg(test)]
+mod tests {
+    use super::*;
+
+    #[test]
+    fn numbers_are_taken_apart() {
+        assert_eq!(answered(0x5401_0203), Ok(0x5401_0203));
+        assert_eq!(answered((9 << 32) + 5), Err(Reason::StateRange.at(5)));
+    }
+
+    #[test]
+    #[should_panic(expected = "refusal 16 is unknown")]
+    fn an_unknown_refusal_is_found() {
+        let _ = answered(16 << 32);
     }
 }

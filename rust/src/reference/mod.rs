@@ -89,12 +89,7 @@ pub fn plan(
     };
     let bytes: Vec<u8> = records.iter().flat_map(|r| r.encode()).collect();
     deliver(&bytes, out)?;
-    Ok(Plan {
-        answer: decision.answer,
-        layers: decision.layers,
-        records: records.len() as u64,
-        first,
-    })
+    Ok(decision.with_plan(records.len() as u64, first))
 }
 
 /// Builds the layers and writes them into the layer memory.

@@ -7,20 +7,11 @@ use campaign::generate::{
 use campaign::reference::parse_table;
 use campaign::reference::table::Kind;
 
-/// The task with the normal form of its written table.
-pub fn normal_form(written: &Task) -> Task {
-    let table = parse_table(&written.table).expect("a written table is accepted");
-    Task {
-        table: campaign::reference::normal_form(&table).encode(),
-        state: written.state.clone(),
-    }
-}
-
 /// Tasks of all sizes, half of them from written ones.
 pub fn normal_tasks(seed: u64, count: usize) -> impl Iterator<Item = Task> {
     let mut rng = Rng::new(seed);
     (0..count).map(move |i| match i % 2 {
-        0 => normal_form(&task(&mut rng, Kind::Written)),
+        0 => task(&mut rng, Kind::Written).normal(),
         _ => task(&mut rng, Kind::Normal),
     })
 }
@@ -29,7 +20,7 @@ pub fn normal_tasks(seed: u64, count: usize) -> impl Iterator<Item = Task> {
 pub fn edge_tasks(rng: &mut Rng) -> Vec<Task> {
     let mut tasks = Vec::new();
     for _ in 0..150 {
-        tasks.push(normal_form(&at_value_limit(rng)));
+        tasks.push(at_value_limit(rng).normal());
         tasks.push(large_values(rng));
         tasks.push(steep(rng));
     }
@@ -52,7 +43,7 @@ pub fn wave_tasks(rng: &mut Rng) -> Vec<Task> {
         tasks.push(waves(rng, Kind::Normal, variables, gates));
     }
     for (variables, gates) in [(16, 63), (16, 30), (5, 60)] {
-        tasks.push(normal_form(&waves(rng, Kind::Written, variables, gates)));
+        tasks.push(waves(rng, Kind::Written, variables, gates).normal());
     }
     tasks
 }

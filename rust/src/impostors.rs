@@ -1,0 +1,180 @@
+//! Engines that do one thing otherwise than the reference, to test that comparisons find them.
+
+use crate::answer::{Reason, Refusal};
+use crate::call::CallKind;
+use crate::engine::{Calls, REFERENCE};
+use crate::reference::{block, decide, normalise, plan, read, step};
+
+/// The reference, with listings made of its other calls.
+pub const HONEST: Calls = Calls {
+    listing: Calls::NONE.listing,
+    ..REFERENCE
+};
+
+pub struct Impostor {
+    /// What it does.
+    pub trick: &'static str,
+    pub engine: Calls,
+    /// The calls whose outcomes show it.
+    pub kinds: &'static [CallKind],
+}
+
+pub const IMPOSTORS: [Impostor; 12] = [
+    Impostor {
+        trick: "every count is 1",
+        engine: Calls {
+            plan: |table, state, layers, out| {
+                let plan = plan(table, state, layers, out)?;
+                for record in out.chunks_exact_mut(10).take(plan.records as usize) {
+                    record[2..].copy_from_slice(&1_u64.to_be_bytes());
+                }
+                Ok(plan)
+            },
+            ..HONEST
+        },
+        kinds: &[CallKind::Plan, CallKind::Listing],
+    },
+    Impostor {
+        trick: "no records",
+        engine: Calls {
+            plan: |table, state, layers, out| {
+                let mut plan = plan(table, state, layers, out)?;
+                plan.records = 0;
+                Ok(plan)
+            },
+            ..HONEST
+        },
+        kinds: &[CallKind::Plan, CallKind::Listing],
+    },
+    Impostor {
+        trick: "no first moves",
+        engine: Calls {
+            plan: |table, state, layers, out| {
+                let mut plan = plan(table, state, layers, out)?;
+                plan.first = 0;
+                Ok(plan)
+            },
+            ..HONEST
+        },
+        kinds: &[CallKind::Plan],
+    },
+    Impostor {
+        trick: "layers are 0",
+        engine: Calls {
+            decide: |table, state, layers| {
+                let mut decision = decide(table, state, layers)?;
+                decision.layers = 0;
+                Ok(decision)
+            },
+            plan: |table, state, layers, out| {
+                let mut plan = plan(table, state, layers, out)?;
+                plan.layers = 0;
+                Ok(plan)
+            },
+            ..HONEST
+        },
+        kinds: &[CallKind::Decide, CallKind::Plan, CallKind::Listing],
+    },
+    Impostor {
+        trick: "all blocks are refused",
+        engine: Calls {
+            block: |_, _| Err(Reason::NoSuchBlock.at(0)),
+            ..HONEST
+        },
+        kinds: &[CallKind::Block],
+    },
+    Impostor {
+        trick: "blocks are copied",
+        engine: Calls {
+            block: |table, b| block(table, b).map(|part| &*part.to_vec().leak()),
+            ..HONEST
+        },
+        kinds: &[CallKind::Block],
+    },
+    Impostor {
+        trick: "the normal form is the table",
+        engine: Calls {
+            normalise: |table, out| {
+                normalise(table, out)?;
+                out[..table.len()].copy_from_slice(table);
+                Ok(table.len())
+            },
+            ..HONEST
+        },
+        kinds: &[CallKind::Normalise, CallKind::Listing],
+    },
+    Impostor {
+        trick: "a step keeps the state",
+        engine: Calls {
+            step: |table, state, mv, out| {
+                let length = step(table, state, mv, out)?;
+                out[..length].copy_from_slice(state);
+                Ok(length)
+            },
+            ..HONEST
+        },
+        kinds: &[CallKind::Step],
+    },
+    Impostor {
+        trick: "bytes behind the result are written",
+        engine: Calls {
+            normalise: |table, out| {
+                let length = normalise(table, out)?;
+                out[length..].fill(0);
+                Ok(length)
+            },
+            step: |table, state, mv, out| {
+                let length = step(table, state, mv, out)?;
+                out[length..].fill(0);
+                Ok(length)
+            },
+            plan: |table, state, layers, out| {
+                let plan = plan(table, state, layers, out)?;
+                out[10 * plan.records as usize..].fill(0);
+                Ok(plan)
+            },
+            ..HONEST
+        },
+        kinds: &[CallKind::Normalise, CallKind::Step, CallKind::Plan],
+    },
+    Impostor {
+        trick: "a refusal writes the output",
+        engine: Calls {
+            normalise: |table, out| normalise(table, out).inspect_err(|_| out.fill(0)),
+            step: |table, state, mv, out| step(table, state, mv, out).inspect_err(|_| out.fill(0)),
+            plan: |table, state, layers, out| {
+                plan(table, state, layers, out).inspect_err(|_| out.fill(0))
+            },
+            ..HONEST
+        },
+        kinds: &[CallKind::Normalise, CallKind::Step, CallKind::Plan],
+    },
+    Impostor {
+        trick: "the number behind the layers is written",
+        engine: Calls {
+            decide: |table, state, layers| {
+                let decision = decide(table, state, layers)?;
+                if let Some(last) = layers.last_mut().filter(|last| **last < -999) {
+                    *last = 0;
+                }
+                Ok(decision)
+            },
+            ..HONEST
+        },
+        kinds: &[CallKind::Decide],
+    },
+    Impostor {
+        trick: "every place is 0",
+        engine: Calls {
+            read: |table| read(table).map_err(at_0),
+            decide: |table, state, layers| decide(table, state, layers).map_err(at_0),
+            plan: |table, state, layers, out| plan(table, state, layers, out).map_err(at_0),
+            ..HONEST
+        },
+        kinds: &[CallKind::Read, CallKind::Decide, CallKind::Plan],
+    },
+];
+
+fn at_0(refusal: Refusal) -> Refusal {
+    refusal.reason.at(0)
+}
