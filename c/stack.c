@@ -1,51 +1,43 @@
 /* Measures the stack that each call needs: runs it on a stack painted beforehand, and finds how far the paint is gone.
  * What a call reserves below the last byte that it writes does not show.
  *
- * Prints one line a call: its name and bytes, the largest of several inputs. With PLANNING the calls that are exported
- * for tests are measured too.
- * Exit status: 0, or 1 if the painted stack was too small.
+ * usage: stack FOLDER..
+ *
+ * Measured on the campaign of each folder (task.bin, state.bin), on a deep one, and on each of them with a byte cut off its
+ * tables. Prints one line a call: its name and the largest number of bytes. With PLANNING the calls that are exported for
+ * tests are measured too.
+ * Exit status: 0; 1 if the painted stack was too small; 2 if a file is missing or a campaign is refused.
  */
 #define _XOPEN_SOURCE 700
 #include "lapyndo.h"
 
+#include <stdbool.h>
 #include <stdio.h>
 #include <string.h>
 #include <ucontext.h>
 
-enum { STACK_BYTES = 1 << 20, PAINT = 0x5A };
+enum { STACK_BYTES = 1 << 16, PAINT = 0x5A, DEPTH = 64, LAYER_NUMBERS = 8192 };
 
-static const uint8_t written[] = {
-    0x54, 1,    2,    3,                                                                     /* head */
-    0x41, 0x46, 1,    0,    0,    0,    0,    5,                                             /* v0 += 5 */
-    0x41, 0x57, 0,    0,    1,    0x43, 0,    0,    0,    0,    3,                           /* v0 >= 3: */
-    0x46, 1,    1,    0,    0,    0,    2,    0x46, 2,    0,    0,    0,    0,    3,         /* v1 += 2, v0 -= 3 */
-    0x41, 0x57, 0,    0,    1,    0x43, 0,    0,    0,    0,    10,   0x2B, 0,               /* v0 >= 10: adds p0 */
-    0x47, 0x50, 0,    0x57, 1,    0,    1,    0x43, 0,    0,    0,    0,    7,    0x45,      /* p0, v1 >= 7 */
-};
-static const uint8_t start[9];
+/* The campaign that is measured. */
+static uint8_t written[LAPYNDO_WRITTEN_BYTES], normal[LAPYNDO_NORMAL_BYTES], state[LAPYNDO_STATE_BYTES];
+static size_t written_len, normal_len, state_len;
 
-static uint8_t normal[LAPYNDO_NORMAL_BYTES];
-static size_t normal_len;
 static uint8_t out[LAPYNDO_NORMAL_BYTES];
+
+/* Which move or block, and how much of the output is lent. */
+static uint64_t number;
+static size_t room;
 
 static void nothing(void) {}
 
 static void call_read(void) {
-    lapyndo_read(written, sizeof written);
+    lapyndo_read(written, written_len);
     lapyndo_read(normal, normal_len);
-    lapyndo_read(written, sizeof written - 1);
 }
 
-static void call_normalise(void) {
-    lapyndo_normalise(written, sizeof written, out, sizeof out);
-    lapyndo_normalise(written, sizeof written, out, 1);
-}
+static void call_normalise(void) { lapyndo_normalise(written, written_len, out, room); }
 
-static void call_step(void) {
-    for (uint64_t move = 0; move < 4; move++) {
-        lapyndo_step(written, sizeof written, start, sizeof start, move, out, sizeof out);
-    }
-}
+static void call_step(void) { lapyndo_step(written, written_len, state, state_len, number, out, room); }
 
 #ifdef PLANNING
 uint64_t lapyndo_block(const uint8_t *table, size_t table_len, uint64_t block, uint8_t *out, size_t out_len);
@@ -54,17 +46,30 @@ uint64_t lapyndo_decide(const uint8_t *table, size_t table_len, const uint8_t *s
 uint64_t lapyndo_plan(const uint8_t *table, size_t table_len, const uint8_t *state, size_t state_len, int64_t *layers,
                       size_t layers_len, uint8_t *out, size_t out_len, uint64_t *records, uint64_t *first_moves);
 
-static int64_t layers[100];
+static int64_t layers[LAYER_NUMBERS];
 
-static void call_block(void) { lapyndo_block(normal, normal_len, 3, out, sizeof out); }
+static void call_block(void) { lapyndo_block(normal, normal_len, number, out, room); }
 
-static void call_decide(void) { lapyndo_decide(normal, normal_len, start, sizeof start, layers, 100); }
+static void call_decide(void) { lapyndo_decide(normal, normal_len, state, state_len, layers, LAYER_NUMBERS); }
 
 static void call_plan(void) {
     static uint64_t records, first_moves;
-    lapyndo_plan(normal, normal_len, start, sizeof start, layers, 100, out, sizeof out, &records, &first_moves);
+    lapyndo_plan(normal, normal_len, state, state_len, layers, LAYER_NUMBERS, out, room, &records, &first_moves);
 }
 #endif
+
+static struct {
+    const char *name;
+    void (*run)(void);
+    size_t most;
+} calls[] = {
+    {"read", call_read, 0},   {"normalise", call_normalise, 0}, {"step", call_step, 0},
+#ifdef PLANNING
+    {"block", call_block, 0}, {"decide", call_decide, 0},       {"plan", call_plan, 0},
+#endif
+};
+
+enum { CALLS = sizeof calls / sizeof calls[0] };
 
 static _Alignas(64) uint8_t stack[STACK_BYTES];
 static ucontext_t here, there;
@@ -89,28 +94,89 @@ static size_t used_by(void (*function)(void)) {
     return sizeof stack - untouched;
 }
 
-static int overflowed;
-
-/* Prints what a call needs beyond a function that does nothing. */
-static void report(const char *name, void (*function)(void)) {
-    size_t used = used_by(function);
-    if (used == sizeof stack) {
-        printf("%-9s the painted stack is too small\n", name);
-        overflowed = 1;
-        return;
+/* Measures every call on the campaign, with all that it may be given beside it. */
+static void measure(void) {
+    for (size_t i = 0; i < CALLS; i++) {
+        for (number = 0; number <= DEPTH + 1; number++) {
+            for (room = 0; room <= sizeof out; room += sizeof out) {
+                size_t used = used_by(calls[i].run);
+                calls[i].most = used > calls[i].most ? used : calls[i].most;
+            }
+        }
     }
-    printf("%-9s %6zu bytes of stack\n", name, used - used_by(nothing));
 }
 
-int main(void) {
-    normal_len = lapyndo_length(lapyndo_normalise(written, sizeof written, normal, sizeof normal));
-    report("read", call_read);
-    report("normalise", call_normalise);
-    report("step", call_step);
-#ifdef PLANNING
-    report("block", call_block);
-    report("decide", call_decide);
-    report("plan", call_plan);
-#endif
-    return overflowed;
+/* Measures every call on an accepted campaign, then on the same with a byte cut off each table. */
+static bool measure_whole_and_cut(void) {
+    uint64_t answer = lapyndo_normalise(written, written_len, normal, sizeof normal);
+    if (lapyndo_refusal(answer) != 0) {
+        return false;
+    }
+    normal_len = lapyndo_length(answer);
+    measure();
+    written_len--;
+    normal_len--;
+    measure();
+    return true;
+}
+
+static bool load(const char *folder, const char *name, uint8_t *memory, size_t room, size_t *length) {
+    char path[4096];
+    snprintf(path, sizeof path, "%s/%s", folder, name);
+    FILE *file = fopen(path, "rb");
+    if (file == NULL) {
+        perror(path);
+        return false;
+    }
+    *length = fread(memory, 1, room, file);
+    fclose(file);
+    return true;
+}
+
+static void put(const uint8_t *bytes, size_t length) {
+    memcpy(written + written_len, bytes, length);
+    written_len += length;
+}
+
+/* DEPTH moves, each of which needs what the one before it adds and raises a variable. The goal wants the last
+ * proposition and a value above what one move gives. */
+static void make_deep(void) {
+    const uint8_t head[] = {LAPYNDO_WRITTEN, DEPTH + 1, 16, DEPTH};
+    const uint8_t goal[] = {0x47, 0x50, DEPTH, 0x57, 0, 0, 1, 0x43, 0, 0, 0, 0, 100, 0x45};
+    written_len = 0;
+    put(head, sizeof head);
+    for (uint8_t i = 0; i < DEPTH; i++) {
+        const uint8_t move[] = {0x41, 0x50, i, 0x2B, i + 1, 0x46, 1, i % 16, 0, 0, 0, 1};
+        put(move, sizeof move);
+    }
+    put(goal, sizeof goal);
+    memset(state, 0, sizeof state);
+    state[0] = 1;
+    state_len = DEPTH + 1 + 4 * 16;
+}
+
+/* Prints what each call needs beyond a function that does nothing. */
+static int report(void) {
+    size_t none = used_by(nothing);
+    int status = 0;
+    for (size_t i = 0; i < CALLS; i++) {
+        if (calls[i].most == sizeof stack) {
+            printf("%-9s the painted stack is too small\n", calls[i].name);
+            status = 1;
+        } else {
+            printf("%-9s %6zu bytes of stack\n", calls[i].name, calls[i].most - none);
+        }
+    }
+    return status;
+}
+
+int main(int argc, char **argv) {
+    bool accepted = true;
+    for (int i = 1; i < argc; i++) {
+        accepted = accepted && load(argv[i], "task.bin", written, sizeof written, &written_len) &&
+                   load(argv[i], "state.bin", state, sizeof state, &state_len) && measure_whole_and_cut();
+    }
+    make_deep();
+    accepted = accepted && measure_whole_and_cut();
+    return accepted ? report() : 2;
 }
