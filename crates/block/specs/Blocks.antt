@@ -5,22 +5,20 @@ use native.Mathlib.Omega.{arith}
 use mathlib.Core.Path.{_≡_, refl, sym, ap, _∙_, subst}
 use mathlib.Core.Bool.{Bool, true, false, _&&_, _||_}
 use mathlib.Core.List.{List, [], _∷_}
-use mathlib.Core.Option.{Option, none, some}
+use mathlib.Core.Option.{some}
 use borrow.Author.Tests.{eq-eqb, ne-eqb}
 use lib.Dec.{eqb}
 use lib.IntN.{ℤ, natAbs, _+ℤ_}
 use lib.ListN.{length, getD}
 use Rattle.model.specs.Lists.{all, any}
-use Rattle.model.specs.Task.{Term, Comparison, Condition, Effect, Item, need, add, delete, condition, effect, Block, isAdd, isDelete, adds, deletes, effectOn}
+use Rattle.model.specs.Task.{Term, Comparison, Condition, Effect, Item, need, add, delete, condition, effect, Block, effectOn}
 use Rattle.model.specs.Command.{comparisonCode}
 use Rattle.model.specs.Move.{State, sum, compares, holds, applicable, value}
 use Rattle.model.specs.Layer.{Value, finite, Layer, plus, layerSum, reaches, holdsIn, usable, layerValue}
-use Rattle.block.specs.Items.{Ranges, Left, Terms, Followed, ConditionIs, EffectIs, EffectFound, Found, Moves, Next, bound-small, base-small}
+use Rattle.block.specs.Items.{Ranges, Left, Terms, Followed, ConditionIs, EffectIs, Found, Moves, Next, bound-small, base-small}
 use Rattle.block.specs.Sums.{Row, Summable, LayerRow, Encoded, LayerSummable, IsValue, IsLayerValue}
 use Rattle.block.specs.declared.ItemAt.{ItemAt}
 use Rattle.block.specs.declared.ItemAt.the-variants.{Need, Add, Delete, Condition as ConditionAt, Effect as EffectAt, End}
-use Rattle.block.specs.declared.Change.{Change}
-use Rattle.block.specs.declared.Change.the-variants.{By, Nothing}
 
 -- ---- a walk over the items of a part
 
@@ -51,14 +49,10 @@ pub next-is : {part : List ℕ} {at : ℕ} {r x : ItemAt} → Next part at r →
 next-is {part} {at} n e = subst (Next part at) e n
 
 -- The walk over a whole block, in every reading of the part: g is a question about the block, asked over whatever `over` says
--- that the caller's memories hold (a state, a layer; nothing). At the offset, the items that are left give its answer.
+-- that the caller's memories hold (a state, a layer). At the offset, the items that are left give its answer.
 pub record Walk {I X : Type 0} (part : List ℕ) (over : Ranges → I → Type 0) (g : I → Block → X) (at : ℕ) : Type 0 where
   pub within : at ≤ length part
   pub reading : (k : Ranges) (b : Block) (s : I) → Left k part 1 b → over k s → Reading k part (g s b) (g s) at
-
--- nothing is asked of the caller's memories
-abbrev pub Always : Ranges → Unit {0} → Type 0
-Always k s = Unit {0}
 
 -- the item at the offset does not change the answer
 abbrev pub Passing : {I X : Type 0} → List ℕ → (Ranges → I → Type 0) → (I → Block → X) → ItemAt → Type 0
@@ -163,28 +157,6 @@ module _ {A : Type 0} (f : A → Bool) where
   pub any-false : {x : A} → f x ≡ false → (xs : List A) → any f (x ∷ xs) ≡ any f xs
   unfolding any
   any-false e xs = ap (λ (t : Bool). t || any f xs) e
-
-module _ (p : ℕ) where
-  pub adds-here : {q : ℕ} → q ≡ p → (b : Block) → adds p (add q ∷ b) ≡ true
-  unfolding adds isAdd
-  adds-here {q} e b = any-true (isAdd p) {x = add q} (eq-eqb q p e) b
-
-  -- an item that does not add p: `refl` under `unfolding isAdd`, or `ne-eqb` for an add of another
-  pub adds-past : (i : Item) → isAdd p i ≡ false → (b : Block) → adds p (i ∷ b) ≡ adds p b
-  unfolding adds
-  adds-past i e b = any-false (isAdd p) e b
-
-  pub deletes-here : {q : ℕ} → q ≡ p → (b : Block) → deletes p (delete q ∷ b) ≡ true
-  unfolding deletes isDelete
-  deletes-here {q} e b = any-true (isDelete p) {x = delete q} (eq-eqb q p e) b
-
-  pub deletes-past : (i : Item) → isDelete p i ≡ false → (b : Block) → deletes p (i ∷ b) ≡ deletes p b
-  unfolding deletes
-  deletes-past i e b = any-false (isDelete p) e b
-
-  -- t says whether the block of the part adds p, in every reading
-  pub record IsAdds (part : List ℕ) (t : Bool) : Type 0 where
-    pub is : (k : Ranges) (b : Block) → Left k part 1 b → t ≡ adds p b
 
 -- ---- a block over a state
 
@@ -320,18 +292,6 @@ module _ (l : Layer) {k : Ranges} {part : List ℕ} {from n : ℕ} {layer : List
 
 -- ---- the block's effect on a variable
 
-pub record EffectBy (k : Ranges) (part : List ℕ) (kd : ℕ) (z : ℤ) (from n : ℕ) (found : Option Effect) : Type 0 where
-  pub it : Effect
-  pub found-it : found ≡ some it
-  pub is : EffectIs k part kd z from n it
-
-abbrev pub Changes : Ranges → List ℕ → Option Effect → Change → Type 0
-Changes k part found (By kd c from n) = EffectBy k part kd c from n found
-Changes k part found Nothing = found ≡ none
-
-pub record IsEffectOn (part : List ℕ) (v : ℕ) (r : Change) : Type 0 where
-  pub is : (k : Ranges) (b : Block) → Left k part 1 b → Changes k part (effectOn v b) r
-
 module _ (v : ℕ) (e : Effect) where
   pub effectOn-here : e .var ≡ v → (b : Block) → effectOn v (effect e ∷ b) ≡ some e
   unfolding effectOn
@@ -340,16 +300,3 @@ module _ (v : ℕ) (e : Effect) where
   pub effectOn-other : (e .var ≡ v → ⊥) → (b : Block) → effectOn v (effect e ∷ b) ≡ effectOn v b
   unfolding effectOn
   effectOn-other p b = rw (ne-eqb (e .var) v p, effectOn) refl
-
--- the effect that is looked for
-pub effectOn-found :
-    {k : Ranges} {part : List ℕ} {v : ℕ} {whole : Option Effect} {at : ℕ} {kd u : ℕ} {z : ℤ} {from n after : ℕ} (r : Reading k part whole (effectOn v) at)
-    → EffectFound k part kd u z from n after (r .rest)
-    → u ≡ v
-    → EffectBy k part kd z from n whole
-effectOn-found {v} r f e =
-    record {
-      it = f .it;
-      found-it = sym (reading-stop r (f .followed) (effectOn-here v (f .it) (f .var ∙ e)));
-      is = f .is;
-    }

@@ -4,3 +4,4 @@ pub mod Bytes
 pub mod Items
 pub mod Sums
 pub mod Blocks
+pub mod Parts

@@ -12,7 +12,7 @@ ghost use Rattle.model.specs.Layer.{Value, reaches};
 ghost use Rattle.model.specs.Memory.{encode};
 ghost use Rattle.block.specs.Items.{Ranges, Left, Readable, Closed, Closable, Next, Moves, Found, TermAt, IsVariable, IsWeight, IsScaled};
 ghost use Rattle.block.specs.Sums.{Summable, IsSum, IsValue, LayerSummable, IsLayerSum, IsLayerValue, isMark};
-ghost use Rattle.block.specs.Blocks.{Testable, IsTest, IsApplicable, LayerTestable, IsLayerTest, IsUsable, IsEffectOn, IsAdds};
+ghost use Rattle.block.specs.Blocks.{Testable, IsTest, IsApplicable, LayerTestable, IsLayerTest, IsUsable};
 
 // One item, with the offset behind it. The terms of a condition's or an effect's sum stand from `from` on.
 pub enum ItemAt {
@@ -44,17 +44,6 @@ pub enum ItemAt {
         after: usize,
     },
     End,
-}
-
-// What a block does to a variable.
-pub enum Change {
-    By {
-        kind: u8,
-        base: i64,
-        from: usize,
-        terms: usize,
-    },
-    Nothing,
 }
 
 fn index(x: u8) -> usize
@@ -348,103 +337,6 @@ pub fn usable(part: &[u8], has: &[bool], layer: &[i64]) -> bool
             }
             ItemAt::End => {
                 return true;
-            }
-        }
-    }
-}
-
-// The block's effect on the variable `v`.
-pub fn effect_on(part: &[u8], v: usize) -> Change
-    requires { ⌜ Readable (now part) 1 ⌝ }
-    ensures { λ r. ⌜ IsEffectOn (now (part .entry)) v r ⌝ }
-{
-    let mut at = 1;
-    loop {
-        match next(part, at) {
-            ItemAt::Effect {
-                kind,
-                var,
-                base,
-                from,
-                terms,
-                after,
-            } => {
-                if var == v {
-                    return Change::By {
-                        kind,
-                        base,
-                        from,
-                        terms,
-                    };
-                }
-                at = after;
-            }
-            ItemAt::Need { prop: _, after } => {
-                at = after;
-            }
-            ItemAt::Add { prop: _, after } => {
-                at = after;
-            }
-            ItemAt::Delete { prop: _, after } => {
-                at = after;
-            }
-            ItemAt::Condition {
-                comparison: _,
-                bound: _,
-                from: _,
-                terms: _,
-                after,
-            } => {
-                at = after;
-            }
-            ItemAt::End => {
-                return Change::Nothing;
-            }
-        }
-    }
-}
-
-// Does the block add the proposition `p`?
-pub fn adds(part: &[u8], p: usize) -> bool
-    requires { ⌜ Readable (now part) 1 ⌝ }
-    ensures { λ r. ⌜ IsAdds p (now (part .entry)) r ⌝ }
-{
-    let mut at = 1;
-    loop {
-        match next(part, at) {
-            ItemAt::Add { prop, after } => {
-                if prop == p {
-                    return true;
-                }
-                at = after;
-            }
-            ItemAt::Need { prop: _, after } => {
-                at = after;
-            }
-            ItemAt::Delete { prop: _, after } => {
-                at = after;
-            }
-            ItemAt::Condition {
-                comparison: _,
-                bound: _,
-                from: _,
-                terms: _,
-                after,
-            } => {
-                at = after;
-            }
-            ItemAt::Effect {
-                kind: _,
-                var: _,
-                base: _,
-                from: _,
-                terms: _,
-                after,
-            } => {
-                at = after;
-            }
-            ItemAt::End => {
-                return false;
             }
         }
     }

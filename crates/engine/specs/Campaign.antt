@@ -2,8 +2,7 @@
 -- Assumes nothing.
 use Prim.Native.Nat.{ℕ, _+_, _≤_}
 use mathlib.Core.Path.{_≡_, refl, sym, ap, subst, _∙_}
-use mathlib.Core.List.{List, [], _∷_, _++_}
-use mathlib.Core.Option.{Option, none, some}
+use mathlib.Core.List.{List, _++_}
 use lib.IntN.{ℤ}
 use native.Mathlib.Omega.{arith}
 use lib.ListN.{length, take, drop, length-append}
@@ -18,7 +17,6 @@ use Rattle.model.specs.declared.DecideAnswer.the-variants as decide
 use Rattle.model.specs.declared.PlanAnswer.{PlanAnswer}
 use Rattle.model.specs.declared.PlanAnswer.the-variants as plan
 use Rattle.model.specs.Limits.{paper}
-use Rattle.model.specs.Reading.{Table}
 use Rattle.model.specs.Calls.{Output, writes, turns, writeAnswer, outputAfter, normalBytes, normalised, normaliseAnswer, normaliseOut, decideAnswer, decideMemory, planAnswer, planMemory, planOut}
 use Rattle.model.specs.Theorems.Demand3.{Given, Answers, normalPart, normalise-writes, normalise-leaves, decideLayers, planLayers}
 use Rattle.model.specs.Theorems.EndToEnd.{demand3, LayersWithin, decide-within, plan-within}

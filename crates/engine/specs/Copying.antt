@@ -1,11 +1,11 @@
 -- A copy of the first elements of one list over another: the steps of the loop that makes it.
 -- Assumes nothing.
 use Prim.Native.Nat.{ℕ, suc, _≤_, _<_}
-use mathlib.Core.Path.{_≡_, refl, sym, ap, ap₂, _∙_}
-use mathlib.Core.List.{List, [], _∷_, _++_}
+use mathlib.Core.Path.{_≡_, refl, sym, ap, _∙_}
+use mathlib.Core.List.{List, _++_}
 use native.Mathlib.Omega.{arith}
 use lib.ListN.{length, take, drop, set, getD, length-append, length-drop}
-use lib.Seq.{length-take-le, take-suc, drop-cons, append-snoc, set-at, take-all, drop-append-seam}
+use lib.Seq.{length-take-le, take-suc, drop-cons, append-snoc, set-at, take-all}
 use Rattle.model.specs.Memory.{overwrite}
 use Rattle.model.specs.Exports.{blockCopy}
 

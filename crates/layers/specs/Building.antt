@@ -27,10 +27,12 @@ use Rattle.model.specs.Theorems.Layers.{layer-rises, move-ok}
 use Rattle.model.specs.Theorems.Answer.{Passed}
 use Rattle.model.specs.Theorems.Bound.{layers-bound}
 use Rattle.model.specs.Theorems.Memories.{Holds, size, holds-memory}
+use Rattle.table.specs.Outlines.{Outline}
+use Rattle.block.specs.Parts.{rangesOf}
 use Rattle.block.specs.Blocks.{LayerState}
 use Rattle.layers.specs.Comparing.{sameTruth, notAbove, withinAt}
 use Rattle.layers.specs.Raising.{Truths, Values, most, row-values}
-use Rattle.layers.specs.Stepping.{Outlined, rangesOf, IsMet, GoalTestable, Steppable, UsedIn, Stepped}
+use Rattle.layers.specs.Stepping.{IsMet, GoalTestable, Steppable, UsedIn, Stepped}
 use Rattle.layers.specs.Checks.{same-layer, within-layer, small-row}
 use Rattle.layers.specs.Answers.{Unrefused, passed-next, unrefused-next, room-there, room-missing, built-reached, built-exhausted, built-large, built-short}
 use Rattle.layers.specs.Storing.{NotesMoves, StoresLayer}
@@ -58,7 +60,7 @@ pub record Layered (k : Task) (s : State) (old : List ℤ) (t : ℕ) (mem : List
   pub unrefused : Unrefused k s (length old) (suc t)
   pub holds : Holds k s (suc t) t old mem
   pub room : size k s (suc t) ≤ length old
-  pub state : LayerState (rangesOf k) has row (layerAt k s t)
+  pub state : LayerState (rangesOf normal k) has row (layerAt k s t)
 
 -- what stands in the arrays after the step from layer t
 pub record Turned (k : Task) (s : State) (t : ℕ) (flags : List Bool) (values : List ℤ) (used : List Bool) : Type 0 where
@@ -87,7 +89,7 @@ rises : (k : Task) (s : State) (t v : ℕ) → layerAt k s t .val v ⊑ layerAt 
 unfolding layerAt
 rises k s t v = layer-rises (k .moves) s t .val v
 
-state-truths : (k : Task) {has : List Bool} {row : List ℤ} {l : Layer} → LayerState (rangesOf k) has row l → Truths (k .props) has (l .has)
+state-truths : (k : Task) {has : List Bool} {row : List ℤ} {l : Layer} → LayerState (rangesOf normal k) has row l → Truths (k .props) has (l .has)
 state-truths k w = record { long = w .long; same = w .has }
 
 pub built-by : {k : Task} {s : State} {old mem : List ℤ} {r : BuiltAnswer} (b : Built) (new : List ℤ) → build paper k s (length old) ≡ b → builtOf r ≡ b → builtMemory k s b ≡ new → mem ≡ overwrite new old → IsBuilt k s old mem r
@@ -238,7 +240,7 @@ pub record Growable (table marks : List ℕ) (props vars moves : ℕ) (has : Lis
   pub task : Task
   pub start : State
   pub old : List ℤ
-  pub outlined : Outlined table marks task
+  pub outlined : Outline normal table marks task
   pub counts : Counts task props vars moves
   pub layered : Layered task start old 0 mem has row
   pub has-long : length has ≡ 120
@@ -246,7 +248,7 @@ pub record Growable (table marks : List ℕ) (props vars moves : ℕ) (has : Lis
 
 -- what it ends with, in every reading
 pub record Grown (table marks : List ℕ) (props vars moves : ℕ) (has : List Bool) (row mem mem′ : List ℤ) (r : BuiltAnswer) : Type 0 where
-  pub is : (k : Task) (s : State) (old : List ℤ) → Outlined table marks k → Counts k props vars moves → Layered k s old 0 mem has row → IsBuilt k s old mem′ r
+  pub is : (k : Task) (s : State) (old : List ℤ) → Outline normal table marks k → Counts k props vars moves → Layered k s old 0 mem has row → IsBuilt k s old mem′ r
 
 -- layer t is the last one, and the moves marked as used are usable in it
 pub record Grows (k : Task) (s : State) (old : List ℤ) (t : ℕ) (mem : List ℤ) (has : List Bool) (row : List ℤ) (used : List Bool) : Type 0 where
@@ -257,9 +259,9 @@ pub record Grows (k : Task) (s : State) (old : List ℤ) (t : ℕ) (mem : List �
 pub record Growing (table marks : List ℕ) (props vars moves : ℕ) (has₀ : List Bool) (row₀ mem₀ : List ℤ) (t : ℕ) (has : List Bool) (row : List ℤ) (used : List Bool) (mem : List ℤ) (end : ℕ) : Type 0 where
   pub end-is : end ≡ props + moves + vars * suc t
   pub same-length : length mem ≡ length mem₀
-  pub is : (k : Task) (s : State) (old : List ℤ) → Outlined table marks k → Counts k props vars moves → Layered k s old 0 mem₀ has₀ row₀ → Grows k s old t mem has row used
+  pub is : (k : Task) (s : State) (old : List ℤ) → Outline normal table marks k → Counts k props vars moves → Layered k s old 0 mem₀ has₀ row₀ → Grows k s old t mem has row used
 
-module _ {table marks : List ℕ} {props vars moves : ℕ} {k : Task} {s : State} {old : List ℤ} {t : ℕ} {mem : List ℤ} {has : List Bool} {row : List ℤ} (o : Outlined table marks k) (c : Counts k props vars moves) (a : Layered k s old t mem has row) where
+module _ {table marks : List ℕ} {props vars moves : ℕ} {k : Task} {s : State} {old : List ℤ} {t : ℕ} {mem : List ℤ} {has : List Bool} {row : List ℤ} (o : Outline normal table marks k) (c : Counts k props vars moves) (a : Layered k s old t mem has row) where
   pub goal-testable-at : GoalTestable table marks moves has row
   goal-testable-at = record { task = k; over = layerAt k s t; outlined = o; count = c .moves-is; state = a .state }
 
@@ -395,7 +397,7 @@ module _ {table marks : List ℕ} {props vars moves : ℕ} {has₀ : List Bool} 
       {t : ℕ} {has : List Bool} {row : List ℤ} {used : List Bool} {mem : List ℤ} {end : ℕ} {has′ : List Bool} {row′ : List ℤ} {used′ : List Bool} {mem′ : List ℤ}
       → Growing table marks props vars moves has₀ row₀ mem₀ t has row used mem end
       → length mem′ ≡ length mem
-      → ((k : Task) (s : State) (old : List ℤ) → Outlined table marks k → Counts k props vars moves → Grows k s old t mem has row used → Grows k s old (suc t) mem′ has′ row′ used′)
+      → ((k : Task) (s : State) (old : List ℤ) → Outline normal table marks k → Counts k props vars moves → Grows k s old t mem has row used → Grows k s old (suc t) mem′ has′ row′ used′)
       → Growing table marks props vars moves has₀ row₀ mem₀ (t + 1) has′ row′ used′ mem′ (end + vars)
   growing-next {t} {has′} {row′} {used′} {mem′} g l f =
       record {

@@ -16,7 +16,7 @@ use Rattle.model.specs.Memory.{encode, tooLarge}
 use Rattle.model.specs.Theorems.Booleans.{T-true, true-T}
 use Rattle.model.specs.Theorems.Order.{_⊑_, ⊑-finite}
 use Rattle.model.specs.Theorems.Searching.{allBelow-at}
-use Rattle.block.specs.Sums.{Sized, Encoded, LayerRow, isMark}
+use Rattle.block.specs.Sums.{Sized, Encoded, LayerRow, isMark, encoded-more}
 use Rattle.layers.specs.Comparing.{sameTruth, notAbove, withinLimit, withinAt}
 use Rattle.layers.specs.Raising.{Truths, Values, most}
 
@@ -63,7 +63,7 @@ same-layer {props} {vars} {has} {flags} {row} {next} {l} {m} a b r q up =
     (allBelow-same (notAbove row next) (λ v. sameValue (l .val v) (m .val v)) vars (λ v h. same-value (omega arith) (widened v h) (q .each v h) (up v)))
   where
     widened : (v : ℕ) → v < vars → Encoded most (l .val v) (getD row v (pos 0))
-    widened v h = Rattle.layers.specs.Raising.encoded-more (omega arith) (r .each v h)
+    widened v h = encoded-more (omega arith) (r .each v h)
 
 -- ---- "15 | a finite value above 1,000,000,000,000"
 

@@ -2,7 +2,7 @@
 -- Assumes nothing.
 use Prim.Native.Nat.{ℕ, _≤_, _<_}
 use native.Mathlib.Omega.{arith}
-use mathlib.Core.Path.{_≡_, refl, sym, ap, ap₂, _∙_, subst}
+use mathlib.Core.Path.{_≡_, refl, sym, ap, _∙_, subst}
 use mathlib.Core.Bool.{Bool, true, false, cond, not, _||_}
 use mathlib.Core.List.{List, [], _∷_}
 use mathlib.Core.Option.{Option, none, some}
@@ -11,9 +11,8 @@ use lib.Dec.{T, eqb}
 use lib.IntN.{ℤ, pos, natAbs}
 use lib.ListN.{length, getD, set, length-set}
 use lib.Seq.{getD-set-same, getD-set-other, set-getD}
-use lib.Signed.{_≤ℤ_}
 use native.Mathlib.Decide.{ℕ-discrete}
-use Rattle.integer.specs.Linear.{zlin, natAbs-split, larger, larger-size, larger-is-left, larger-is-right, larger-same}
+use Rattle.integer.specs.Linear.{larger}
 use Rattle.model.specs.Limits.{paper}
 use Rattle.model.specs.Lists.{any}
 use Rattle.model.specs.Task.{Form, normal, Kind, assign, increase, decrease, Effect, Item, need, add, delete, condition, effect, Block, isAdd, adds, effectOn, clashes}
@@ -24,7 +23,7 @@ use Rattle.model.specs.Theorems.WellFormed.{KindOk, Once}
 use Rattle.model.specs.Theorems.Booleans.{true-T, false-not}
 use Rattle.model.specs.Theorems.Order.{_⊑_, ⊑-refl, ⊑-trans, ⊑-antisym, ⊑-unbounded, highest-left, highest-least}
 use Rattle.block.specs.Items.{Ranges, Left, Followed, EffectFound}
-use Rattle.block.specs.Sums.{Sized, Encoded, isMark, mark-yes, LayerRow, LayerSummable, IsLayerValue, sized-more}
+use Rattle.block.specs.Sums.{Encoded, isMark, mark-yes, LayerRow, LayerSummable, IsLayerValue, encoded-more, encoded-highest}
 
 -- ---- arrays that hold a layer's propositions and values
 
@@ -39,9 +38,6 @@ pub record Values (b n : ℕ) (row : List ℤ) (f : ℕ → Value) : Type 0 wher
 -- the size of a finite value in the next layer, before it is checked
 abbrev pub most : ℕ
 most = 8_000_000_001_000_000
-
-pub encoded-more : {b c : ℕ} {x : Value} {z : ℤ} → b ≤ c → Encoded b x z → Encoded c x z
-encoded-more {b} {c} {x} h e = record { is = e .is; size = sized-more b c x h (e .size) }
 
 pub encoded-same : {b : ℕ} {x y : Value} {z : ℤ} → x ≡ y → Encoded b x z → Encoded b y z
 encoded-same {b} {z} e k = subst (λ (x : Value). Encoded b x z) e k
@@ -59,19 +55,6 @@ values-same e t = record { long = t .long; each = λ v k. encoded-same (e v k) (
 -- ---- one value raised
 
 -- the larger of two numbers stands for the higher value
-pub encoded-highest : {b : ℕ} {x y : Value} {z w : ℤ} → b < 9_223_372_036_854_775_807 → Encoded b x z → Encoded b y w → Encoded b (highest x y) (larger z w)
-unfolding encode highest
-encoded-highest {b} {x} {y} {z} {w} small e k = subst (λ (r : ℤ). Encoded b (highest x y) r) (sym (ap₂ larger (e .is) (k .is))) (go x y (e .size) (k .size))
-  where
-    below : (a : ℤ) → natAbs a ≤ b → a ≤ℤ pos 9_223_372_036_854_775_807
-    below a h = omega (zlin, natAbs-split a)
-
-    go : (x y : Value) → Sized b x → Sized b y → Encoded b (highest x y) (larger (encode x) (encode y))
-    go (finite a) (finite c) s t = record { is = refl; size = larger-size a c b s t }
-    go (finite a) unbounded s t = record { is = larger-is-right (below a s); size = tt }
-    go unbounded (finite c) s t = record { is = larger-is-left (below c t); size = tt }
-    go unbounded unbounded s t = record { is = larger-same (pos 9_223_372_036_854_775_807); size = tt }
-
 pub highest-old : {x y : Value} → x ⊑ y → highest y x ≡ y
 highest-old {x} {y} h = ⊑-antisym (highest-least (⊑-refl y) h) (highest-left y x)
 

@@ -10,7 +10,6 @@ use mathlib.Core.Option.{Option}
 use borrow.Author.Tests.{ltb-false}
 use lib.IntN.{ℤ}
 use lib.ListN.{length}
-use Rattle.layers.specs.declared.Built.{Built as BuiltAnswer}
 use Rattle.layers.specs.declared.Built.the-variants as answer
 use Rattle.model.specs.Limits.{paper}
 use Rattle.model.specs.Task.{normal, Task}

@@ -23,13 +23,14 @@ use Rattle.model.specs.Theorems.WellFormed.{TaskOk}
 use Rattle.model.specs.Theorems.Booleans.{not-false, false-not}
 use Rattle.model.specs.Theorems.Searching.{anyBelow-cases}
 use Rattle.model.specs.Theorems.Memories.{Holds, size}
+use Rattle.table.specs.Outlines.{Outline}
+use Rattle.block.specs.Parts.{rangesOf}
 use Rattle.block.specs.Sums.{Encoded}
 use Rattle.block.specs.Blocks.{LayerState}
 use Rattle.state.specs.Overwriting.{written-at}
 use Rattle.state.specs.Checking.{accepted-state}
 use Rattle.state.specs.Loading.{accepted-signed}
 use Rattle.layers.specs.Filling.{Filled, cleared}
-use Rattle.layers.specs.Stepping.{Outlined, rangesOf}
 use Rattle.layers.specs.Answers.{passed-none, unrefused-none, unrefused-next, room-there, room-missing, built-short}
 use Rattle.layers.specs.Storing.{StoresLayer, holds-cleared}
 use Rattle.layers.specs.Building.{Counts, IsBuilt, Layered, builtOf, built-by}
@@ -41,13 +42,13 @@ startOf props bs = normalState (stateOf props bs)
 -- an outlined table with its counts, and an accepted state
 pub record Buildable (table marks : List ℕ) (props vars moves : ℕ) (bs : List ℕ) : Type 0 where
   pub task : Task
-  pub outlined : Outlined table marks task
+  pub outlined : Outline normal table marks task
   pub counts : Counts task props vars moves
   pub accepted : stateRefusal paper props (vars / 2) bs ≡ none
 
 -- what building in a memory ends with, in every reading of the table
 pub record Builds (table marks : List ℕ) (props vars moves : ℕ) (bs : List ℕ) (mem mem′ : List ℤ) (r : BuiltAnswer) : Type 0 where
-  pub is : (k : Task) → Outlined table marks k → Counts k props vars moves → IsBuilt k (startOf props bs) mem mem′ r
+  pub is : (k : Task) → Outline normal table marks k → Counts k props vars moves → IsBuilt k (startOf props bs) mem mem′ r
 
 -- "N even, 0..32"
 pub even-half : {k : Task} → TaskOk paper normal k → 2 * (k .vars / 2) ≡ k .vars
@@ -81,7 +82,7 @@ module _ {k : Task} {props vars moves : ℕ} (ok : TaskOk paper normal k) (n : C
       → vars ≤ length row
       → has ≡ overwrite (tabulate (stateOf props bs .has) 0 props) has₀
       → row ≡ overwrite (tabulate (startOf props bs .val) 0 (2 * (vars / 2))) row₀
-      → LayerState (rangesOf k) has row (layerAt k (startOf props bs) 0)
+      → LayerState (rangesOf normal k) has row (layerAt k (startOf props bs) 0)
   unfolding layerAt layer layerOf normalState encode
   first-layer {has} {row} has₀ row₀ hl rl h r =
       record {
@@ -123,7 +124,7 @@ module _ {k : Task} {props vars moves : ℕ} (ok : TaskOk paper normal k) (n : C
   pub first-stored :
       {old mem mem′ : List ℤ} {has : List Bool} {row : List ℤ}
       → props + moves + vars ≤ length old
-      → LayerState (rangesOf k) has row (layerAt k (startOf props bs) 0)
+      → LayerState (rangesOf normal k) has row (layerAt k (startOf props bs) 0)
       → Filled cleared (props + moves) old mem
       → StoresLayer props vars (props + moves) 0 has row mem mem′
       → Layered k (startOf props bs) old 0 mem′ has row

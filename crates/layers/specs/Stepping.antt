@@ -7,48 +7,20 @@ use mathlib.Core.Path.{_≡_, refl, sym, ap, _∙_, subst}
 use mathlib.Core.Bool.{Bool, true, false, cond, _&&_, _||_}
 use mathlib.Core.List.{List, [], _∷_, _++_}
 use lib.IntN.{ℤ}
-use lib.ListN.{length, getD, set, take, drop, length-set}
+use lib.ListN.{length, getD, set, take, length-set}
 use lib.Seq.{take-suc, take-all, getD-set-same, getD-set-other}
-use Rattle.model.specs.Limits.{paper}
 use Rattle.model.specs.Lists.{any}
 use Rattle.model.specs.Task.{normal, Block, Task, adds, effectOn}
-use Rattle.model.specs.Command.{openMove, openGoal, codeOf, itemsBytes}
 use Rattle.model.specs.Layer.{Value, Layer, highest, usable, offered, gained, raised, next}
-use Rattle.model.specs.Theorems.WellFormed.{Once, TaskOk}
+use Rattle.model.specs.Theorems.WellFormed.{Once}
 use Rattle.model.specs.Theorems.Searching.{below-suc}
 use Rattle.model.specs.Theorems.Order.{_⊑_, highest-comm, highest-assoc}
 use Rattle.model.specs.Theorems.Layers.{raised-old, move-ok}
-use Rattle.block.specs.Items.{Ranges, Left, left-start}
+use Rattle.table.specs.Outlines.{partAt, Outline}
+use Rattle.block.specs.Items.{Ranges, Left}
+use Rattle.block.specs.Parts.{rangesOf, move-left, goal-left}
 use Rattle.block.specs.Blocks.{LayerState, LayerTestable, IsUsable}
 use Rattle.layers.specs.Raising.{Truths, Values, most, truths-same, values-same, highest-old, Appliable, Applied}
-
--- ---- a table with the offsets of its blocks
-
--- the part of block b
-abbrev pub partAt : List ℕ → List ℕ → ℕ → List ℕ
-partAt table marks b = take (getD marks (b + 1) 0 - getD marks b 0) (drop (getD marks b 0) table)
-
--- the table's task, its blocks where the marks say
-pub record Outlined (table marks : List ℕ) (k : Task) : Type 0 where
-  pub ok : TaskOk paper normal k
-  pub long : length (k .moves) + 2 ≤ length marks
-  pub ordered : (b : ℕ) → b ≤ length (k .moves) → getD marks b 0 ≤ getD marks (b + 1) 0
-  pub within : (b : ℕ) → b ≤ length (k .moves) → getD marks (b + 1) 0 ≤ length table
-  pub move : (b : ℕ) → b < length (k .moves) → partAt table marks b ≡ codeOf openMove ∷ itemsBytes (getD (k .moves) b [])
-  pub goal : partAt table marks (length (k .moves)) ≡ codeOf openGoal ∷ itemsBytes (k .goal)
-
-abbrev pub rangesOf : Task → Ranges
-rangesOf k = record { form = normal; props = k .props; vars = k .vars }
-
-module _ {table marks : List ℕ} {k : Task} (o : Outlined table marks k) where
-  pub move-left : (b : ℕ) → b < length (k .moves) → Left (rangesOf k) (partAt table marks b) 1 (getD (k .moves) b [])
-  move-left b h = left-start (codeOf openMove) (o .move b h) (move-ok (o .ok) b h .items)
-
-  pub move-once : (b : ℕ) → b < length (k .moves) → Once (getD (k .moves) b [])
-  move-once b h = move-ok (o .ok) b h .once
-
-  pub goal-left : Left (rangesOf k) (partAt table marks (length (k .moves))) 1 (k .goal)
-  goal-left = left-start (codeOf openGoal) (o .goal) (o .ok .goal .items)
 
 -- ---- one move
 
@@ -220,9 +192,9 @@ step-next {k} {l} {b} {used} {t} s h room e ts vs =
 pub record Steppable (table marks : List ℕ) (moves : ℕ) (has : List Bool) (row : List ℤ) (flags : List Bool) (values : List ℤ) (used : List Bool) : Type 0 where
   pub task : Task
   pub over : Layer
-  pub outlined : Outlined table marks task
+  pub outlined : Outline normal table marks task
   pub count : moves ≡ length (task .moves)
-  pub state : LayerState (rangesOf task) has row over
+  pub state : LayerState (rangesOf normal task) has row over
   pub flags-room : task .props ≤ length flags
   pub values-room : task .vars ≤ length values
   pub used-room : moves ≤ length used
@@ -235,9 +207,9 @@ pub record Stepping (table marks : List ℕ) (moves : ℕ) (has : List Bool) (ro
   pub same-rest : (c : ℕ) → b ≤ c → getD used′ c false ≡ getD used c false
   pub is :
       (k : Task) (l : Layer)
-      → Outlined table marks k
+      → Outline normal table marks k
       → moves ≡ length (k .moves)
-      → LayerState (rangesOf k) has row l
+      → LayerState (rangesOf normal k) has row l
       → UsedIn k l used
       → Truths (k .props) flags (l .has)
       → Values most (k .vars) values (l .val)
@@ -281,8 +253,8 @@ module _ {table marks : List ℕ} {moves : ℕ} {has : List Bool} {row : List �
               let i : b < length (k .moves) = omega (arith, c) in
               let p = s .is k l o c w m ts vs in
               let q =
-              r .is (rangesOf k) (getD (k .moves) b []) l (λ x. l .has x || gained l x (take b (k .moves))) (λ x. raised l x (take b (k .moves)))
-              refl (move-left o b i) (move-once o b i) w (λ e. m .usable-there b i (sym (s .same-rest b (omega arith)) ∙ e)) (p .truths) (p .row) (λ v. raised-old l v (take b (k .moves))) in
+              r .is (rangesOf normal k) (getD (k .moves) b []) l (λ x. l .has x || gained l x (take b (k .moves))) (λ x. raised l x (take b (k .moves)))
+              refl (move-left (o .ok) b i (o .move b i)) (move-ok (o .ok) b i .once) w (λ e. m .usable-there b i (sym (s .same-rest b (omega arith)) ∙ e)) (p .truths) (p .row) (λ v. raised-old l v (take b (k .moves))) in
               step-next p i (omega (arith, s .same-used)) (q .0) (q .1) (q .2);
         }
 
@@ -290,9 +262,9 @@ module _ {table marks : List ℕ} {moves : ℕ} {has : List Bool} {row : List �
 pub record Stepped (table marks : List ℕ) (moves : ℕ) (has : List Bool) (row : List ℤ) (flags : List Bool) (values : List ℤ) (used : List Bool) (flags′ : List Bool) (values′ : List ℤ) (used′ : List Bool) : Type 0 where
   pub is :
       (k : Task) (l : Layer)
-      → Outlined table marks k
+      → Outline normal table marks k
       → moves ≡ length (k .moves)
-      → LayerState (rangesOf k) has row l
+      → LayerState (rangesOf normal k) has row l
       → UsedIn k l used
       → Truths (k .props) flags (l .has)
       → Values most (k .vars) values (l .val)
@@ -334,10 +306,10 @@ module _ {table marks : List ℕ} {moves : ℕ} {has : List Bool} {row : List �
   pub steppable-takeable : {flags′ : List Bool} {values′ : List ℤ} → length flags′ ≡ length flags → length values′ ≡ length values → Takeable (partAt table marks b) has row flags′ values′
   steppable-takeable lf lv =
       record {
-        ranges = rangesOf (p .task);
+        ranges = rangesOf normal (p .task);
         block = getD (p .task .moves) b [];
         over = p .over;
-        left = move-left (p .outlined) b (omega (arith, p .count));
+        left = let i : b < length (p .task .moves) = omega (arith, p .count) in move-left (p .outlined .ok) b i (p .outlined .move b i);
         state = p .state;
         flags-room = omega (arith, p .flags-room);
         values-room = omega (arith, p .values-room);
@@ -348,13 +320,13 @@ module _ {table marks : List ℕ} {moves : ℕ} {has : List Bool} {row : List �
 pub record GoalTestable (table marks : List ℕ) (moves : ℕ) (has : List Bool) (row : List ℤ) : Type 0 where
   pub task : Task
   pub over : Layer
-  pub outlined : Outlined table marks task
+  pub outlined : Outline normal table marks task
   pub count : moves ≡ length (task .moves)
-  pub state : LayerState (rangesOf task) has row over
+  pub state : LayerState (rangesOf normal task) has row over
 
 -- t says whether the layer meets the goal
 pub record IsMet (table marks : List ℕ) (moves : ℕ) (has : List Bool) (row : List ℤ) (t : Bool) : Type 0 where
-  pub is : (k : Task) (l : Layer) → Outlined table marks k → moves ≡ length (k .moves) → LayerState (rangesOf k) has row l → t ≡ usable l (k .goal)
+  pub is : (k : Task) (l : Layer) → Outline normal table marks k → moves ≡ length (k .moves) → LayerState (rangesOf normal k) has row l → t ≡ usable l (k .goal)
 
 module _ {table marks : List ℕ} {moves : ℕ} {has : List Bool} {row : List ℤ} (p : GoalTestable table marks moves has row) where
   pub goal-marks : moves + 1 < length marks
@@ -369,20 +341,20 @@ module _ {table marks : List ℕ} {moves : ℕ} {has : List Bool} {row : List �
   pub goal-testable : LayerTestable (partAt table marks moves) has row
   goal-testable =
       record {
-        ranges = rangesOf (p .task);
+        ranges = rangesOf normal (p .task);
         block = p .task .goal;
         over = p .over;
         left = goal-at (p .outlined) (p .count);
         row = p .state;
       }
     where
-      goal-at : {k : Task} → Outlined table marks k → moves ≡ length (k .moves) → Left (rangesOf k) (partAt table marks moves) 1 (k .goal)
-      goal-at {k} o c = subst (λ (n : ℕ). Left (rangesOf k) (partAt table marks n) 1 (k .goal)) (sym c) (goal-left o)
+      goal-at : {k : Task} → Outline normal table marks k → moves ≡ length (k .moves) → Left (rangesOf normal k) (partAt table marks moves) 1 (k .goal)
+      goal-at {k} o c = subst (λ (n : ℕ). Left (rangesOf normal k) (partAt table marks n) 1 (k .goal)) (sym c) (goal-left (o .ok) (o .goal))
 
 pub is-met : {table marks : List ℕ} {moves : ℕ} {has : List Bool} {row : List ℤ} {t : Bool} → IsUsable (partAt table marks moves) has row t → IsMet table marks moves has row t
 is-met {table} {marks} {moves} u =
     record {
       is =
           λ k l o c w.
-          u .is (rangesOf k) (k .goal) l (subst (λ (n : ℕ). Left (rangesOf k) (partAt table marks n) 1 (k .goal)) (sym c) (goal-left o)) w;
+          u .is (rangesOf normal k) (k .goal) l (subst (λ (n : ℕ). Left (rangesOf normal k) (partAt table marks n) 1 (k .goal)) (sym c) (goal-left (o .ok) (o .goal))) w;
     }

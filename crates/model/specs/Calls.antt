@@ -1,7 +1,7 @@
 -- The answers of the calls, with what each lent memory holds afterwards, as functions of what it held before. For any bytes
 -- there is exactly one answer. Assumes nothing.
-use Prim.Native.Nat.{ℕ, zero, suc, _+_, _*_, _/_}
-use mathlib.Core.Bool.{Bool, true, false, not}
+use Prim.Native.Nat.{ℕ, suc, _+_, _/_}
+use mathlib.Core.Bool.{true, false}
 use mathlib.Core.List.{List, [], _∷_, _++_}
 use mathlib.Core.Option.{Option, none, some}
 use lib.Dec.{ltb, leb}
@@ -20,13 +20,13 @@ use Rattle.model.specs.declared.PlanAnswer.{PlanAnswer}
 use Rattle.model.specs.declared.PlanAnswer.the-variants as plan
 use Rattle.model.specs.Limits.{Limits}
 use Rattle.model.specs.Lists.{allBelow}
-use Rattle.model.specs.Task.{Form, written, normal, Task}
+use Rattle.model.specs.Task.{written, normal, Task}
 use Rattle.model.specs.Command.{head, codeOf, taskBytes}
-use Rattle.model.specs.Reading.{Head, Table, Verdict, accepted, refused, Wanted, only, both, reading}
+use Rattle.model.specs.Reading.{Head, Verdict, accepted, refused, only, both, reading}
 use Rattle.model.specs.Move.{State, applicable, real, moveAt}
 use Rattle.model.specs.NormalForm.{normalTask, normalState}
 use Rattle.model.specs.StateTable.{stateOf, stateRefusal, stateBytes, valueInRange}
-use Rattle.model.specs.Layer.{Outcome, reached, exhausted}
+use Rattle.model.specs.Layer.{reached, exhausted}
 use Rattle.model.specs.Memory.{overwrite, Built, answered, stopped, build, builtMemory}
 use Rattle.model.specs.Plan.{Record, records, firstMoves}
 

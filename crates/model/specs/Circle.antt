@@ -4,7 +4,7 @@ use Prim.Native.Nat.{ℕ, zero, suc}
 use mathlib.Core.Bool.{Bool, true, false, _&&_}
 use lib.Dec.{T, eqb}
 use Rattle.model.specs.Lists.{any, anyBelow}
-use Rattle.model.specs.Task.{Term, Kind, assign, increase, decrease, Effect, Item, need, add, delete, condition, effect, Block, Task}
+use Rattle.model.specs.Task.{Kind, assign, increase, decrease, Item, need, add, delete, condition, effect, Task}
 
 unfoldable pub isAssign : Kind → Bool
 isAssign assign = true

@@ -4,10 +4,9 @@ use Prim.Native.Nat.{ℕ}
 use mathlib.Core.Bool.{Bool, true, false}
 use mathlib.Core.List.{List, [], _∷_, _++_}
 use lib.Dec.{eqb}
-use lib.IntN.{ℤ}
 use lib.ListN.{length}
 use Rattle.integer.specs.BigEndian.{signedBytes}
-use Rattle.model.specs.Task.{Form, written, normal, Term, Comparison, atLeast, above, atMost, below, equal, Condition, Kind, assign, increase, decrease, Effect, Item, need, add, delete, condition, effect, Block, Task}
+use Rattle.model.specs.Task.{Form, written, normal, Term, Comparison, atLeast, above, atMost, below, equal, Kind, assign, increase, decrease, Item, need, add, delete, condition, effect, Block, Task}
 
 pub data Command : Type 0 where
   head : Form → Command

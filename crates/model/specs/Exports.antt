@@ -13,9 +13,7 @@ use Rattle.model.specs.declared.DecideAnswer.{DecideAnswer}
 use Rattle.model.specs.declared.DecideAnswer.the-variants as decide
 use Rattle.model.specs.declared.PlanAnswer.{PlanAnswer}
 use Rattle.model.specs.declared.PlanAnswer.the-variants as plan
-use Rattle.model.specs.Limits.{Limits}
 use Rattle.model.specs.Memory.{overwrite}
-use Rattle.model.specs.Calls.{blockPart, blockRefusal}
 
 unfoldable pub refusalCode : Refusal → ℕ
 refusalCode r = r .number * 2 ^ 32 + r .place

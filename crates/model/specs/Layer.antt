@@ -9,7 +9,7 @@ use lib.ListN.{length}
 use lib.Signed.{leZ}
 use Rattle.integer.specs.Linear.{larger}
 use Rattle.model.specs.Lists.{all, any, allBelow}
-use Rattle.model.specs.Task.{Term, Condition, Kind, assign, increase, decrease, Effect, Item, need, add, delete, condition, effect, Block, Task, adds, effectOn}
+use Rattle.model.specs.Task.{Term, Kind, assign, increase, decrease, Effect, Item, need, add, delete, condition, effect, Block, Task, adds, effectOn}
 use Rattle.model.specs.Move.{State}
 
 -- "a value for each signed variable: a whole number or unbounded"

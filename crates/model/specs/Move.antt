@@ -10,7 +10,7 @@ use lib.ListN.{length, getD}
 use lib.Signed.{leZ, ltZ}
 use Rattle.integer.specs.Linear.{larger}
 use Rattle.model.specs.Lists.{all}
-use Rattle.model.specs.Task.{Term, Comparison, atLeast, above, atMost, below, equal, Condition, Kind, assign, increase, decrease, Effect, Item, need, add, delete, condition, effect, Block, Task, adds, deletes, effectOn}
+use Rattle.model.specs.Task.{Term, Comparison, atLeast, above, atMost, below, equal, Kind, assign, increase, decrease, Effect, Item, need, add, delete, condition, effect, Block, Task, adds, deletes, effectOn}
 
 -- which propositions are true, and each variable's value
 pub record State : Type 0 where

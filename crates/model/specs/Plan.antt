@@ -10,7 +10,7 @@ use lib.ListN.{length, replicate}
 use Rattle.integer.specs.Linear.{up, larger}
 use Rattle.integer.specs.Ceiling.{ceiling}
 use Rattle.model.specs.Lists.{firstFrom, foldBelow}
-use Rattle.model.specs.Task.{Term, Condition, Kind, assign, increase, decrease, Effect, Item, need, add, delete, condition, effect, Block, Task, adds, effectOn}
+use Rattle.model.specs.Task.{Term, Kind, assign, increase, decrease, Effect, Item, need, add, delete, condition, effect, Block, Task, adds, effectOn}
 use Rattle.model.specs.Move.{State, sum, moveAt}
 use Rattle.model.specs.Layer.{Value, finite, unbounded, Layer, reaches, usable, layerValue, layerAt}
 

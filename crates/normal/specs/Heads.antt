@@ -1,56 +1,19 @@
--- What the answer of reading a table says of it: an accepted table with its head and the offsets of its blocks, or a refusal.
--- Assumes nothing.
+-- The answer of normalising, from what reading the table answers. Assumes nothing.
 use Prim.Native.Nat.{ℕ}
 use native.Mathlib.Omega.{arith}
 use mathlib.Core.Path.{_≡_, sym, ap, _∙_}
 use mathlib.Core.List.{List}
 use lib.ListN.{length}
-use Rattle.integer.specs.BigEndian.{AllBytes}
 use Rattle.model.specs.declared.Refusal.{Refusal}
-use Rattle.model.specs.declared.ReadAnswer.{ReadAnswer}
-use Rattle.model.specs.declared.ReadAnswer.the-variants as read
 use Rattle.model.specs.Limits.{paper}
-use Rattle.model.specs.Task.{Form, written}
-use Rattle.model.specs.Reading.{Table, accepted, refused, only, reading}
+use Rattle.model.specs.Task.{written}
+use Rattle.model.specs.Reading.{refused, only, reading}
 use Rattle.model.specs.declared.WriteAnswer.{WriteAnswer}
 use Rattle.model.specs.declared.WriteAnswer.the-variants as write
 use Rattle.model.specs.Calls.{Output, writes, fitted, writeAnswer, outputAfter, normalBytes, normalOf, normalised, normaliseAnswer, normaliseOut}
-use Rattle.model.specs.Theorems.Accepted.{reading-head}
-use Rattle.table.specs.Answer.{Outlined, answer-accepted, answer-refused}
-use Rattle.normal.specs.Outlines.{Outline, outline-of}
+use Rattle.table.specs.Outlines.{HeadRead}
 use Rattle.normal.specs.Tables.{taskIn, readTask, Source, Heads}
 use Rattle.normal.specs.Answers.{Answered, answered-refused}
-
--- the head that was read, of an accepted table
-pub record HeadRead (f : Form) (t marks : List ℕ) (props vars moves : ℕ) : Type 0 where
-  pub table : Table
-  pub is : reading paper (only f) t ≡ accepted table
-  pub outline : Outline f t marks (table .task)
-  pub props-is : props ≡ table .task .props
-  pub vars-is : vars ≡ table .task .vars
-  pub count : moves ≡ length (table .task .moves)
-
-module _ (f : Form) {t marks : List ℕ} {r : ReadAnswer} (o : Outlined t (reading paper (only f) t) r marks) where
-  pub head-read :
-      {kind props vars moves : ℕ}
-      → r ≡ read.Head kind props vars moves
-      → AllBytes t
-      → HeadRead f t marks props vars moves
-  head-read {kind} {props} {vars} {moves} e all =
-      let a = answer-accepted (reading paper (only f) t) kind props vars moves (sym (o .answer) ∙ e) in
-      let k = a .table in
-      let h = reading-head paper (only f) t (a .is) in
-      record {
-        table = k;
-        is = a .is;
-        outline = outline-of f t marks k (a .is) all (o .marks k (a .is)) (o .rising k (a .is)) (o .inside k (a .is));
-        props-is = sym (a .props-is) ∙ h .0;
-        vars-is = sym (a .vars-is) ∙ h .1;
-        count = sym (a .moves-is) ∙ h .2;
-      }
-
-  pub head-refused : {q : Refusal} → r ≡ read.Refused q → reading paper (only f) t ≡ refused q
-  head-refused {q} e = answer-refused (reading paper (only f) t) q (sym (o .answer) ∙ e)
 
 module _ {t marks : List ℕ} {props vars moves : ℕ} (h : HeadRead written t marks props vars moves) where
   pub task-is : readTask t ≡ h .table .task

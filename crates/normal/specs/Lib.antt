@@ -5,7 +5,6 @@ pub mod Signs
 pub mod Sums
 pub mod Items
 pub mod Blocks
-pub mod Outlines
 pub mod Tables
 pub mod Answers
 pub mod Heads

@@ -13,9 +13,10 @@ use Rattle.model.specs.Reading.{Verdict, accepted, refused, only, lengthLimit, 
 use Rattle.model.specs.NormalForm.{normalBlock, normalTask}
 use Rattle.model.specs.Calls.{normalBytes}
 use Rattle.model.specs.Theorems.NormalPrint.{normal-fits}
+use Rattle.table.specs.Outlines.{partAt, Outline}
+use Rattle.block.specs.Parts.{move-left, goal-left}
 use Rattle.normal.specs.Printing.{Put, put-join, put-same, Printing, PutTo, printing-start, printing-rest, printing-step}
 use Rattle.normal.specs.Blocks.{Remaining, blockPrint}
-use Rattle.normal.specs.Outlines.{partAt, Outline, move-left, goal-left}
 
 -- the task that a written table stands for
 unfoldable pub taskIn : Verdict → Task
@@ -56,7 +57,7 @@ module _ {t marks : List ℕ} {moves : ℕ} (s : Source t marks moves) where
         vars = readTask t .vars;
         few-props = few-props;
         few-vars = few-vars;
-        left = move-left (s .outline) b (omega (arith, s .count));
+        left = let i : b < length (readTask t .moves) = omega (arith, s .count) in move-left (s .outline .ok) b i (s .outline .move b i);
       }
 
   pub goal-remaining : Remaining (partAt t marks moves) 1 (readTask t .goal)
@@ -66,7 +67,7 @@ module _ {t marks : List ℕ} {moves : ℕ} (s : Source t marks moves) where
         vars = readTask t .vars;
         few-props = few-props;
         few-vars = few-vars;
-        left = rw (s .count) (goal-left (s .outline));
+        left = rw (s .count) (goal-left (s .outline .ok) (s .outline .goal));
       }
 
   -- the offsets of a block

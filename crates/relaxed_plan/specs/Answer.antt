@@ -24,31 +24,33 @@ use Rattle.model.specs.Plan.{Record, firstMoves}
 use Rattle.model.specs.Calls.{writes, fitted, outputAfter, Ready, ready, unready, prepared, memoryOf, decideMemory, recordBytes, planRecords, planned, planFitted, planOf, planAnswer, planMemory, planOutOf, planOut}
 use Rattle.model.specs.Theorems.Booleans.{not-false, or-right}
 use Rattle.model.specs.Theorems.Searching.{firstFrom-cases}
+use Rattle.model.specs.Theorems.Records.{length-recordBytes}
 use Rattle.model.specs.Theorems.WellFormed.{TaskOk}
 use Rattle.model.specs.Theorems.Building.{built-outcome}
 use Rattle.model.specs.Theorems.Memories.{Holds, size, memory-holds}
 use Rattle.model.specs.Theorems.StateSizes.{SmallState, accepted-small, normalState-small}
 use Rattle.model.specs.Theorems.PlanSizes.{answered-passes, reported-most}
+use Rattle.table.specs.Outlines.{Outline}
+use Rattle.block.specs.Parts.{move-left, goal-left}
 use Rattle.layers.specs.declared.Built.{Built as BuiltAnswer}
 use Rattle.layers.specs.declared.Built.the-variants as building
-use Rattle.layers.specs.Stepping.{Outlined, move-left, goal-left}
 use Rattle.layers.specs.Starting.{startOf}
 use Rattle.layers.specs.Building.{IsBuilt, builtOf}
 use Rattle.layers.specs.Preparing.{ReadyIn}
-use Rattle.relaxed_plan.specs.Search.{partAt, Parts}
+use Rattle.relaxed_plan.specs.Search.{Parts}
 use Rattle.relaxed_plan.specs.Layers.{Stored}
-use Rattle.relaxed_plan.specs.Records.{length-recordBytes, put-overwrite}
+use Rattle.relaxed_plan.specs.Records.{put-overwrite}
 use Rattle.relaxed_plan.specs.Passes.{planRecords as storedRecords}
 
 -- ---- what building leaves
 
-pub outlined-parts : {table marks : List ℕ} {k : Task} → Outlined table marks k → Parts table marks k
-unfolding partAt moveAt
+pub outlined-parts : {table marks : List ℕ} {k : Task} → Outline normal table marks k → Parts table marks k
+unfolding moveAt
 outlined-parts {table} {marks} {k} o =
     record {
       inside = λ b h. record { room = omega (arith, o .long); rises = o .ordered b h; within = o .within b h };
-      move = λ b h. move-left o b h;
-      goal = goal-left o;
+      move = λ b h. move-left (o .ok) b h (o .move b h);
+      goal = goal-left (o .ok) (o .goal);
     }
 
 -- where the layers are built to the end, there was room for each of them

@@ -18,12 +18,14 @@ use Rattle.model.specs.Theorems.WellFormed.{TaskOk}
 use Rattle.model.specs.Theorems.Memories.{Holds, size}
 use Rattle.model.specs.Theorems.StateSizes.{SmallState}
 use Rattle.model.specs.Theorems.LayerSizes.{layer-small}
+use Rattle.table.specs.Outlines.{partAt}
+use Rattle.block.specs.Parts.{rangesOf}
 use Rattle.block.specs.Items.{Left}
 use Rattle.block.specs.Sums.{Row, LayerRow}
 use Rattle.relaxed_plan.specs.declared.Targets.{Targets}
 use Rattle.relaxed_plan.specs.Encoding.{fresh, Encodes, encodes-none}
 use Rattle.relaxed_plan.specs.Blocks.{BlockWantable, BlockWanted}
-use Rattle.relaxed_plan.specs.Search.{partAt, rangesOf, Parts, PartIn}
+use Rattle.relaxed_plan.specs.Search.{Parts, PartIn}
 use Rattle.relaxed_plan.specs.Taking.{EncodesTaken}
 use Rattle.relaxed_plan.specs.Descending.{nothing, Descendable, PropsDescendable, propsBelow, PropsDone, SmallTargets, ValuesDescendable, ValuesDone}
 use Rattle.relaxed_plan.specs.View.{Filled, heldAt, numberAt, lowAt, view-has, view-used, view-row, start-row, low-row}
@@ -124,14 +126,14 @@ module _ {table marks : List ℕ} {layers start : List ℤ} {props vars moves m 
     abbrev pub goal-wantable : {part : List ℕ} {t : Targets} → part ≡ partAt table marks moves → t ≡ fresh → BlockWantable part row lows t
     goal-wantable {part} {t} e f =
         record {
-          ranges = rangesOf (x .stored .task);
+          ranges = rangesOf normal (x .stored .task);
           block = x .stored .task .goal;
           over = layerAt (x .stored .task) (x .stored .start) m;
           start = x .stored .start;
           wants = noWants;
           form = refl;
           left =
-              subst (λ (l : List ℕ). Left (rangesOf (x .stored .task)) l 1 (x .stored .task .goal))
+              subst (λ (l : List ℕ). Left (rangesOf normal (x .stored .task)) l 1 (x .stored .task .goal))
               (ap (partAt table marks) (x .stored .moves-is) ∙ sym e) (x .stored .parts .goal);
           values = stored-row (x .stored) (omega arith) read;
           low-values = stored-low (x .stored) (omega arith) read (x .start-is) made;

@@ -12,7 +12,7 @@ use Rattle.model.specs.Plan.{Target, free, least, Wants, Record, layerRecords, 
 use Rattle.model.specs.Calls.{recordBytes}
 use Rattle.model.specs.Theorems.WellFormed.{All}
 use Rattle.model.specs.Theorems.Searching.{All-map}
-use Rattle.model.specs.Theorems.Records.{Entry, layer-entries}
+use Rattle.model.specs.Theorems.Records.{Entry, layer-entries, length-recordBytes}
 use Rattle.model.specs.Theorems.Targets.{EachTarget}
 use Rattle.model.specs.Theorems.Sizes.{Between, between-size}
 use Rattle.model.specs.Theorems.TargetSizes.{SmallWants}
@@ -22,7 +22,7 @@ use Rattle.relaxed_plan.specs.declared.Targets.{Targets}
 use Rattle.relaxed_plan.specs.Encoding.{Encodes}
 use Rattle.relaxed_plan.specs.Descending.{SmallTargets}
 use Rattle.relaxed_plan.specs.Layers.{Stored, stored-moves, GoalWantable, GoalWanted, LayerDescendable, LayerDescended}
-use Rattle.relaxed_plan.specs.Records.{countAt, records-same, recordBytes-append, recordBytes-layer, records-layer-length, length-recordBytes, put-before}
+use Rattle.relaxed_plan.specs.Records.{countAt, records-same, recordBytes-append, recordBytes-layer, records-layer-length, put-before}
 
 -- ---- the wants of each layer
 

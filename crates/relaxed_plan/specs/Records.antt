@@ -16,6 +16,7 @@ use Rattle.integer.specs.Store.{put, put-nil, put-cons, put-append, take-put-be
 use Rattle.model.specs.Memory.{overwrite}
 use Rattle.model.specs.Plan.{Record, layerRecords, firstMoves}
 use Rattle.model.specs.Calls.{recordBytes}
+use Rattle.model.specs.Theorems.Records.{length-recordBytes}
 
 -- the counts in an array
 unfoldable pub countAt : List ℕ → ℕ → ℕ
@@ -80,11 +81,6 @@ module _ (f : ℕ → ℕ) where
   counting-end {n} {b} {done} h c = omega (arith, c .total, ap length (records-over 0 f h))
 
 -- ---- bytes
-
-pub length-recordBytes : (rs : List Record) → length (recordBytes rs) ≡ 10 * length rs
-unfolding recordBytes
-length-recordBytes [] = refl
-length-recordBytes (r ∷ rs) = omega (arith, length-append (bytes 8 (r .count)) (recordBytes rs), length-bytes 8 (r .count), length-recordBytes rs)
 
 pub recordBytes-append : (rs qs : List Record) → recordBytes (rs ++ qs) ≡ recordBytes rs ++ recordBytes qs
 unfolding recordBytes

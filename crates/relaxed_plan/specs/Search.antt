@@ -9,7 +9,7 @@ use mathlib.Core.List.{List, [], _∷_}
 use mathlib.Core.Option.{none, some}
 use borrow.Author.Tests.{eq-eqb}
 use lib.IntN.{ℤ, pos, natAbs}
-use lib.ListN.{length, getD, take, drop}
+use lib.ListN.{length, getD}
 use Rattle.model.specs.Lists.{any, firstFrom}
 use Rattle.model.specs.Task.{normal, Kind, assign, increase, decrease, Effect, Item, add, isAdd, adds, effectOn, Block, Task}
 use Rattle.model.specs.Command.{kindCode}
@@ -17,7 +17,9 @@ use Rattle.model.specs.Move.{moveAt}
 use Rattle.model.specs.Layer.{Value, Layer, reaches, usable, layerValue}
 use Rattle.model.specs.Memory.{encode}
 use Rattle.model.specs.Plan.{adder, demand, achieves, achiever}
-use Rattle.block.specs.Items.{Ranges, Left, Followed, EffectFound, EffectIs}
+use Rattle.table.specs.Outlines.{partAt}
+use Rattle.block.specs.Parts.{rangesOf}
+use Rattle.block.specs.Items.{Left, Followed, EffectFound, EffectIs}
 use Rattle.block.specs.Sums.{LayerRow, Encoded}
 use Rattle.block.specs.Blocks.{Reading, reading-start, reading-next, reading-stop, reading-end, any-true, any-false, effectOn-here, effectOn-other}
 use Rattle.relaxed_plan.specs.declared.Adder.{Adder}
@@ -27,23 +29,17 @@ use Rattle.relaxed_plan.specs.declared.Achiever.the-variants.{Effect as 
 
 -- ---- the parts of the blocks
 
-unfoldable pub partAt : List ℕ → List ℕ → ℕ → List ℕ
-partAt table marks b = let at = getD marks b 0 in take (getD marks (b + 1) 0 - at) (drop at table)
-
 -- the marks of block b lie within the table
 pub record PartIn (table marks : List ℕ) (b : ℕ) : Type 0 where
   pub room : b + 1 < length marks
   pub rises : getD marks b 0 ≤ getD marks (b + 1) 0
   pub within : getD marks (b + 1) 0 ≤ length table
 
-abbrev pub rangesOf : Task → Ranges
-rangesOf k = record { form = normal; props = k .props; vars = k .vars }
-
 -- the part of each move and of the goal holds its items
 pub record Parts (table marks : List ℕ) (k : Task) : Type 0 where
   pub inside : (b : ℕ) → b ≤ length (k .moves) → PartIn table marks b
-  pub move : (b : ℕ) → b < length (k .moves) → Left (rangesOf k) (partAt table marks b) 1 (moveAt k b)
-  pub goal : Left (rangesOf k) (partAt table marks (length (k .moves))) 1 (k .goal)
+  pub move : (b : ℕ) → b < length (k .moves) → Left (rangesOf normal k) (partAt table marks b) 1 (moveAt k b)
+  pub goal : Left (rangesOf normal k) (partAt table marks (length (k .moves))) 1 (k .goal)
 
 -- ---- the first number that passes a test
 
@@ -88,7 +84,7 @@ module _ {table marks : List ℕ} {used : List Bool} {moves : ℕ} (x : Searchab
   pub part-in : {b : ℕ} → b < moves → PartIn table marks b
   part-in {b} h = x .parts .inside b (omega (arith, x .many))
 
-  pub part-left : {b : ℕ} → b < moves → Left (rangesOf (x .task)) (partAt table marks b) 1 (moveAt (x .task) b)
+  pub part-left : {b : ℕ} → b < moves → Left (rangesOf normal (x .task)) (partAt table marks b) 1 (moveAt (x .task) b)
   part-left {b} h = x .parts .move b (omega (arith, x .many))
 
   -- a usable move passes exactly if the second test does, one that is not usable fails
@@ -125,7 +121,7 @@ module _ {table marks : List ℕ} {used : List Bool} {moves : ℕ} (x : Searchab
 -- the items of move b before the offset do not add p, nor do the usable moves before b
 pub record AdderAt {table marks : List ℕ} {used : List Bool} {moves : ℕ} (x : Searchable table marks used moves) (p b : ℕ) (part : List ℕ) (at : ℕ) : Type 0 where
   pub before : From (addsAt (x .task) (x .over) p) moves b
-  pub reading : Reading (rangesOf (x .task)) part (adds p (moveAt (x .task) b)) (any (isAdd p)) at
+  pub reading : Reading (rangesOf normal (x .task)) part (adds p (moveAt (x .task) b)) (any (isAdd p)) at
 
 module _ {table marks : List ℕ} {used : List Bool} {moves : ℕ} (x : Searchable table marks used moves) (p : ℕ) {b : ℕ} {part : List ℕ} (lt : b < moves) where
   pub adder-start : From (addsAt (x .task) (x .over) p) moves b → part ≡ partAt table marks b → AdderAt x p b part 1
@@ -133,16 +129,16 @@ module _ {table marks : List ℕ} {used : List Bool} {moves : ℕ} (x : Searchab
   adder-start h e =
       record {
         before = h;
-        reading = reading-start (any (isAdd p)) (subst (λ (l : List ℕ). Left (rangesOf (x .task)) l 1 (moveAt (x .task) b)) (sym e) (part-left x lt));
+        reading = reading-start (any (isAdd p)) (subst (λ (l : List ℕ). Left (rangesOf normal (x .task)) l 1 (moveAt (x .task) b)) (sym e) (part-left x lt));
       }
 
   module _ {at : ℕ} (d : AdderAt x p b part at) where
-    pub adder-pass : {after : ℕ} {i : Item} → Followed (rangesOf (x .task)) part after (d .reading .rest) i → isAdd p i ≡ false → AdderAt x p b part after
+    pub adder-pass : {after : ℕ} {i : Item} → Followed (rangesOf normal (x .task)) part after (d .reading .rest) i → isAdd p i ≡ false → AdderAt x p b part after
     adder-pass f e = record { before = d .before; reading = reading-next (d .reading) (any (isAdd p)) f (any-false (isAdd p) e) }
 
     pub adder-hit :
         {after q : ℕ} → getD used b false ≡ true
-        → Followed (rangesOf (x .task)) part after (d .reading .rest) (add q)
+        → Followed (rangesOf normal (x .task)) part after (d .reading .rest) (add q)
         → q ≡ p
         → AdderIs (x .task) (x .over) p moves b
     unfolding isAdd
@@ -166,7 +162,7 @@ pub record AchieverIs (table marks : List ℕ) (k : Task) (l : Layer) (v : ℕ) 
   pub is : achiever k l v z ≡ some b
   pub it : Effect
   pub found-it : effectOn v (moveAt k b) ≡ some it
-  pub effect : EffectIs (rangesOf k) (partAt table marks b) kd base from n it
+  pub effect : EffectIs (rangesOf normal k) (partAt table marks b) kd base from n it
   pub achieved : reaches (layerValue l it) (demand (it .kind) z) ≡ true
   pub encoded : Encoded 8_000_000_001_000_000 (layerValue l it) value
 
@@ -212,20 +208,20 @@ module _ {table marks : List ℕ} {used : List Bool} {moves : ℕ} (x : Searchab
 -- the effects of move b before the offset are on other variables, and no usable move before b achieves
 pub record AchieverAt {table marks : List ℕ} {used : List Bool} {moves : ℕ} (x : Searchable table marks used moves) (v : ℕ) (z : ℤ) (b : ℕ) (part : List ℕ) (at : ℕ) : Type 0 where
   pub before : From (achievesAt (x .task) (x .over) v z) moves b
-  pub reading : Reading (rangesOf (x .task)) part (effectOn v (moveAt (x .task) b)) (effectOn v) at
+  pub reading : Reading (rangesOf normal (x .task)) part (effectOn v (moveAt (x .task) b)) (effectOn v) at
 
 module _ {table marks : List ℕ} {used : List Bool} {moves : ℕ} (x : Searchable table marks used moves) (v : ℕ) (z : ℤ) {b : ℕ} {part : List ℕ} (lt : b < moves) where
   pub achiever-start : From (achievesAt (x .task) (x .over) v z) moves b → part ≡ partAt table marks b → AchieverAt x v z b part 1
   achiever-start h e =
       record {
         before = h;
-        reading = reading-start (effectOn v) (subst (λ (l : List ℕ). Left (rangesOf (x .task)) l 1 (moveAt (x .task) b)) (sym e) (part-left x lt));
+        reading = reading-start (effectOn v) (subst (λ (l : List ℕ). Left (rangesOf normal (x .task)) l 1 (moveAt (x .task) b)) (sym e) (part-left x lt));
       }
 
   module _ {at : ℕ} (d : AchieverAt x v z b part at) where
     -- an item that is no effect
     pub achiever-pass :
-        {after : ℕ} {i : Item} → Followed (rangesOf (x .task)) part after (d .reading .rest) i
+        {after : ℕ} {i : Item} → Followed (rangesOf normal (x .task)) part after (d .reading .rest) i
         → ((o : Block) → effectOn v (i ∷ o) ≡ effectOn v o)
         → AchieverAt x v z b part after
     achiever-pass f e = record { before = d .before; reading = reading-next (d .reading) (effectOn v) f e }
@@ -237,7 +233,7 @@ module _ {table marks : List ℕ} {used : List Bool} {moves : ℕ} (x : Searchab
         (passes x (achieves (x .over) z (effectOn v (moveAt (x .task) b))) lt u
         ∙ ap (achieves (x .over) z) (sym (reading-end (d .reading) e refl)))
 
-    module _ {kd u : ℕ} {c : ℤ} {from n after : ℕ} (f : EffectFound (rangesOf (x .task)) part kd u c from n after (d .reading .rest)) where
+    module _ {kd u : ℕ} {c : ℤ} {from n after : ℕ} (f : EffectFound (rangesOf normal (x .task)) part kd u c from n after (d .reading .rest)) where
       -- an effect on another variable
       pub achiever-other : (u ≡ v → ⊥) → AchieverAt x v z b part after
       achiever-other e = record { before = d .before; reading = reading-next (d .reading) (effectOn v) (f .followed) (effectOn-other v (f .it) (λ p. e (sym (f .var) ∙ p))) }
@@ -264,7 +260,7 @@ module _ {table marks : List ℕ} {used : List Bool} {moves : ℕ} (x : Searchab
                   (passes x (achieves (x .over) z (effectOn v (moveAt (x .task) b))) lt used-b ∙ effect-tested ∙ hit);
               it = f .it;
               found-it = found-it;
-              effect = subst (λ (l : List ℕ). EffectIs (rangesOf (x .task)) l kd c from n (f .it)) p (f .is);
+              effect = subst (λ (l : List ℕ). EffectIs (rangesOf normal (x .task)) l kd c from n (f .it)) p (f .is);
               achieved = sym tested ∙ hit;
               encoded = e;
             }

@@ -19,13 +19,15 @@ use Rattle.model.specs.Layer.{Value, finite, unbounded, reaches, layerValue}
 use Rattle.model.specs.Memory.{encode}
 use Rattle.model.specs.Plan.{Wants, low, wantSum, wantBlock, Descent, counted, adder, takeAdder, demand, achiever, stepSize, runs, takeEffect, takeAchiever}
 use Rattle.model.specs.Theorems.WellFormed.{KindOk}
+use Rattle.table.specs.Outlines.{partAt}
+use Rattle.block.specs.Parts.{rangesOf}
 use Rattle.block.specs.Items.{Left, EffectIs}
 use Rattle.block.specs.Sums.{Row, LayerRow, Encoded, Sized, isMark, mark-yes, mark-no}
 use Rattle.relaxed_plan.specs.declared.Targets.{Targets}
 use Rattle.relaxed_plan.specs.Encoding.{Encodes, stored-at}
 use Rattle.relaxed_plan.specs.Wanting.{Wantable, Wanted}
 use Rattle.relaxed_plan.specs.Blocks.{BlockWantable, BlockWanted}
-use Rattle.relaxed_plan.specs.Search.{partAt, rangesOf, Searchable, part-left, AdderIs, AchieverIs, demandBy, demand-code}
+use Rattle.relaxed_plan.specs.Search.{Searchable, part-left, AdderIs, AchieverIs, demandBy, demand-code}
 
 -- ---- counts in an array
 
@@ -140,13 +142,13 @@ module _ {table marks : List ℕ} {used : List Bool} {row lows : List ℤ} {move
   abbrev pub move-wantable : {part : List ℕ} → part ≡ partAt table marks b → BlockWantable part row lows t
   move-wantable {part} e =
       record {
-        ranges = rangesOf (x .search .task);
+        ranges = rangesOf normal (x .search .task);
         block = moveAt (x .search .task) b;
         over = x .search .over;
         start = x .start;
         wants = x .descent .wants;
         form = refl;
-        left = subst (λ (l : List ℕ). Left (rangesOf (x .search .task)) l 1 (moveAt (x .search .task) b)) (sym e) (part-left (x .search) lt);
+        left = subst (λ (l : List ℕ). Left (rangesOf normal (x .search .task)) l 1 (moveAt (x .search .task) b)) (sym e) (part-left (x .search) lt);
         values = x .values;
         low-values = x .low-values;
         encoded = x .encoded .wants;
@@ -191,13 +193,13 @@ module _ {table marks : List ℕ} {used : List Bool} {row lows : List ℤ} {move
     abbrev pub effect-wantable : {w : Targets} → BlockWanted (move-wantable x (h .lt) e) w → Wantable part from n row lows w
     effect-wantable wanted =
         record {
-          ranges = rangesOf (x .search .task);
+          ranges = rangesOf normal (x .search .task);
           ts = h .it .terms;
           over = x .search .over;
           start = x .start;
           wants = wantBlock (x .search .over) (x .start) (x .descent .wants) (moveAt (x .search .task) b);
           form = refl;
-          terms = subst (λ (l : List ℕ). EffectIs (rangesOf (x .search .task)) l kd base from n (h .it)) (sym e) (h .effect) .terms;
+          terms = subst (λ (l : List ℕ). EffectIs (rangesOf normal (x .search .task)) l kd base from n (h .it)) (sym e) (h .effect) .terms;
           values = x .values;
           low-values = x .low-values;
           encoded = wanted .encoded;

@@ -20,9 +20,10 @@ use Rattle.model.specs.Calls.{Output, writes, turns, fitted, writeAnswer, outpu
 use Rattle.model.specs.Listing.{listingLayers, listingBytes, refusalText, recordsText, builtText, planText, readyText, outputText, listing}
 use Rattle.model.specs.Theorems.Booleans.{T-true, not-false, T-cases}
 use Rattle.model.specs.Theorems.WellFormed.{All}
+use Rattle.model.specs.Theorems.Records.{length-recordBytes}
 use Rattle.report.specs.Writing.{Written, both, at-start}
 use Rattle.report.specs.Lines.{lineText, pairText, planLine, noPlanText}
-use Rattle.report.specs.Records.{Encodable, recordsIn, length-recordBytes, records-text}
+use Rattle.report.specs.Records.{Encodable, recordsIn, records-text}
 
 -- the text of plan's answer, of which rs are the records
 unfoldable pub answerText : PlanAnswer → List Record → List ℕ

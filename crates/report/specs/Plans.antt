@@ -1,8 +1,8 @@
 -- The records of every plan can be printed: moves are bytes, counts 64-bit numbers.
 -- Assumes nothing.
-use Prim.Native.Nat.{ℕ, _+_, _*_, _^_, _/_, _≤_, _<_}
-use mathlib.Core.Path.{_≡_, refl, sym, ap, subst, _∙_}
-use mathlib.Core.List.{List, [], _∷_}
+use Prim.Native.Nat.{ℕ, _/_, _≤_}
+use mathlib.Core.Path.{_≡_, refl, ap, subst}
+use mathlib.Core.List.{List}
 use mathlib.Core.Option.{Option, none, some}
 use native.Mathlib.Omega.{arith}
 use lib.ListN.{length}
@@ -10,12 +10,11 @@ use Rattle.model.specs.declared.Refusal.{Refusal}
 use Rattle.model.specs.Limits.{paper}
 use Rattle.model.specs.Task.{Form, normal, Task}
 use Rattle.model.specs.Move.{State}
-use Rattle.model.specs.NormalForm.{normalState}
 use Rattle.model.specs.Layer.{reached, exhausted, reported, outcome}
 use Rattle.model.specs.Memory.{Built, answered, stopped, build}
-use Rattle.model.specs.Plan.{Record, records}
+use Rattle.model.specs.Plan.{records}
 use Rattle.model.specs.Reading.{Table, Verdict, accepted, refused, only, reading}
-use Rattle.model.specs.StateTable.{stateOf, stateRefusal}
+use Rattle.model.specs.StateTable.{stateRefusal}
 use Rattle.model.specs.Calls.{Ready, ready, unready, readyWith, readyOf, prepared, planRecords}
 use Rattle.model.specs.Listing.{listingLayers}
 use Rattle.model.specs.Theorems.WellFormed.{All, TaskOk}

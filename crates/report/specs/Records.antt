@@ -42,17 +42,6 @@ encodable layers moves (r ∷ rs) few a b =
     let first : r .move < moves = a .0 .move in
     (record { move = omega arith; count = b .0 }, encodable layers moves rs few (a .1) (b .1))
 
-pub length-recordBytes : (rs : List Record) → length (recordBytes rs) ≡ 10 * length rs
-unfolding recordBytes
-length-recordBytes [] = refl
-length-recordBytes (r ∷ rs) =
-    omega (
-      arith,
-      length-append (bytes 8 (r .count)) (recordBytes rs),
-      length-bytes 8 (r .count),
-      length-recordBytes rs,
-    )
-
 records-line : (r : Record) (rs : List Record) → recordsText (r ∷ rs) ≡ recordLine (r .move) (r .count) ++ recordsText rs
 unfolding recordsText recordLine pairText
 records-line r rs = refl

@@ -11,3 +11,4 @@ pub mod Tracks
 pub mod Advance
 pub mod Answer
 pub mod Part
+pub mod Outlines

@@ -28,7 +28,7 @@ verdict-beyond t b k e =
     record { part-is = rw (e, partOf) refl; number-is = rw (e, noBlock) refl; place-is = rw (e, noBlock) refl }
 
 -- a part by its start and its length
-part-slice : (f e : ℕ) (l : List ℕ) → f ≤ e → take (e - f) (drop f l) ≡ slice f e l
+pub part-slice : (f e : ℕ) (l : List ℕ) → f ≤ e → take (e - f) (drop f l) ≡ slice f e l
 part-slice zero e l h = ap (λ (n : ℕ). take n l) (zero-less e)
   where
     zero-less : (n : ℕ) → n - 0 ≡ n

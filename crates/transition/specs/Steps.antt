@@ -15,9 +15,10 @@ use Rattle.model.specs.Move.{moveAt}
 use Rattle.model.specs.Reading.{Verdict, refused, only, reading}
 use Rattle.model.specs.StateTable.{stateOf, stateRefusal}
 use Rattle.model.specs.Calls.{turns, fitted, moved, stepWithState, stepOf, stepped, stepAnswer, stepOut}
+use Rattle.model.specs.Theorems.Layers.{move-ok}
 use Rattle.state.specs.Checking.{accepted-state}
-use Rattle.normal.specs.Outlines.{partAt, move-left, move-once}
-use Rattle.normal.specs.Heads.{HeadRead}
+use Rattle.table.specs.Outlines.{partAt, HeadRead}
+use Rattle.block.specs.Parts.{move-left}
 use Rattle.normal.specs.Answers.{Answered}
 use Rattle.transition.specs.Moving.{Chosen, Movable, movedBy}
 
@@ -74,8 +75,8 @@ module _ {t marks : List ℕ} {props vars moves : ℕ} (h : Read t marks props v
     pub step-chosen : b < moves → Chosen (partAt t marks b) bs props vars (getD (h .table .task .moves) b [])
     step-chosen l =
         record {
-          left = rw (h .props-is, h .vars-is) (move-left (h .outline) b (omega (arith, h .count)));
-          once = move-once (h .outline) b (omega (arith, h .count));
+          left = rw (h .props-is, h .vars-is) (let i : b < length (h .table .task .moves) = omega (arith, h .count) in move-left (h .outline .ok) b i (h .outline .move b i));
+          once = move-ok (h .outline .ok) b (omega (arith, h .count)) .once;
         }
 
     pub step-movable : b < moves → Movable (partAt t marks b) bs props vars

@@ -1,6 +1,5 @@
 use borrow.Author.Needs.{needs}
-use mathlib.Core.Path.{refl, sym, ap, subst, _∙_}
-use native.Mathlib.Omega.{arith}
+use mathlib.Core.Path.{sym, ap, subst, _∙_}
 use Rattle.model.specs.Exports.{writeCode}
 use Rattle.model.specs.Theorems.Places.{Small}
 use Rattle.model.specs.Theorems.AnswerSizes.{WriteSmall}

@@ -1,7 +1,8 @@
 -- `build` meets its contract. Assumes nothing.
 use mathlib.Core.Path.{refl, sym, _∙_}
 use Rattle.model.specs.Task.{Task}
-use Rattle.layers.specs.Stepping.{Outlined}
+use Rattle.model.specs.Task.{normal}
+use Rattle.table.specs.Outlines.{Outline}
 use Rattle.layers.specs.Building.{Counts, Layered}
 use Rattle.layers.specs.Starting.{startOf, props-small, vars-small, moves-small, half-vars, state-long, first-layer, first-short, first-stored}
 use native.Mathlib.Omega.{arith}
@@ -52,7 +53,7 @@ store-layer-requires c κs =
 stored :
     (c : tie.After-store-layer) (k : Task)
     → let a = c .before .before .before .before .before .before .before .before .before .before .before .before .before .before .before .before .args in
-    Outlined (a .table .now) (a .marks .now) k
+    Outline normal (a .table .now) (a .marks .now) k
     → Counts k (a .props) (a .vars) (a .moves)
     → Layered k (startOf (a .props) (a .state .now)) (a .layers .now) 0 (c .store-layer .last .0) (c .before .before .before .before .before .before .before .before .before .before .before .load-truths .last .1 .1 .0) (c .before .before .before .before .before .before .before .before .load-signed .last .1 .1 .1 .0)
 stored c k o n =

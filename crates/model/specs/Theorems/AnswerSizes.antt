@@ -1,12 +1,12 @@
 -- Every number of an answer is small enough for the numbers that hosts in C are given.
 -- Assumes nothing.
-use Prim.Native.Nat.{ℕ, zero, suc, _+_, _*_, _^_, _/_, _≤_, _<_}
-use mathlib.Core.Path.{_≡_, refl, sym, ap, subst, _∙_}
+use Prim.Native.Nat.{ℕ, suc, _+_, _*_, _^_, _/_, _≤_, _<_}
+use mathlib.Core.Path.{_≡_, refl, sym, subst}
 use mathlib.Core.Bool.{Bool, true, false, _||_}
-use mathlib.Core.List.{List, [], _∷_}
+use mathlib.Core.List.{List}
 use mathlib.Core.Option.{Option, none, some}
 use native.Mathlib.Omega.{arith}
-use lib.Dec.{T, not-T, leb, ltb, ltb→lt, nltb→le, lit≤}
+use lib.Dec.{T, leb, ltb, nltb→le, lit≤}
 use lib.IntN.{ℤ}
 use lib.ListN.{length}
 use Rattle.model.specs.declared.Refusal.{Refusal}
@@ -19,16 +19,16 @@ use Rattle.model.specs.declared.DecideAnswer.the-variants as decide
 use Rattle.model.specs.declared.PlanAnswer.{PlanAnswer}
 use Rattle.model.specs.declared.PlanAnswer.the-variants as plan
 use Rattle.model.specs.Limits.{paper}
-use Rattle.model.specs.Lists.{allBelow, firstFrom}
+use Rattle.model.specs.Lists.{allBelow}
 use Rattle.model.specs.Task.{Form, written, normal, Task}
 use Rattle.model.specs.Command.{head, codeOf}
 use Rattle.model.specs.Move.{State, applicable, real, moveAt}
 use Rattle.model.specs.Layer.{Outcome, reached, exhausted, reported, outcome}
 use Rattle.model.specs.Memory.{wrong15, wrong14, Built, answered, stopped, stopNumber, stopAt, build}
-use Rattle.model.specs.Plan.{Record, records, firstMoves}
+use Rattle.model.specs.Plan.{records}
 use Rattle.model.specs.Reading.{Table, Verdict, accepted, refused, Wanted, only, both, reading}
 use Rattle.model.specs.StateTable.{stateOf, stateRefusal, stateBytes, valueInRange}
-use Rattle.model.specs.Calls.{readOf, readAnswer, noBlock, blockRefusal, Output, writes, turns, fitted, writeAnswer, normalBytes, normalOf, normalised, normaliseAnswer, resultOf, moved, stepWithState, stepOf, stepped, stepAnswer, Ready, ready, unready, readyWith, readyOf, prepared, decided, decideOf, decideAnswer, planRecords, planned, planFitted, planOf, planAnswer, recordBytes}
+use Rattle.model.specs.Calls.{readOf, readAnswer, noBlock, blockRefusal, Output, writes, turns, fitted, writeAnswer, normalOf, normalised, normaliseAnswer, resultOf, moved, stepWithState, stepOf, stepped, stepAnswer, Ready, ready, unready, readyWith, readyOf, prepared, decided, decideOf, decideAnswer, planRecords, planned, planFitted, planOf, planAnswer, recordBytes}
 use Rattle.model.specs.Theorems.WellFormed.{TaskOk, VarsOk}
 use Rattle.model.specs.Theorems.Searching.{firstFrom-cases}
 use Rattle.model.specs.Theorems.Accepted.{reading-ok, reading-head, reading-form}

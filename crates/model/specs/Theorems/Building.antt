@@ -1,19 +1,18 @@
 -- How building layers in a memory ends: with room and no value past the limit it answers the outcome of the search, and whatever
 -- it answers is that outcome. Assumes nothing.
-use Prim.Native.Nat.{ℕ, zero, suc, _+_, _*_, _≤_, _<_}
-use mathlib.Core.Path.{_≡_, refl, sym, ap, _∙_}
-use mathlib.Core.Bool.{Bool, true, false, _||_}
+use Prim.Native.Nat.{ℕ, suc, _+_, _*_, _≤_, _<_}
+use mathlib.Core.Path.{_≡_, refl}
+use mathlib.Core.Bool.{Bool, false, _||_}
 use mathlib.Core.Option.{Option, none, some}
 use native.Mathlib.Nat.{mul-le-mul-left}
 use native.Mathlib.Omega.{arith}
-use lib.Dec.{T, ltb, ltb→lt}
-use lib.ListN.{length}
+use lib.Dec.{ltb, ltb→lt}
 use Rattle.model.specs.Limits.{Limits}
 use Rattle.model.specs.Lists.{firstFrom}
 use Rattle.model.specs.Task.{Task}
 use Rattle.model.specs.Move.{State}
 use Rattle.model.specs.Layer.{Outcome, reported, outcome}
-use Rattle.model.specs.Memory.{room, wrong15, wrong14, Built, answered, stopped, stopNumber, stopAt, build}
+use Rattle.model.specs.Memory.{room, wrong15, wrong14, answered, stopAt, build}
 use Rattle.model.specs.Theorems.Booleans.{or-cases, false-not}
 use Rattle.model.specs.Theorems.Searching.{firstFrom-cases}
 

@@ -1,22 +1,21 @@
 -- Demand 3, as one theorem from the bytes of a written table and of a state to the answers of normalise, decide and plan.
 -- Assumes nothing.
-use Prim.Native.Nat.{ℕ, zero, suc, _+_, _*_, _/_, _≤_, _<_}
-use mathlib.Core.Path.{_≡_, refl, sym, ap, subst, _∙_}
+use Prim.Native.Nat.{ℕ, _*_, _/_, _≤_}
+use mathlib.Core.Path.{_≡_, refl, ap, _∙_}
 use mathlib.Core.Logic.{_↔_}
-use mathlib.Core.Bool.{Bool, true, false}
-use mathlib.Core.List.{List, [], _∷_, _++_}
+use mathlib.Core.Bool.{false}
+use mathlib.Core.List.{List, [], _∷_}
 use mathlib.Core.Option.{Option, none, some}
 use native.Mathlib.Omega.{arith}
-use lib.Dec.{T, ltb}
 use lib.IntN.{ℤ}
 use lib.ListN.{length, take, drop, length-append}
 use lib.Seq.{take-append-seam}
 use borrow.Author.Tests.{le-ltb}
 use Rattle.model.specs.Limits.{paper}
-use Rattle.model.specs.Task.{Form, written, normal, Task}
+use Rattle.model.specs.Task.{written, normal, Task}
 use Rattle.model.specs.Move.{State, Solves, real, relaxed}
 use Rattle.model.specs.NormalForm.{normalTask, normalState}
-use Rattle.model.specs.Layer.{Outcome, reached, exhausted, reported, outcome, bound}
+use Rattle.model.specs.Layer.{Outcome, reported, outcome}
 use Rattle.model.specs.Reading.{Table, accepted, only, reading}
 use Rattle.model.specs.StateTable.{stateOf, stateRefusal}
 use Rattle.model.specs.Memory.{Built, room, wrong15, answered, build, overwrite}

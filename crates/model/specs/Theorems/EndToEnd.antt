@@ -1,29 +1,27 @@
 -- Demand 3 proved: from the bytes of an accepted written table and state to the answers; and the bound on layers for every
 -- answer whatever. Assumes nothing.
-use Prim.Native.Nat.{ℕ, zero, suc, _+_, _*_, _/_, _≤_, _<_}
+use Prim.Native.Nat.{ℕ, _/_, _≤_}
 use mathlib.Core.Path.{_≡_, refl, sym, ap, subst, _∙_}
 use mathlib.Core.Bool.{Bool, true, false}
-use mathlib.Core.List.{List, [], _∷_, _++_}
+use mathlib.Core.List.{List}
 use mathlib.Core.Option.{Option, none, some}
 use native.Mathlib.Omega.{arith}
 use lib.Dec.{ltb}
 use lib.IntN.{ℤ}
 use lib.ListN.{length}
 use Rattle.model.specs.Limits.{paper}
-use Rattle.model.specs.Task.{Form, written, normal, Task}
-use Rattle.model.specs.Move.{State, Solves, real, relaxed}
-use Rattle.model.specs.NormalForm.{normalTask, normalState}
+use Rattle.model.specs.Task.{Form, written, normal}
+use Rattle.model.specs.Move.{State, Solves, relaxed}
+use Rattle.model.specs.NormalForm.{normalState}
 use Rattle.model.specs.StateTable.{stateOf, stateRefusal}
 use Rattle.model.specs.declared.Refusal.{Refusal}
-use Rattle.model.specs.Layer.{Outcome, reached, exhausted, reported, outcome, bound}
+use Rattle.model.specs.Layer.{Outcome, reached, exhausted, reported, bound}
 use Rattle.model.specs.Command.{taskBytes}
 use Rattle.model.specs.Reading.{Table, accepted, refused, Verdict, only, reading, lengthLimit}
 use Rattle.model.specs.Memory.{Built, answered, stopped, build, overwrite}
 use Rattle.model.specs.Plan.{Record, records, firstMoves, planList}
 use Rattle.model.specs.Calls.{Ready, ready, unready, readyWith, readyOf, prepared, decideOf, planOf, planFitted, normalBytes, decided, planned, planRecords, decideAnswer, planAnswer, planOut, recordBytes}
-use Rattle.model.specs.declared.DecideAnswer.{DecideAnswer}
 use Rattle.model.specs.declared.DecideAnswer.the-variants as decide
-use Rattle.model.specs.declared.PlanAnswer.{PlanAnswer}
 use Rattle.model.specs.declared.PlanAnswer.the-variants as plan
 use Rattle.model.specs.Theorems.WellFormed.{TaskOk}
 use Rattle.model.specs.Theorems.Booleans.{true-T}
@@ -35,7 +33,7 @@ use Rattle.model.specs.Theorems.NormalPrint.{normalTable, normal-accepte
 use Rattle.model.specs.Theorems.NormalMoves.{written-normal}
 use Rattle.model.specs.Theorems.NormalTask.{normal-ok}
 use Rattle.model.specs.Theorems.Plans.{plan-solves}
-use Rattle.model.specs.Theorems.Demand3.{relaxedTask, startState, layerZero, endOf, Given, normalPart, DecideNoPlan, PlanNoPlan, decideLayers, planLayers, Found, Answers, ready-normal, normalise-answers, normalise-leaves, decide-answers, plan-answers, plan-writes}
+use Rattle.model.specs.Theorems.Demand3.{relaxedTask, startState, layerZero, endOf, Given, normalPart, decideLayers, planLayers, Answers, ready-normal, normalise-answers, normalise-leaves, decide-answers, plan-answers, plan-writes}
 
 -- different answers
 decide-differs : (m n r : ℕ) → decide.Plan m n ≡ decide.NoPlan r → ⊥

@@ -1,17 +1,17 @@
 -- Entries of layer memory: how one more layer changes an entry, and what an entry says of a layer.
 -- Assumes nothing.
-use Prim.Native.Nat.{ℕ, zero, suc, _+_, _≤_, _<_}
+use Prim.Native.Nat.{ℕ, suc, _+_, _≤_, _<_}
 use mathlib.Core.Path.{_≡_, refl, sym, ap, subst, _∙_}
 use mathlib.Core.Bool.{Bool, true, false, cond, _&&_}
 use mathlib.Core.Option.{Option, none, some}
 use native.Mathlib.Omega.{arith}
 use lib.Dec.{T, not-T, leb, ltb, ltb→lt, leb→le, le→leb, nleb→lt, nltb→le}
 use lib.IntN.{ℤ, pos, negsuc}
-use lib.Signed.{leZ, ltZ, _≤ℤ_}
-use Rattle.integer.specs.Linear.{zlin, le-ltZ, le-leZ, pos-mono}
+use lib.Signed.{leZ, ltZ}
+use Rattle.integer.specs.Linear.{le-ltZ, pos-mono}
 use Rattle.model.specs.Lists.{firstFrom}
 use Rattle.model.specs.Memory.{entry}
-use Rattle.model.specs.Theorems.Booleans.{T-true, true-T, not-false, false-not, T-cases, T-equal, and-left, and-right, and-both}
+use Rattle.model.specs.Theorems.Booleans.{true-T, not-false, false-not, T-cases, T-equal, and-right, and-both}
 use Rattle.model.specs.Theorems.Searching.{firstFrom-cases}
 
 -- an entry after one more layer, t: filled if it was empty and the layer has it

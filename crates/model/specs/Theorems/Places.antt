@@ -1,7 +1,6 @@
 -- The numbers and places of refusals are small: a number is 1 to 15, and a place of a table stands at most three bytes behind
 -- its end. Assumes nothing.
 use Prim.Native.Nat.{ℕ, zero, suc, _+_, _*_, _≤_, _<_}
-use mathlib.Core.Path.{_≡_, refl, subst}
 use mathlib.Core.Bool.{Bool, true, false, not}
 use mathlib.Core.List.{List, [], _∷_}
 use mathlib.Core.Option.{Option, none, some}
@@ -13,7 +12,7 @@ use Rattle.model.specs.Limits.{Limits}
 use Rattle.model.specs.Lists.{firstFrom}
 use Rattle.model.specs.Circle.{circular}
 use Rattle.model.specs.Command.{Command, head, openMove, openGoal, endTable, needProp, addProp, deleteProp, term, closeCondition, closeEffect, unknown, commandOf}
-use Rattle.model.specs.Reading.{Table, Verdict, accepted, refused, Wanted, Place, start, preamble, inMove, inGoal, finished, Seen, nothingSeen, wrong3, wrong2, wrong6, Operand, operands, firstWrong, wrong5, refusedAt, refusedOperand, firstRefusal, refusal, advance, tableOf, verdictOf, atEnd, Step, more, done, stepWith, readCommand, continue, readFrom, lengthLimit, reading}
+use Rattle.model.specs.Reading.{Table, Verdict, accepted, refused, Wanted, Place, start, preamble, inMove, inGoal, finished, Seen, nothingSeen, wrong3, wrong2, wrong6, Operand, operands, firstWrong, wrong5, refusedAt, refusedOperand, firstRefusal, refusal, advance, tableOf, verdictOf, atEnd, done, stepWith, readCommand, continue, readFrom, lengthLimit, reading}
 use Rattle.model.specs.StateTable.{valueOffset, stateValue, valueInRange, refusedValue, refusedByte, stateRefusal}
 use Rattle.model.specs.Theorems.WellFormed.{All}
 use Rattle.model.specs.Theorems.Searching.{firstFrom-cases}

@@ -1,12 +1,12 @@
 -- Building layers leaves a memory of the same length, and building them again changes nothing: so decide and plan may run one
 -- after the other on the same memory. Assumes nothing.
 use Prim.Native.Nat.{ℕ, zero, suc, _+_, _*_, _≤_, _<_}
-use mathlib.Core.Path.{_≡_, refl, sym, ap, subst, _∙_}
-use mathlib.Core.Bool.{Bool, true, false, not, _||_}
-use mathlib.Core.List.{List, [], _∷_, _++_}
-use mathlib.Core.Option.{Option, none, some}
+use mathlib.Core.Path.{_≡_, refl, ap, _∙_}
+use mathlib.Core.Bool.{Bool, _||_}
+use mathlib.Core.List.{List, _++_}
+use mathlib.Core.Option.{Option, some}
 use native.Mathlib.Omega.{arith}
-use lib.Dec.{T, not-T, ltb, ltb→lt, nltb→le}
+use lib.Dec.{T, not-T, ltb, nltb→le}
 use lib.IntN.{ℤ}
 use lib.ListN.{length, drop, length-append, length-drop}
 use lib.Seq.{drop-append-seam}
@@ -14,9 +14,8 @@ use Rattle.model.specs.Limits.{Limits, paper}
 use Rattle.model.specs.Task.{Task}
 use Rattle.model.specs.Move.{State}
 use Rattle.model.specs.Layer.{Outcome, reached, exhausted, reported, outcome}
-use Rattle.model.specs.Memory.{layerMemory, overwrite, room, wrong15, wrong14, Built, answered, stopped, stopAt, build, builtMemory}
+use Rattle.model.specs.Memory.{layerMemory, overwrite, room, wrong15, wrong14, answered, stopAt, build, builtMemory}
 use Rattle.model.specs.Calls.{Ready, ready, unready, prepared, memoryOf, decideMemory, planOf, planAnswer, planOutOf, planOut}
-use Rattle.model.specs.declared.PlanAnswer.{PlanAnswer}
 use Rattle.model.specs.Theorems.Booleans.{or-right}
 use Rattle.model.specs.Theorems.Searching.{firstFrom-cases}
 use Rattle.model.specs.Theorems.Memories.{length-memory}

@@ -3,14 +3,16 @@
 use Prim.Native.Nat.{ℕ, zero, suc, _+_, _*_, _≤_, _<_}
 use native.Mathlib.Nat.{zero-add}
 use native.Mathlib.Omega.{arith}
-use mathlib.Core.Path.{_≡_}
+use mathlib.Core.Path.{_≡_, refl}
 use mathlib.Core.List.{List, [], _∷_, _++_}
 use lib.Dec.{T, eqb}
 use lib.ListN.{length, length-append}
+use Rattle.integer.specs.BigEndian.{bytes, length-bytes}
 use Rattle.model.specs.Task.{Task}
 use Rattle.model.specs.Move.{State}
 use Rattle.model.specs.Layer.{layerAt}
 use Rattle.model.specs.Plan.{Wants, Descent, descend, Record, layerRecords, recordsFrom, records}
+use Rattle.model.specs.Calls.{recordBytes}
 use Rattle.model.specs.Theorems.WellFormed.{All}
 use Rattle.model.specs.Theorems.Searching.{All-map}
 use Rattle.model.specs.Theorems.Descending.{elim-cases}
@@ -151,3 +153,10 @@ module _ (k : Task) (s : State) where
   pub records-length : (m : ℕ) → length (records k s m) ≤ length (k .moves) * m
   unfolding records
   records-length m = from-length m _
+
+-- ---- "Record: 52, move (1 byte), count (8 bytes)"
+
+pub length-recordBytes : (rs : List Record) → length (recordBytes rs) ≡ 10 * length rs
+unfolding recordBytes
+length-recordBytes [] = refl
+length-recordBytes (r ∷ rs) = omega (arith, length-append (bytes 8 (r .count)) (recordBytes rs), length-bytes 8 (r .count), length-recordBytes rs)

@@ -1,8 +1,8 @@
 -- The trial campaigns of document 01 that are marked *, settled together from their bytes: one theorem, computed.
 -- Assumes nothing.
 use Prim.Native.Nat.{ℕ, zero, suc, _+_, _*_, _^_, _-_, _≤_, _<_}
-use mathlib.Core.Path.{_≡_, refl, sym, ap, subst, _∙_}
-use mathlib.Core.Bool.{Bool, true, false, _&&_}
+use mathlib.Core.Path.{_≡_, refl, ap, subst, _∙_}
+use mathlib.Core.Bool.{true, _&&_}
 use mathlib.Core.List.{List, [], _∷_, _++_}
 use lib.Dec.{T}
 use lib.IntN.{ℤ, pos, negsuc, _+ℤ_, _*ℤ_}
@@ -15,7 +15,7 @@ use Rattle.model.specs.Task.{written, equal, increase, condition, effect
 use Rattle.model.specs.Move.{State, Solves, real, applicable, moveAt}
 use Rattle.model.specs.Reading.{Table, only, reading, accepted}
 use Rattle.model.specs.StateTable.{stateOf}
-use Rattle.model.specs.Calls.{readAnswer, normaliseAnswer, normaliseOut, decideAnswer, decideMemory, planAnswer, planMemory, planOut}
+use Rattle.model.specs.Calls.{readAnswer, normaliseAnswer, normaliseOut, decideAnswer, planAnswer, planMemory, planOut}
 use Rattle.model.specs.Listing.{listing}
 use Rattle.model.specs.declared.ReadAnswer.the-variants as read
 use Rattle.model.specs.declared.WriteAnswer.the-variants as write

@@ -3,7 +3,8 @@ use native.Mathlib.Omega.{arith}
 use borrow.Author.Needs.{needs}
 use Rattle.model.specs.Task.{written}
 use Rattle.table.specs.Names.{wantedOf}
-use Rattle.normal.specs.Heads.{head-read, head-refused, head-source, head-heads, normalise-written, normalise-refused}
+use Rattle.table.specs.Outlines.{head-read, head-refused}
+use Rattle.normal.specs.Heads.{head-source, head-heads, normalise-written, normalise-refused}
 use Rattle.normal.proofs.normalise.Statement.{statement}
 use Rattle.normal.proofs.normalise.Tie as tie
 

@@ -14,7 +14,8 @@ use Rattle.model.specs.Task.{effectOn}
 use Rattle.model.specs.Layer.{reaches}
 use Rattle.block.specs.Items.{readable}
 use Rattle.block.specs.Blocks.{next-is, layer-summable, layer-effect-value, effect-base}
-use Rattle.relaxed_plan.specs.Search.{partAt, Achievable, From, from-start, from-next, fails, part-in, achievesAt, AchieverAt, achiever-none, achiever-start, achiever-pass, achiever-other, achiever-hit, achiever-miss, achiever-over}
+use Rattle.table.specs.Outlines.{partAt}
+use Rattle.relaxed_plan.specs.Search.{Achievable, From, from-start, from-next, fails, part-in, achievesAt, AchieverAt, achiever-none, achiever-start, achiever-pass, achiever-other, achiever-hit, achiever-miss, achiever-over}
 use Rattle.relaxed_plan.proofs.find_achiever.Statement.{statement}
 use Rattle.relaxed_plan.proofs.find_achiever.Tie as tie
 

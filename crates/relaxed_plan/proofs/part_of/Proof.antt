@@ -1,6 +1,5 @@
 -- `part_of` meets its contract. Assumes nothing.
 use mathlib.Core.Path.{refl}
-use Rattle.relaxed_plan.specs.Search.{partAt}
 use borrow.Author.Needs.{needs}
 use Rattle.relaxed_plan.proofs.part_of.Statement.{statement}
 use Rattle.relaxed_plan.proofs.part_of.Tie as tie
@@ -30,7 +29,6 @@ part-result-end : tie.Need-part-result-end
 part-result-end c = search needs
 
 returns : tie.Need-returns
-unfolding partAt
 returns c = refl
 
 pub part-of-spec : {M : Type 1} → statement M

@@ -7,7 +7,7 @@ use lib.Dec.{eqb}
 use lib.ListN.{length, getD}
 use borrow.Author.Tests.{lt-leb, le-leb}
 use borrow.Author.Needs.{needs}
-use Rattle.model.specs.Command.{ruleOf, width, needProp, addProp, deleteProp, term, closeEffect}
+use Rattle.model.specs.Command.{ruleOf, width, needProp, addProp, deleteProp, closeEffect}
 use Rattle.table.specs.Names.{commandIs}
 use Rattle.table.specs.State.{wrongAt, repeated}
 use Rattle.table.specs.Passing.{need-range, add-range, delete-range, effect-range}
@@ -41,10 +41,6 @@ ranged7 c = rw (c .enum-told7 .given .1) at (c .before .before .before .pre .2)
 uncut8 : (c : tie.After-enum-told8) → c .before .before .before .args .c .at + 4 ≤ length (c .before .before .before .args .table .now)
 unfolding width ruleOf commandIs
 uncut8 c = rw (c .enum-told8 .given .1) at (c .before .before .before .pre .1)
-
-ranged8 : (c : tie.After-enum-told8) → wrongAt (c .before .before .before .args .table .now) (c .before .before .before .args .c) term ≡ 0
-unfolding commandIs
-ranged8 c = rw (c .enum-told8 .given .1) at (c .before .before .before .pre .2)
 
 uncut10 : (c : tie.After-enum-told10) → c .before .before .before .args .c .at + 7 ≤ length (c .before .before .before .args .table .now)
 unfolding width ruleOf commandIs

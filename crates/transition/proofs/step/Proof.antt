@@ -7,7 +7,7 @@ use Rattle.model.specs.Reading.{only, reading}
 use Rattle.model.specs.Calls.{stepOf}
 use Rattle.table.specs.Names.{wantedOf}
 use Rattle.normal.specs.Answers.{answered-refused}
-use Rattle.normal.specs.Heads.{head-read, head-refused}
+use Rattle.table.specs.Outlines.{head-read, head-refused}
 use Rattle.transition.specs.Steps.{step-answered, step-table-refused}
 use Rattle.transition.proofs.step.Statement.{statement}
 use Rattle.transition.proofs.step.Tie as tie

@@ -1,21 +1,25 @@
--- An accepted table with the offsets of its blocks: each block's part is its print. Assumes nothing.
+-- An accepted table with its head and the offsets of its blocks, each block's part being its print; or the refusal.
+-- Assumes nothing.
 use Prim.Native.Nat.{ℕ, zero, suc, _+_, _-_, _≤_, _<_}
 use native.Mathlib.Numerals.{add-one}
 use native.Mathlib.Omega.{arith}
 use mathlib.Core.Path.{_≡_, sym, ap, ap₂, _∙_, subst}
 use mathlib.Core.List.{List, [], _∷_}
 use lib.ListN.{length, getD, take, drop}
-use lib.Seq.{slice, take-add, drop-at, length-take-le}
+use lib.Seq.{slice}
 use Rattle.integer.specs.BigEndian.{AllBytes}
+use Rattle.model.specs.declared.Refusal.{Refusal}
+use Rattle.model.specs.declared.ReadAnswer.{ReadAnswer}
+use Rattle.model.specs.declared.ReadAnswer.the-variants as read
 use Rattle.model.specs.Limits.{paper}
 use Rattle.model.specs.Task.{Form, Task}
 use Rattle.model.specs.Command.{openMove, openGoal, codeOf, itemsBytes, taskBytes}
-use Rattle.model.specs.Reading.{Table, accepted, only, lengthLimit, reading}
-use Rattle.model.specs.Theorems.WellFormed.{TaskOk, Once}
-use Rattle.model.specs.Theorems.Accepted.{Accepted, reading-accepted, reading-form}
+use Rattle.model.specs.Reading.{Table, accepted, refused, only, lengthLimit, reading}
+use Rattle.model.specs.Theorems.WellFormed.{TaskOk}
+use Rattle.model.specs.Theorems.Accepted.{Accepted, reading-accepted, reading-form, reading-head}
 use Rattle.model.specs.Theorems.Parts.{move-part, goal-part}
-use Rattle.model.specs.Theorems.Layers.{move-ok}
-use Rattle.block.specs.Items.{Ranges, Left, left-start}
+use Rattle.table.specs.Answer.{Outlined, answer-accepted, answer-refused}
+use Rattle.table.specs.Part.{part-slice}
 
 -- the part of block b
 abbrev pub partAt : List ℕ → List ℕ → ℕ → List ℕ
@@ -30,27 +34,6 @@ pub record Outline (f : Form) (table marks : List ℕ) (k : Task) : Type 0 where
   pub within : (b : ℕ) → b ≤ length (k .moves) → getD marks (b + 1) 0 ≤ length table
   pub move : (b : ℕ) → b < length (k .moves) → partAt table marks b ≡ codeOf openMove ∷ itemsBytes (getD (k .moves) b [])
   pub goal : partAt table marks (length (k .moves)) ≡ codeOf openGoal ∷ itemsBytes (k .goal)
-
-abbrev pub rangesOf : Form → Task → Ranges
-rangesOf f k = record { form = f; props = k .props; vars = k .vars }
-
-module _ {f : Form} {table marks : List ℕ} {k : Task} (o : Outline f table marks k) where
-  pub move-left : (b : ℕ) → b < length (k .moves) → Left (rangesOf f k) (partAt table marks b) 1 (getD (k .moves) b [])
-  move-left b h = left-start (codeOf openMove) (o .move b h) (move-ok (o .ok) b h .items)
-
-  pub move-once : (b : ℕ) → b < length (k .moves) → Once (getD (k .moves) b [])
-  move-once b h = move-ok (o .ok) b h .once
-
-  pub goal-left : Left (rangesOf f k) (partAt table marks (length (k .moves))) 1 (k .goal)
-  goal-left = left-start (codeOf openGoal) (o .goal) (o .ok .goal .items)
-
--- a part by its two offsets
-part-slice : (l : List ℕ) (a e : ℕ) → a ≤ e → e ≤ length l → take (e - a) (drop a l) ≡ slice a e l
-part-slice l a e h g =
-    let q : e ≡ a + (e - a) = omega arith in
-    sym (drop-at (take a l) (take (e - a) (drop a l)) a (length-take-le a l (omega arith)))
-    ∙ ap (drop a) (sym (take-add a (e - a) l))
-    ∙ ap (λ (n : ℕ). slice a n l) (sym q)
 
 -- what is above 0 stands within the list
 inside-list : (l : List ℕ) (i : ℕ) → 0 < getD l i 0 → i < length l
@@ -81,7 +64,7 @@ module _ (f : Form) (table marks : List ℕ) (t : Table) (e : reading paper (onl
 
     part-is : (b : ℕ) → b ≤ length (t .task .moves) → partAt table marks b ≡ slice (getD (t .marks) b 0) (getD (t .marks) (suc b) 0) table
     part-is b h =
-        part-slice table (getD marks b 0) (getD marks (b + 1) 0) (order b h) (last b h)
+        part-slice (getD marks b 0) (getD marks (b + 1) 0) table (order b h)
         ∙ ap₂ (λ (x y : ℕ). slice x y table) (same b (omega (arith, outline-moves)))
         (same (b + 1) (omega (arith, outline-moves)) ∙ ap (λ (n : ℕ). getD (t .marks) n 0) (add-one b))
 
@@ -100,3 +83,34 @@ module _ (f : Form) (table marks : List ℕ) (t : Table) (e : reading paper (onl
           move = λ b h. part-is b (omega arith) ∙ move-part a all b h;
           goal = part-is (length (t .task .moves)) (omega arith) ∙ goal-part a all;
         }
+
+-- the head that was read, of an accepted table
+pub record HeadRead (f : Form) (t marks : List ℕ) (props vars moves : ℕ) : Type 0 where
+  pub table : Table
+  pub is : reading paper (only f) t ≡ accepted table
+  pub outline : Outline f t marks (table .task)
+  pub props-is : props ≡ table .task .props
+  pub vars-is : vars ≡ table .task .vars
+  pub count : moves ≡ length (table .task .moves)
+
+module _ (f : Form) {t marks : List ℕ} {r : ReadAnswer} (o : Outlined t (reading paper (only f) t) r marks) where
+  pub head-read :
+      {kind props vars moves : ℕ}
+      → r ≡ read.Head kind props vars moves
+      → AllBytes t
+      → HeadRead f t marks props vars moves
+  head-read {kind} {props} {vars} {moves} e all =
+      let a = answer-accepted (reading paper (only f) t) kind props vars moves (sym (o .answer) ∙ e) in
+      let k = a .table in
+      let h = reading-head paper (only f) t (a .is) in
+      record {
+        table = k;
+        is = a .is;
+        outline = outline-of f t marks k (a .is) all (o .marks k (a .is)) (o .rising k (a .is)) (o .inside k (a .is));
+        props-is = sym (a .props-is) ∙ h .0;
+        vars-is = sym (a .vars-is) ∙ h .1;
+        count = sym (a .moves-is) ∙ h .2;
+      }
+
+  pub head-refused : {q : Refusal} → r ≡ read.Refused q → reading paper (only f) t ≡ refused q
+  head-refused {q} e = answer-refused (reading paper (only f) t) q (sym (o .answer) ∙ e)
