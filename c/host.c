@@ -4,13 +4,8 @@
  * usage: host TABLE STATE [MOVE..]
  * Exit status: 0 if all was accepted, 1 after a refusal, 2 if a file or an argument is bad.
  */
-#include "lapyndo.h"
+#include "common.h"
 
-#include <errno.h>
-#include <inttypes.h>
-#include <stdbool.h>
-#include <stdio.h>
-#include <stdlib.h>
 #include <string.h>
 
 /* One byte more than is ever accepted, so that longer files are refused as too long. */
@@ -20,31 +15,6 @@ static uint8_t normal[LAPYNDO_NORMAL_BYTES];
 static uint8_t after[LAPYNDO_STATE_BYTES];
 
 static size_t table_len, state_len, propositions;
-
-/* Fills a memory from a file as far as it goes. */
-static bool load(const char *name, uint8_t *memory, size_t room, size_t *length) {
-    FILE *file = fopen(name, "rb");
-    if (file == NULL) {
-        perror(name);
-        return false;
-    }
-    *length = fread(memory, 1, room, file);
-    bool whole = !ferror(file);
-    if (!whole) {
-        perror(name);
-    }
-    fclose(file);
-    return whole;
-}
-
-/* Shows a refusal; false if there is none. */
-static bool refused(const char *call, uint64_t answer) {
-    if (lapyndo_refusal(answer) == 0) {
-        return false;
-    }
-    printf("%s: refusal %" PRIu32 " place %" PRIu32 "\n", call, lapyndo_refusal(answer), lapyndo_place(answer));
-    return true;
-}
 
 static void show_bytes(const uint8_t *bytes, size_t length) {
     for (size_t i = 0; i < length; i++) {
@@ -107,17 +77,6 @@ static bool make_move(uint64_t move) {
     return true;
 }
 
-static bool number(const char *text, uint64_t *value) {
-    char *end;
-    errno = 0;
-    *value = strtoull(text, &end, 10);
-    bool whole = text[0] >= '0' && text[0] <= '9' && *end == '\0' && errno == 0;
-    if (!whole) {
-        fprintf(stderr, "%s: not the number of a move\n", text);
-    }
-    return whole;
-}
-
 int main(int argc, char **argv) {
     if (argc < 3) {
         fputs("usage: host TABLE STATE [MOVE..]\n", stderr);
@@ -130,7 +89,7 @@ int main(int argc, char **argv) {
     accepted &= show_normal_form();
     for (int i = 3; i < argc; i++) {
         uint64_t move;
-        if (!number(argv[i], &move)) {
+        if (!number_of(argv[i], &move)) {
             return 2;
         }
         accepted &= make_move(move);

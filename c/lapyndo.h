@@ -1,4 +1,4 @@
-/* The campaign planning engine: reading, normalising and stepping, for hosts in C.
+/* The campaign planning engine for hosts in C: planning a campaign, reading, normalising and stepping.
  *
  * Every call takes any bytes and answers one 64-bit number:
  *
@@ -6,8 +6,8 @@
  *     bits  0..31   the place of the refusal, or the result
  *
  * The functions below the calls take it apart. A call uses no heap and no state of its own, keeps no pointer, and
- * writes nothing but its output. A memory of length 0 may have any pointer that is not null. An output must not
- * overlap an input.
+ * writes nothing but the memories and numbers that are lent to be written. A memory of length 0 may have any pointer
+ * that is not null. A memory or number that is written must not overlap another.
  *
  * Link libengine.a.
  */
@@ -48,8 +48,40 @@ enum {
     LAPYNDO_NO_SUCH_MOVE = 10,     /* the table has no such move; place 0 */
     LAPYNDO_CONDITIONS_FAIL = 11,  /* the move's conditions are not all true; place 0 */
     LAPYNDO_RESULT_RANGE = 12,     /* a result is beyond 1,000,000 or -1,000,000; place 0 */
-    LAPYNDO_OUTPUT_SHORT = 13      /* the output is shorter than the result; place 0 */
+                                   /* each new layer, in this order: */
+    LAPYNDO_LAYER_RANGE = 15,      /*   a finite value is above 1,000,000,000,000; place: the layer */
+    LAPYNDO_LAYERS_SHORT = 14,     /*   the layer memory is too short for it; place: the layer */
+    LAPYNDO_OUTPUT_SHORT = 13      /* an output is shorter than the result; place 0 */
 };
+
+/* Plans a campaign, from a written table and a state: the call for monitors and for the rig.
+ *
+ * Writes the normal form, decides from exactly those bytes, and plans. "No plan": no list of moves, of any length,
+ * reaches the goal. A plan solves the relaxed task, in which no proposition is deleted and no signed value (v or -v)
+ * falls.
+ *
+ * Result: "no plan" or a plan, with the reported layers; see lapyndo_no_plan and lapyndo_layers.
+ * Refusals, in the order of the checks: 1 to 7; 13, normal is too short; 8 and 9; 15 and 14; 13, out is too short.
+ *
+ * state:    see lapyndo_step.
+ * normal:   LAPYNDO_NORMAL_BYTES always suffice, and so does twice the length of the table. Once the table is accepted
+ *           and normal is long enough: the normal form from the start, and the bytes behind it are kept; otherwise all
+ *           bytes are kept.
+ * layers:   P + A + N * (layers + 1) numbers suffice. P, V and A are the table's counts, N is 2 * V, and there are at
+ *           most (A + N + 1) * (N + 1) layers. Accepted, for each proposition the first layer that has it, for each
+ *           move the first layer whose step used it (-1: never), then each layer's N values (INT64_MAX: unbounded), 2i
+ *           for variable i and 2i + 1 for its negative; the numbers behind are kept. Refused, the same after 13 for
+ *           out, every layer made before after 15, and after 14 with a place above 0; otherwise all numbers are kept.
+ * out:      10 bytes a record suffice, none with "no plan". A record is 0x52, the move, and how often it is made:
+ *           8 bytes, big-endian. Accepted, the records from the start, and the bytes behind them are kept; refused, all
+ *           bytes are kept.
+ * decision: always written: the answer that a longer out would get. After 13 it is 13 too if normal is too short.
+ * records:  accepted, the number of records, 0 with "no plan"; refused, kept.
+ * first:    accepted, the set of moves taken at layer 0, bit b for move b, 0 with "no plan"; refused, kept.
+ */
+uint64_t lapyndo_campaign(const uint8_t *table, size_t table_len, const uint8_t *state, size_t state_len,
+                          uint8_t *normal, size_t normal_len, int64_t *layers, size_t layers_len, uint8_t *out,
+                          size_t out_len, uint64_t *decision, uint64_t *records, uint64_t *first);
 
 /* Makes all checks of a written or normal table.
  *
@@ -83,6 +115,12 @@ static inline uint32_t lapyndo_refusal(uint64_t answer) { return (uint32_t)(answ
 
 /* Of a refusal: its place. */
 static inline uint32_t lapyndo_place(uint64_t answer) { return (uint32_t)answer; }
+
+/* Of an accepted lapyndo_campaign, and of its decision: 1 for "no plan", otherwise 0. */
+static inline int lapyndo_no_plan(uint64_t answer) { return (int)(answer >> 31 & 1); }
+
+/* Of an accepted lapyndo_campaign, and of its decision: the reported layers, which are the number of the last layer. */
+static inline uint32_t lapyndo_layers(uint64_t answer) { return (uint32_t)answer & 0x7FFFFFFF; }
 
 /* Of an accepted lapyndo_normalise or lapyndo_step: the number of bytes written. */
 static inline size_t lapyndo_length(uint64_t answer) { return (size_t)(uint32_t)answer; }

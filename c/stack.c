@@ -9,10 +9,8 @@
  * Exit status: 0; 1 if the painted stack was too small; 2 if a file is missing or a campaign is refused.
  */
 #define _XOPEN_SOURCE 700
-#include "lapyndo.h"
+#include "common.h"
 
-#include <stdbool.h>
-#include <stdio.h>
 #include <string.h>
 #include <ucontext.h>
 
@@ -22,7 +20,9 @@ enum { STACK_BYTES = 1 << 16, PAINT = 0x5A, DEPTH = 64, LAYER_NUMBERS = 8192 };
 static uint8_t written[LAPYNDO_WRITTEN_BYTES], normal[LAPYNDO_NORMAL_BYTES], state[LAPYNDO_STATE_BYTES];
 static size_t written_len, normal_len, state_len;
 
-static uint8_t out[LAPYNDO_NORMAL_BYTES];
+static uint8_t spare[LAPYNDO_NORMAL_BYTES], out[LAPYNDO_NORMAL_BYTES];
+static int64_t layers[LAYER_NUMBERS];
+static uint64_t decision, records, first_moves;
 
 /* Which move or block, and how much of the output is lent. */
 static uint64_t number;
@@ -39,6 +39,11 @@ static void call_normalise(void) { lapyndo_normalise(written, written_len, out, 
 
 static void call_step(void) { lapyndo_step(written, written_len, state, state_len, number, out, room); }
 
+static void call_campaign(void) {
+    lapyndo_campaign(written, written_len, state, state_len, spare, sizeof spare, layers, LAYER_NUMBERS, out, room,
+                     &decision, &records, &first_moves);
+}
+
 #ifdef PLANNING
 uint64_t lapyndo_block(const uint8_t *table, size_t table_len, uint64_t block, uint8_t *out, size_t out_len);
 uint64_t lapyndo_decide(const uint8_t *table, size_t table_len, const uint8_t *state, size_t state_len,
@@ -46,14 +51,11 @@ uint64_t lapyndo_decide(const uint8_t *table, size_t table_len, const uint8_t *s
 uint64_t lapyndo_plan(const uint8_t *table, size_t table_len, const uint8_t *state, size_t state_len, int64_t *layers,
                       size_t layers_len, uint8_t *out, size_t out_len, uint64_t *records, uint64_t *first_moves);
 
-static int64_t layers[LAYER_NUMBERS];
-
 static void call_block(void) { lapyndo_block(normal, normal_len, number, out, room); }
 
 static void call_decide(void) { lapyndo_decide(normal, normal_len, state, state_len, layers, LAYER_NUMBERS); }
 
 static void call_plan(void) {
-    static uint64_t records, first_moves;
     lapyndo_plan(normal, normal_len, state, state_len, layers, LAYER_NUMBERS, out, room, &records, &first_moves);
 }
 #endif
@@ -63,9 +65,14 @@ static struct {
     void (*run)(void);
     size_t most;
 } calls[] = {
-    {"read", call_read, 0},   {"normalise", call_normalise, 0}, {"step", call_step, 0},
+    {"read", call_read, 0},
+    {"normalise", call_normalise, 0},
+    {"step", call_step, 0},
+    {"campaign", call_campaign, 0},
 #ifdef PLANNING
-    {"block", call_block, 0}, {"decide", call_decide, 0},       {"plan", call_plan, 0},
+    {"block", call_block, 0},
+    {"decide", call_decide, 0},
+    {"plan", call_plan, 0},
 #endif
 };
 
@@ -120,17 +127,10 @@ static bool measure_whole_and_cut(void) {
     return true;
 }
 
-static bool load(const char *folder, const char *name, uint8_t *memory, size_t room, size_t *length) {
+static bool load_from(const char *folder, const char *name, uint8_t *memory, size_t room, size_t *length) {
     char path[4096];
     snprintf(path, sizeof path, "%s/%s", folder, name);
-    FILE *file = fopen(path, "rb");
-    if (file == NULL) {
-        perror(path);
-        return false;
-    }
-    *length = fread(memory, 1, room, file);
-    fclose(file);
-    return true;
+    return load(path, memory, room, length);
 }
 
 static void put(const uint8_t *bytes, size_t length) {
@@ -173,8 +173,8 @@ static int report(void) {
 int main(int argc, char **argv) {
     bool accepted = true;
     for (int i = 1; i < argc; i++) {
-        accepted = accepted && load(argv[i], "task.bin", written, sizeof written, &written_len) &&
-                   load(argv[i], "state.bin", state, sizeof state, &state_len) && measure_whole_and_cut();
+        accepted = accepted && load_from(argv[i], "task.bin", written, sizeof written, &written_len) &&
+                   load_from(argv[i], "state.bin", state, sizeof state, &state_len) && measure_whole_and_cut();
     }
     make_deep();
     accepted = accepted && measure_whole_and_cut();

@@ -108,6 +108,29 @@ impl Bench {
         )
     }
 
+    fn campaign(&mut self) -> Times {
+        let Task { table, state } = &self.task;
+        let mut others = self.out.clone();
+        let [mut lent, mut other] = [self.normal(), self.normal()];
+        let (mut decision, mut records, mut first_moves) = (0, 0, 0);
+        compare(
+            || {
+                let numbers = raw::Numbers {
+                    decision: &mut decision,
+                    records: &mut records,
+                    first_moves: &mut first_moves,
+                };
+                let (layers, out) = (&mut lent.layers, &mut lent.out);
+                raw::campaign(table, state, &mut self.out, layers, out, numbers).is_ok()
+            },
+            || {
+                let (layers, out) = (&mut other.layers, &mut other.out);
+                let campaign = REFERENCE.campaign(table, state, &mut others, layers, out);
+                campaign.plan.is_ok()
+            },
+        )
+    }
+
     /// The layers that `decide` reports.
     fn reported_layers(&mut self) -> u64 {
         let Task { table, state } = &self.task;
@@ -212,6 +235,7 @@ fn calls_table(mut written: Vec<Bench>) {
         row("read", bench, Bench::read);
         row("normalise", bench, Bench::normalise);
         row("step", bench, Bench::step);
+        row("campaign", bench, Bench::campaign);
     }
     let normal = written.iter().map(Bench::normal);
     for mut bench in normal.chain(normal_campaigns()) {

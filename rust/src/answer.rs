@@ -133,6 +133,16 @@ pub struct Plan {
     pub first: u64,
 }
 
+impl Plan {
+    /// What `decide` answers beside it.
+    pub fn decision(self) -> Decision {
+        Decision {
+            answer: self.answer,
+            layers: self.layers,
+        }
+    }
+}
+
 impl fmt::Display for Plan {
     fn fmt(&self, f: &mut fmt::Formatter<'_>) -> fmt::Result {
         write!(
@@ -140,6 +150,23 @@ impl fmt::Display for Plan {
             "{} layers {} records {} first {}",
             self.answer, self.layers, self.records, self.first
         )
+    }
+}
+
+/// What `campaign` answers: the answers of `decide` and of `plan`, or both times the refusal of
+/// `normalise`.
+#[derive(Clone, Copy, Debug, PartialEq, Eq)]
+pub struct Campaign {
+    pub decision: Result<Decision, Refusal>,
+    pub plan: Result<Plan, Refusal>,
+}
+
+impl Campaign {
+    pub fn refused(refusal: Refusal) -> Campaign {
+        Campaign {
+            decision: Err(refusal),
+            plan: Err(refusal),
+        }
     }
 }
 

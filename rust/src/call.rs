@@ -1,6 +1,6 @@
 //! A call as data: read from a line of fields, printed as such, and run on an engine.
 
-use crate::answer::Refusal;
+use crate::answer::{Campaign, Refusal};
 use crate::engine::Engine;
 use crate::generate::Rng;
 use crate::guarded::Guarded;
@@ -59,19 +59,24 @@ pub enum CallKind {
     Step,
     Decide,
     Plan,
+    Campaign,
     Listing,
 }
 
 impl CallKind {
-    pub const ALL: [CallKind; 7] = [
+    pub const ALL: [CallKind; 8] = [
         CallKind::Read,
         CallKind::Block,
         CallKind::Normalise,
         CallKind::Step,
         CallKind::Decide,
         CallKind::Plan,
+        CallKind::Campaign,
         CallKind::Listing,
     ];
+
+    /// The calls that the engine exports.
+    pub const EXPORTED: &'static [CallKind] = Self::ALL.split_at(7).0;
 
     /// How many outcomes are recorded.
     pub fn lines(self) -> usize {
@@ -82,6 +87,7 @@ impl CallKind {
             CallKind::Step => 599,
             CallKind::Decide => 637,
             CallKind::Plan => 617,
+            CallKind::Campaign => 31,
             CallKind::Listing => 264,
         }
     }
@@ -101,6 +107,7 @@ impl CallKind {
             CallKind::Step => "step.txt",
             CallKind::Decide => "decide.txt",
             CallKind::Plan => "plan.txt",
+            CallKind::Campaign => "campaign.txt",
             CallKind::Listing => "listing.txt",
         }
     }
@@ -134,6 +141,14 @@ pub enum Call {
     Plan {
         table: Vec<u8>,
         state: Vec<u8>,
+        numbers: usize,
+        room: usize,
+    },
+    Campaign {
+        table: Vec<u8>,
+        state: Vec<u8>,
+        /// Bytes for the normal form.
+        normal: usize,
         numbers: usize,
         room: usize,
     },
@@ -176,6 +191,13 @@ impl Call {
                 numbers: fields.number()?,
                 room: fields.number()?,
             },
+            CallKind::Campaign => Call::Campaign {
+                table: fields.bytes()?,
+                state: fields.bytes()?,
+                normal: fields.number()?,
+                numbers: fields.number()?,
+                room: fields.number()?,
+            },
             CallKind::Listing => Call::Listing {
                 task: fields.bytes()?,
                 state: fields.bytes()?,
@@ -193,6 +215,7 @@ impl Call {
             Call::Step { .. } => CallKind::Step,
             Call::Decide { .. } => CallKind::Decide,
             Call::Plan { .. } => CallKind::Plan,
+            Call::Campaign { .. } => CallKind::Campaign,
             Call::Listing { .. } => CallKind::Listing,
         }
     }
@@ -231,6 +254,16 @@ impl Call {
                 let memory = fill.memory(*numbers);
                 run_plan(engine, table, state, memory, fill.output(*room))
             }
+            Call::Campaign {
+                table,
+                state,
+                normal,
+                numbers,
+                room,
+            } => {
+                let (normal, memory) = (fill.output(*normal), fill.memory(*numbers));
+                run_campaign(engine, table, state, normal, memory, fill.output(*room))
+            }
             Call::Listing { task, state } => run_listing(engine, task, state),
         }
     }
@@ -260,6 +293,16 @@ impl fmt::Display for Call {
                 numbers,
                 room,
             } => write!(f, "{} {} {numbers} {room}", hex(table), hex(state)),
+            Call::Campaign {
+                table,
+                state,
+                normal,
+                numbers,
+                room,
+            } => {
+                let (table, state) = (hex(table), hex(state));
+                write!(f, "{table} {state} {normal} {numbers} {room}")
+            }
             Call::Listing { task, state } => write!(f, "{} {}", hex(task), hex(state)),
         }
     }
@@ -337,7 +380,7 @@ fn run_decide(
     memory.check("memory")?;
     Ok(format!(
         "{} memory {}",
-        answer.map_or_else(refused, |decision| decision.to_string()),
+        shown(answer),
         decimal(memory.lent())
     ))
 }
@@ -361,7 +404,37 @@ fn run_plan(
     out.check("out")?;
     Ok(format!(
         "{} out {} memory {}",
-        answer.map_or_else(refused, |plan| plan.to_string()),
+        shown(answer),
+        hex(out.lent()),
+        decimal(memory.lent())
+    ))
+}
+
+fn run_campaign(
+    engine: &dyn Engine,
+    table: &[u8],
+    state: &[u8],
+    mut normal: Guarded<u8>,
+    mut memory: Guarded<i64>,
+    mut out: Guarded<u8>,
+) -> Result<String, String> {
+    let inputs = Inputs::holding(table, state);
+    let Campaign { decision, plan } = engine.campaign(
+        inputs.table.lent(),
+        inputs.state.lent(),
+        normal.lend(),
+        memory.lend(),
+        out.lend(),
+    );
+    inputs.check(table, state)?;
+    normal.check("normal")?;
+    memory.check("memory")?;
+    out.check("out")?;
+    Ok(format!(
+        "{} decision {} normal {} out {} memory {}",
+        shown(plan),
+        shown(decision),
+        hex(normal.lent()),
         hex(out.lent()),
         decimal(memory.lent())
     ))
@@ -392,6 +465,10 @@ impl Inputs {
         self.table.check_unchanged("table", table)?;
         self.state.check_unchanged("state", state)
     }
+}
+
+fn shown<A: fmt::Display>(answer: Result<A, Refusal>) -> String {
+    answer.map_or_else(refused, |answer| answer.to_string())
 }
 
 fn refused(refusal: Refusal) -> String {

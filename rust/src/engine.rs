@@ -1,9 +1,9 @@
 //! The calls of an engine, so that one harness serves every implementation.
 
-use crate::answer::{Answer, Decision, Head, Plan, Refusal};
+use crate::answer::{Answer, Campaign, Decision, Head, Plan, Refusal};
 use crate::reference;
 
-/// An implementation of the five calls, the reader and the listing.
+/// An implementation of the five calls, the reader, the campaign in one call and the listing.
 ///
 /// A refusal leaves outputs as they were. Layer memory after a refusal holds what the
 /// specification says of that refusal.
@@ -27,13 +27,45 @@ pub trait Engine {
         out: &mut [u8],
     ) -> Result<Plan, Refusal>;
 
-    /// What the listing program prints; by default made of `normalise` and `plan`.
+    /// A written table from its normal form to its plan; by default made of `normalise`,
+    /// `decide` and `plan`.
+    fn campaign(
+        &self,
+        table: &[u8],
+        state: &[u8],
+        normal: &mut [u8],
+        layers: &mut [i64],
+        out: &mut [u8],
+    ) -> Campaign {
+        made_campaign(self, table, state, normal, layers, out)
+    }
+
+    /// What the listing program prints; by default made of `campaign`.
     fn listing(&self, task: &[u8], state: &[u8]) -> String {
         made_listing(self, task, state)
     }
 }
 
-/// A listing made of `normalise` and `plan`.
+/// The table is normalised first; `decide` and `plan` run on exactly the bytes of the normal
+/// form and on one layer memory.
+fn made_campaign<E: Engine + ?Sized>(
+    engine: &E,
+    table: &[u8],
+    state: &[u8],
+    normal: &mut [u8],
+    layers: &mut [i64],
+    out: &mut [u8],
+) -> Campaign {
+    match engine.normalise(table, normal) {
+        Ok(length) => Campaign {
+            decision: engine.decide(&normal[..length], state, layers),
+            plan: engine.plan(&normal[..length], state, layers, out),
+        },
+        Err(refusal) => Campaign::refused(refusal),
+    }
+}
+
+/// A listing made of `campaign`.
 fn made_listing<E: Engine + ?Sized>(engine: &E, task: &[u8], state: &[u8]) -> String {
     listing_of(engine, task, state).unwrap_or_else(|refusal| format!("{refusal}\n"))
 }
@@ -44,10 +76,10 @@ fn listing_of<E: Engine + ?Sized>(
     state: &[u8],
 ) -> Result<String, Refusal> {
     let mut normal = vec![0; reference::NORMAL_ROOM];
-    let length = engine.normalise(task, &mut normal)?;
     let mut memory = vec![0; reference::MEMORY_ROOM];
     let mut out = vec![0; reference::PLAN_ROOM];
-    let plan = engine.plan(&normal[..length], state, &mut memory, &mut out)?;
+    let campaign = engine.campaign(task, state, &mut normal, &mut memory, &mut out);
+    let plan = campaign.plan?;
     if plan.answer == Answer::NoPlan {
         return Ok(format!("no plan layers {}\n", plan.layers));
     }
@@ -69,6 +101,7 @@ pub struct Calls {
     pub step: Step,
     pub decide: Decide,
     pub plan: Planning,
+    pub campaign: Campaigning,
     pub listing: Listing,
 }
 
@@ -78,7 +111,8 @@ type Normalise = fn(&[u8], &mut [u8]) -> Result<usize, Refusal>;
 type Step = fn(&[u8], &[u8], u64, &mut [u8]) -> Result<usize, Refusal>;
 type Decide = fn(&[u8], &[u8], &mut [i64]) -> Result<Decision, Refusal>;
 type Planning = fn(&[u8], &[u8], &mut [i64], &mut [u8]) -> Result<Plan, Refusal>;
-/// Given the other calls too.
+/// This and the next are given the other calls too.
+type Campaigning = fn(&Calls, &[u8], &[u8], &mut [u8], &mut [i64], &mut [u8]) -> Campaign;
 type Listing = fn(&Calls, &[u8], &[u8]) -> String;
 
 /// The reference implementation.
@@ -89,11 +123,12 @@ pub const REFERENCE: Calls = Calls {
     step: reference::step,
     decide: reference::decide,
     plan: reference::plan,
+    campaign: made_campaign,
     listing: |_, task, state| reference::listing(task, state),
 };
 
 impl Calls {
-    /// No call at all: each panics. A listing is made of the other calls.
+    /// No call at all: each panics. Campaigns and listings are made of the other calls.
     pub const NONE: Calls = Calls {
         read: |_| absent("read"),
         block: |_, _| absent("block"),
@@ -101,6 +136,7 @@ impl Calls {
         step: |_, _, _, _| absent("step"),
         decide: |_, _, _| absent("decide"),
         plan: |_, _, _, _| absent("plan"),
+        campaign: made_campaign,
         listing: made_listing,
     };
 }
@@ -138,6 +174,17 @@ impl Engine for Calls {
         out: &mut [u8],
     ) -> Result<Plan, Refusal> {
         (self.plan)(table, state, layers, out)
+    }
+
+    fn campaign(
+        &self,
+        table: &[u8],
+        state: &[u8],
+        normal: &mut [u8],
+        layers: &mut [i64],
+        out: &mut [u8],
+    ) -> Campaign {
+        (self.campaign)(self, table, state, normal, layers, out)
     }
 
     fn listing(&self, task: &[u8], state: &[u8]) -> String {

@@ -3,7 +3,7 @@
 
 #![allow(unsafe_code)]
 
-use crate::answer::{Decision, Head, Plan, Refusal};
+use crate::answer::{Campaign, Decision, Head, Plan, Refusal};
 use crate::engine::Engine;
 use crate::guarded::{Canary, MARGIN};
 use std::ffi::{c_int, c_long, c_void};
@@ -177,6 +177,24 @@ impl<E: Engine> Engine for Fenced<E> {
         let [table, state] = [table, state].map(Fence::reading);
         let (mut memory, mut records) = (Fence::holding(layers), Fence::holding(out));
         let answer = self.0.plan(&table, &state, &mut memory, &mut records);
+        memory.give_back(layers);
+        records.give_back(out);
+        answer
+    }
+
+    fn campaign(
+        &self,
+        table: &[u8],
+        state: &[u8],
+        normal: &mut [u8],
+        layers: &mut [i64],
+        out: &mut [u8],
+    ) -> Campaign {
+        let [table, state] = [table, state].map(Fence::reading);
+        let [mut form, mut records] = [&*normal, &*out].map(Fence::holding);
+        let mut memory = Fence::holding(layers);
+        let answer = (self.0).campaign(&table, &state, &mut form, &mut memory, &mut records);
+        form.give_back(normal);
         memory.give_back(layers);
         records.give_back(out);
         answer

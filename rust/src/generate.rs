@@ -8,7 +8,7 @@ mod task;
 mod tuned;
 
 pub use crate::call::hex;
-pub use call::{call, normal_length, sized_calls};
+pub use call::{call, campaign_call, normal_length, sized_calls};
 pub use damage::{
     command_string, damage, deletions, insertions, random_bytes, single_byte_changes, spoil,
     truncations, wrong_state,

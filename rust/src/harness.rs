@@ -135,11 +135,36 @@ pub fn layer_bound(moves: usize, variables: usize) -> usize {
 /// If a canary changes or a record does not begin with 52.
 pub fn planned(engine: &dyn Engine, table: &[u8], state: &[u8]) -> Result<Planned, Refusal> {
     let head = engine.read(table)?;
-    let [p, n, a] = [head.p, head.v_or_n, head.a].map(usize::from);
+    let counts = [head.p, head.v_or_n, head.a].map(usize::from);
+    planned_by(counts, |memory, out| engine.plan(table, state, memory, out))
+}
+
+/// The same of a written table, in one call.
+///
+/// # Panics
+/// As `planned`, and if the decision is not the plan's.
+pub fn campaigned(engine: &dyn Engine, table: &[u8], state: &[u8]) -> Result<Planned, Refusal> {
+    let head = engine.read(table)?;
+    let [p, v, a] = [head.p, head.v_or_n, head.a].map(usize::from);
+    let mut normal = Guarded::filled(2 * table.len(), |_| 0xA5);
+    let planned = planned_by([p, 2 * v, a], |memory, out| {
+        let campaign = engine.campaign(table, state, normal.lend(), memory, out);
+        assert_eq!(campaign.decision, campaign.plan.map(Plan::decision));
+        campaign.plan
+    });
+    normal.check("normal form").expect("all canaries are whole");
+    planned
+}
+
+/// The outcome of a call that plans a normal table with these counts.
+fn planned_by(
+    [p, n, a]: [usize; 3],
+    call: impl FnOnce(&mut [i64], &mut [u8]) -> Result<Plan, Refusal>,
+) -> Result<Planned, Refusal> {
     let bound = layer_bound(a, n);
     let mut memory = Guarded::filled(p + a + n * (bound + 1), |_| -7);
     let mut out = Guarded::filled(10 * a * bound, |_| 0xA5);
-    let answer = engine.plan(table, state, memory.lend(), out.lend());
+    let answer = call(memory.lend(), out.lend());
     memory.check("memory").expect("all canaries are whole");
     out.check("plan").expect("all canaries are whole");
     let plan = answer?;

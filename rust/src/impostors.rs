@@ -1,11 +1,11 @@
 //! Engines that do one thing otherwise than the reference, to test that comparisons find them.
 
-use crate::answer::{Reason, Refusal};
+use crate::answer::{Campaign, Reason, Refusal};
 use crate::call::CallKind;
-use crate::engine::{Calls, REFERENCE};
-use crate::reference::{block, decide, normalise, plan, read, step};
+use crate::engine::{Calls, Engine, REFERENCE};
+use crate::reference::{block, decide, normalise, parse_task, plan, read, step};
 
-/// The reference, with listings made of its other calls.
+/// The reference, with listings made of its other calls, as its campaigns are.
 pub const HONEST: Calls = Calls {
     listing: Calls::NONE.listing,
     ..REFERENCE
@@ -19,7 +19,23 @@ pub struct Impostor {
     pub kinds: &'static [CallKind],
 }
 
-pub const IMPOSTORS: [Impostor; 12] = [
+/// Tries each impostor on those kinds of call that show it, and an honest engine on all.
+///
+/// # Panics
+/// If `found` misses an impostor, or takes the honest engine for one.
+pub fn check_found(kinds: &[CallKind], found: impl Fn(CallKind, &dyn Engine) -> bool) {
+    for kind in kinds {
+        assert!(!found(*kind, &HONEST), "honest: {}", kind.name());
+    }
+    for impostor in IMPOSTORS {
+        for kind in impostor.kinds.iter().filter(|kind| kinds.contains(kind)) {
+            let found = found(*kind, &impostor.engine);
+            assert!(found, "{}: {}", impostor.trick, kind.name());
+        }
+    }
+}
+
+pub const IMPOSTORS: [Impostor; 17] = [
     Impostor {
         trick: "every count is 1",
         engine: Calls {
@@ -32,7 +48,7 @@ pub const IMPOSTORS: [Impostor; 12] = [
             },
             ..HONEST
         },
-        kinds: &[CallKind::Plan, CallKind::Listing],
+        kinds: &[CallKind::Plan, CallKind::Campaign, CallKind::Listing],
     },
     Impostor {
         trick: "no records",
@@ -44,7 +60,7 @@ pub const IMPOSTORS: [Impostor; 12] = [
             },
             ..HONEST
         },
-        kinds: &[CallKind::Plan, CallKind::Listing],
+        kinds: &[CallKind::Plan, CallKind::Campaign, CallKind::Listing],
     },
     Impostor {
         trick: "no first moves",
@@ -56,7 +72,7 @@ pub const IMPOSTORS: [Impostor; 12] = [
             },
             ..HONEST
         },
-        kinds: &[CallKind::Plan],
+        kinds: &[CallKind::Plan, CallKind::Campaign],
     },
     Impostor {
         trick: "layers are 0",
@@ -73,7 +89,12 @@ pub const IMPOSTORS: [Impostor; 12] = [
             },
             ..HONEST
         },
-        kinds: &[CallKind::Decide, CallKind::Plan, CallKind::Listing],
+        kinds: &[
+            CallKind::Decide,
+            CallKind::Plan,
+            CallKind::Campaign,
+            CallKind::Listing,
+        ],
     },
     Impostor {
         trick: "all blocks are refused",
@@ -101,7 +122,7 @@ pub const IMPOSTORS: [Impostor; 12] = [
             },
             ..HONEST
         },
-        kinds: &[CallKind::Normalise, CallKind::Listing],
+        kinds: &[CallKind::Normalise, CallKind::Campaign, CallKind::Listing],
     },
     Impostor {
         trick: "a step keeps the state",
@@ -135,7 +156,12 @@ pub const IMPOSTORS: [Impostor; 12] = [
             },
             ..HONEST
         },
-        kinds: &[CallKind::Normalise, CallKind::Step, CallKind::Plan],
+        kinds: &[
+            CallKind::Normalise,
+            CallKind::Step,
+            CallKind::Plan,
+            CallKind::Campaign,
+        ],
     },
     Impostor {
         trick: "a refusal writes the output",
@@ -147,7 +173,12 @@ pub const IMPOSTORS: [Impostor; 12] = [
             },
             ..HONEST
         },
-        kinds: &[CallKind::Normalise, CallKind::Step, CallKind::Plan],
+        kinds: &[
+            CallKind::Normalise,
+            CallKind::Step,
+            CallKind::Plan,
+            CallKind::Campaign,
+        ],
     },
     Impostor {
         trick: "the number behind the layers is written",
@@ -161,7 +192,7 @@ pub const IMPOSTORS: [Impostor; 12] = [
             },
             ..HONEST
         },
-        kinds: &[CallKind::Decide],
+        kinds: &[CallKind::Decide, CallKind::Campaign],
     },
     Impostor {
         trick: "every place is 0",
@@ -171,7 +202,78 @@ pub const IMPOSTORS: [Impostor; 12] = [
             plan: |table, state, layers, out| plan(table, state, layers, out).map_err(at_0),
             ..HONEST
         },
-        kinds: &[CallKind::Read, CallKind::Decide, CallKind::Plan],
+        kinds: &[
+            CallKind::Read,
+            CallKind::Decide,
+            CallKind::Plan,
+            CallKind::Campaign,
+        ],
+    },
+    Impostor {
+        trick: "the written table is decided",
+        engine: Calls {
+            campaign: |calls, table, state, normal, layers, out| Campaign {
+                decision: decide(table, state, layers),
+                ..(HONEST.campaign)(calls, table, state, normal, layers, out)
+            },
+            ..HONEST
+        },
+        kinds: &[CallKind::Campaign],
+    },
+    Impostor {
+        trick: "a refused plan leaves no decision",
+        engine: Calls {
+            campaign: |calls, table, state, normal, layers, out| {
+                let campaign = (HONEST.campaign)(calls, table, state, normal, layers, out);
+                Campaign {
+                    decision: campaign.plan.and(campaign.decision),
+                    ..campaign
+                }
+            },
+            ..HONEST
+        },
+        kinds: &[CallKind::Campaign],
+    },
+    Impostor {
+        trick: "a refused plan leaves no layers",
+        engine: Calls {
+            campaign: |calls, table, state, normal, layers, out| {
+                let before = layers.to_vec();
+                let campaign = (HONEST.campaign)(calls, table, state, normal, layers, out);
+                if campaign.plan.is_err() {
+                    layers.copy_from_slice(&before);
+                }
+                campaign
+            },
+            ..HONEST
+        },
+        kinds: &[CallKind::Campaign],
+    },
+    Impostor {
+        trick: "a refused decision leaves no normal form",
+        engine: Calls {
+            campaign: |calls, table, state, normal, layers, out| {
+                let before = normal.to_vec();
+                let campaign = (HONEST.campaign)(calls, table, state, normal, layers, out);
+                if campaign.decision.is_err() {
+                    normal.copy_from_slice(&before);
+                }
+                campaign
+            },
+            ..HONEST
+        },
+        kinds: &[CallKind::Campaign],
+    },
+    Impostor {
+        trick: "the state is checked before the room for the normal form",
+        engine: Calls {
+            campaign: |calls, table, state, normal, layers, out| match parse_task(table, state) {
+                Err(refusal) => Campaign::refused(refusal),
+                Ok(_) => (HONEST.campaign)(calls, table, state, normal, layers, out),
+            },
+            ..HONEST
+        },
+        kinds: &[CallKind::Campaign],
     },
 ];
 

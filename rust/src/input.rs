@@ -6,7 +6,8 @@
 //! | 1 | the block or move; FF is the largest number |
 //! | 2, 3 | bytes of output |
 //! | 4, 5 | numbers of layer memory |
-//! | 6 | bytes of the state |
+//! | 6, 7 | bytes for the normal form |
+//! | 8 | bytes of the state |
 //!
 //! The state follows, then the table. Bytes that are missing are 0.
 
@@ -17,7 +18,7 @@ const ROOM: usize = 2_048;
 const NUMBERS: usize = 1_024;
 
 /// The bytes before the state.
-const START: usize = 7;
+const START: usize = 9;
 
 /// The call that an input stands for.
 pub fn decode(input: &[u8]) -> Call {
@@ -27,11 +28,11 @@ pub fn decode(input: &[u8]) -> Call {
         0xFF => u64::MAX,
         small => u64::from(small),
     };
-    let (room, numbers) = (size(2) % ROOM, size(4) % NUMBERS);
+    let (room, numbers, normal) = (size(2) % ROOM, size(4) % NUMBERS, size(6) % ROOM);
     let rest = input.get(START..).unwrap_or_default();
-    let (state, table) = rest.split_at(rest.len().min(usize::from(at(6))));
+    let (state, table) = rest.split_at(rest.len().min(usize::from(at(8))));
     let (state, table) = (state.to_vec(), table.to_vec());
-    match at(0) % 6 {
+    match at(0) % 7 {
         0 => Call::Read { table },
         1 => Call::Block {
             table,
@@ -49,9 +50,16 @@ pub fn decode(input: &[u8]) -> Call {
             state,
             numbers,
         },
-        _ => Call::Plan {
+        5 => Call::Plan {
             table,
             state,
+            numbers,
+            room,
+        },
+        _ => Call::Campaign {
+            table,
+            state,
+            normal,
             numbers,
             room,
         },
@@ -60,32 +68,40 @@ pub fn decode(input: &[u8]) -> Call {
 
 /// An input that stands for the call, if there is one.
 pub fn encode(call: &Call) -> Option<Vec<u8>> {
-    let (kind, number, room, numbers, state, table) = match call {
-        Call::Read { table } => (0, 0, 0, 0, &[][..], table),
-        Call::Block { table, block } => (1, *block, 0, 0, &[][..], table),
-        Call::Normalise { table, room } => (2, 0, *room, 0, &[][..], table),
+    let (kind, number, [room, numbers, normal], state, table) = match call {
+        Call::Read { table } => (0, 0, [0; 3], &[][..], table),
+        Call::Block { table, block } => (1, *block, [0; 3], &[][..], table),
+        Call::Normalise { table, room } => (2, 0, [*room, 0, 0], &[][..], table),
         Call::Step {
             table,
             state,
             mv,
             room,
-        } => (3, *mv, *room, 0, &state[..], table),
+        } => (3, *mv, [*room, 0, 0], &state[..], table),
         Call::Decide {
             table,
             state,
             numbers,
-        } => (4, 0, 0, *numbers, &state[..], table),
+        } => (4, 0, [0, *numbers, 0], &state[..], table),
         Call::Plan {
             table,
             state,
             numbers,
             room,
-        } => (5, 0, *room, *numbers, &state[..], table),
+        } => (5, 0, [*room, *numbers, 0], &state[..], table),
+        Call::Campaign {
+            table,
+            state,
+            normal,
+            numbers,
+            room,
+        } => (6, 0, [*room, *numbers, *normal], &state[..], table),
         Call::Listing { .. } => return None,
     };
     let mut input = vec![kind, number.min(0xFF) as u8];
-    input.extend((room as u16).to_be_bytes());
-    input.extend((numbers as u16).to_be_bytes());
+    for size in [room, numbers, normal] {
+        input.extend((size as u16).to_be_bytes());
+    }
     input.push(state.len() as u8);
     input.extend(state);
     input.extend(table);
@@ -101,7 +117,7 @@ mod tests {
     #[test]
     fn calls_are_encoded_and_decoded() {
         let mut rng = Rng::new(501);
-        let mut encoded = [0; 7];
+        let mut encoded = [0; CallKind::ALL.len()];
         for _ in 0..3_000 {
             let call = call(&mut rng);
             if let Some(input) = encode(&call) {
@@ -109,8 +125,9 @@ mod tests {
                 encoded[call.kind() as usize] += 1;
             }
         }
-        assert!(encoded[..6].iter().all(|count| *count > 100), "{encoded:?}");
-        assert_eq!(encoded[CallKind::Listing as usize], 0);
+        let (exported, listing) = encoded.split_at(CallKind::EXPORTED.len());
+        assert!(exported.iter().all(|count| *count > 100), "{encoded:?}");
+        assert_eq!(listing, [0]);
     }
 
     #[test]

@@ -14,6 +14,7 @@ pub mod guarded;
 pub mod harness;
 pub mod impostors;
 pub mod input;
+pub mod meaning;
 pub mod proved;
 pub mod reference;
 pub mod tally;

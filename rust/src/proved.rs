@@ -5,7 +5,7 @@
 
 pub mod raw;
 
-use crate::answer::{Answer, Decision, Head, Plan, Refusal};
+use crate::answer::{Answer, Campaign, Decision, Head, Plan, Refusal};
 use crate::engine::Calls;
 use crate::guarded::Guarded;
 
@@ -17,6 +17,7 @@ pub const PROVED: Calls = Calls {
     step,
     decide,
     plan,
+    campaign: |_, table, state, normal, layers, out| campaign(table, state, normal, layers, out),
     ..Calls::NONE
 };
 
@@ -25,6 +26,9 @@ const NO_PLAN: u32 = 1 << 31;
 
 /// What plan's two further numbers hold before a call.
 const UNWRITTEN: [u64; 2] = [0x0123_4567_89AB_CDEF, 0xFEDC_BA98_7654_3210];
+
+/// What the decision of a campaign holds before it: no call's answer.
+const UNDECIDED: u64 = u64::MAX;
 
 pub fn read(table: &[u8]) -> Result<Head, Refusal> {
     let [kind, p, v_or_n, a] = raw::read(table)?.to_be_bytes();
@@ -70,20 +74,53 @@ pub fn plan(
     layers: &mut [i64],
     out: &mut [u8],
 ) -> Result<Plan, Refusal> {
+    planned(|records, first| raw::plan(table, state, layers, out, records, first))
+}
+
+/// # Panics
+/// As `plan`, for the decision's number too, and if that is not written.
+pub fn campaign(
+    table: &[u8],
+    state: &[u8],
+    normal: &mut [u8],
+    layers: &mut [i64],
+    out: &mut [u8],
+) -> Campaign {
+    both(|numbers| raw::campaign(table, state, normal, layers, out, numbers))
+}
+
+/// Plan's answer from a call that is lent the two further numbers.
+fn planned(call: impl FnOnce(&mut u64, &mut u64) -> Result<u32, Refusal>) -> Result<Plan, Refusal> {
     let [mut records, mut first] = UNWRITTEN.map(|number| Guarded::holding(&[number]));
-    let [one, other] = [&mut records, &mut first].map(|number| &mut number.lend()[0]);
-    let answer = raw::plan(table, state, layers, out, one, other);
-    let numbers = [&records, &first].map(|number| {
-        number
-            .check("a number of the plan")
-            .expect("all canaries are whole");
-        number.lent()[0]
-    });
+    let answer = call(&mut records.lend()[0], &mut first.lend()[0]);
+    let numbers = [&records, &first].map(number);
     assert!(
         answer.is_ok() || numbers == UNWRITTEN,
         "a refusal wrote a number"
     );
     Ok(decision(answer?).with_plan(numbers[0], numbers[1]))
+}
+
+/// Decide's and plan's answers from a call that is lent all three numbers.
+fn both(call: impl FnOnce(raw::Numbers) -> Result<u32, Refusal>) -> Campaign {
+    let mut decided = Guarded::holding(&[UNDECIDED]);
+    let plan = planned(|records, first_moves| {
+        call(raw::Numbers {
+            decision: &mut decided.lend()[0],
+            records,
+            first_moves,
+        })
+    });
+    Campaign {
+        decision: raw::answered(number(&decided)).map(decision),
+        plan,
+    }
+}
+
+/// A lent number after a call.
+fn number(lent: &Guarded<u64>) -> u64 {
+    lent.check("a number").expect("all canaries are whole");
+    lent.lent()[0]
 }
 
 fn decision(result: u32) -> Decision {
@@ -98,6 +135,38 @@ fn decision(result: u32) -> Decision {
 #[cfg(test)]
 mod tests {
     use super::*;
+    use crate::answer::Reason;
+
+    const REFUSED: Result<u32, Refusal> = Err(Refusal {
+        reason: Reason::OutputShort,
+        place: 0,
+    });
+
+    #[test]
+    fn numbers_are_taken_from_a_campaign() {
+        let campaign = both(|numbers| {
+            *numbers.decision = 2;
+            REFUSED
+        });
+        assert_eq!(campaign.decision, Ok(decision(2)));
+        assert_eq!(campaign.plan, REFUSED.map(|_| unreachable!()));
+    }
+
+    #[test]
+    #[should_panic(expected = "a refusal wrote a number")]
+    fn records_written_by_a_refusal_are_found() {
+        both(|numbers| {
+            *numbers.decision = 2;
+            *numbers.records = 3;
+            REFUSED
+        });
+    }
+
+    #[test]
+    #[should_panic(expected = "refusal 4294967295 is unknown")]
+    fn an_unwritten_decision_is_found() {
+        both(|_| REFUSED);
+    }
 
     #[test]
     fn decisions_are_taken_apart() {

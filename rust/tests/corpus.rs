@@ -2,36 +2,45 @@
 
 use campaign::call::{Call, CallKind};
 use campaign::corpus::kept;
-use campaign::engine::{Engine, REFERENCE};
+use campaign::engine::REFERENCE;
 use campaign::fenced::Fenced;
 use campaign::harness::compare;
-use campaign::impostors::{Impostor, HONEST, IMPOSTORS};
+use campaign::impostors::check_found;
 use campaign::proved::PROVED;
 use campaign::tally::Tally;
 
-/// The kept calls, and each with more memory and a longer output.
+/// The kept calls, and each with more memory and a longer output, or none.
 fn calls() -> Vec<Call> {
-    let kept = kept();
-    let roomier: Vec<Call> = kept.iter().cloned().map(with_more_room).collect();
-    kept.into_iter().chain(roomier).collect()
+    let kept = kept().into_iter();
+    let all = kept.flat_map(|call| {
+        let roomier = with_more_memory(call.clone(), |room| room + 1_000);
+        let shorter = with_more_memory(call.clone(), |_| 0);
+        [call, roomier, shorter]
+    });
+    all.collect()
 }
 
-fn with_more_room(mut call: Call) -> Call {
+fn with_more_memory(mut call: Call, output: fn(usize) -> usize) -> Call {
     match &mut call {
-        Call::Normalise { room, .. } | Call::Step { room, .. } => *room += 1_000,
+        Call::Normalise { room, .. } | Call::Step { room, .. } => *room = output(*room),
         Call::Decide { numbers, .. } => *numbers += 1_000,
         Call::Plan { numbers, room, .. } => {
             *numbers += 1_000;
-            *room += 1_000;
+            *room = output(*room);
+        }
+        Call::Campaign {
+            normal,
+            numbers,
+            room,
+            ..
+        } => {
+            *normal += 1_000;
+            *numbers += 1_000;
+            *room = output(*room);
         }
         Call::Read { .. } | Call::Block { .. } | Call::Listing { .. } => {}
     }
     call
-}
-
-fn calls_of(kind: CallKind) -> Vec<Call> {
-    let calls = calls().into_iter().filter(|call| call.kind() == kind);
-    calls.collect()
 }
 
 #[test]
@@ -41,35 +50,24 @@ fn kept_calls_are_answered_alike() {
     for call in calls() {
         tally.check(&call);
     }
-    tally.expect(160, &[0]);
+    tally.expect(400, &[0]);
     let refusals = &tally.counts()[2..];
     assert!(refusals.iter().all(|count| *count > 0), "{refusals:?}");
 }
 
 #[test]
 fn every_call_is_kept() {
-    for kind in &CallKind::ALL[..6] {
-        assert!(calls_of(*kind).len() >= 10, "{}", kind.name());
+    let kept = kept();
+    for kind in CallKind::EXPORTED {
+        let count = kept.iter().filter(|call| call.kind() == *kind).count();
+        assert!(count >= 10, "{}: {count}", kind.name());
     }
-}
-
-/// Whether the kept calls of a kind tell an engine from the reference.
-fn found(kind: CallKind, engine: &dyn Engine) -> bool {
-    let mut calls = calls_of(kind).into_iter();
-    calls.any(|call| compare(&call, &REFERENCE, engine).is_err())
 }
 
 #[test]
 fn impostors_are_found() {
-    for Impostor {
-        trick,
-        engine,
-        kinds,
-    } in IMPOSTORS
-    {
-        for kind in kinds.iter().filter(|kind| **kind != CallKind::Listing) {
-            assert!(found(*kind, &engine), "{trick}: {}", kind.name());
-            assert!(!found(*kind, &HONEST), "{}", kind.name());
-        }
-    }
+    check_found(CallKind::EXPORTED, |kind, engine| {
+        let mut calls = calls().into_iter().filter(|call| call.kind() == kind);
+        calls.any(|call| compare(&call, &REFERENCE, engine).is_err())
+    });
 }

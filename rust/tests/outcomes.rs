@@ -3,7 +3,7 @@
 use campaign::call::CallKind;
 use campaign::engine::REFERENCE;
 use campaign::harness::{check_lines, outcomes, run_lines};
-use campaign::impostors::{Impostor, HONEST, IMPOSTORS};
+use campaign::impostors::{check_found, HONEST};
 
 #[test]
 fn read() {
@@ -36,11 +36,16 @@ fn plan() {
 }
 
 #[test]
+fn campaign() {
+    check_lines(&REFERENCE, CallKind::Campaign);
+}
+
+#[test]
 fn listing() {
     check_lines(&REFERENCE, CallKind::Listing);
 }
 
-/// The listing made of `normalise` and `plan` prints the same.
+/// The listing made of `campaign` prints the same.
 #[test]
 fn listing_of_other_calls() {
     check_lines(&HONEST, CallKind::Listing);
@@ -48,24 +53,9 @@ fn listing_of_other_calls() {
 
 #[test]
 fn impostors_are_found() {
-    for Impostor {
-        trick,
-        engine,
-        kinds,
-    } in IMPOSTORS
-    {
-        for kind in kinds {
-            let found = run_lines(&engine, *kind, &outcomes(*kind)).is_err();
-            assert!(found, "{trick}: {}", kind.file());
-        }
-    }
-}
-
-#[test]
-fn an_honest_engine_passes_every_file() {
-    for kind in CallKind::ALL {
-        check_lines(&HONEST, kind);
-    }
+    check_found(&CallKind::ALL, |kind, engine| {
+        run_lines(engine, kind, &outcomes(kind)).is_err()
+    });
 }
 
 #[test]

@@ -1,4 +1,3 @@
-pub mod Sizes
 pub mod Campaign
 pub mod Copying
 pub mod Parts

@@ -5,14 +5,13 @@ mod end_to_end;
 pub use end_to_end::Answers;
 pub use end_to_end::campaign;
 ghost use mathlib.Core.Path.{_≡_};
-ghost use Prim.Native.Nat.{_+_, _<_, _≤_};
-ghost use Rattle.model.specs.Exports.{refusalCode, readCode, writeCode, decideCode, planCode, planRecordCount, planFirstMoves, blockCode, blockCopy};
+ghost use Prim.Native.Nat.{_<_, _≤_};
+ghost use Rattle.model.specs.Exports.{refusalCode, readCode, writeCode, decideCode, planCode, planRecordCount, planFirstMoves, blockAnswer, blockCopy};
 ghost use Rattle.model.specs.Limits.{paper};
-ghost use lib.ListN.{length};
-ghost use Rattle.model.specs.declared.Refusal.{Refusal};
-ghost use Rattle.model.specs.Calls.{readAnswer, planAnswer, planMemory, planOut, stepAnswer, stepOut, normaliseAnswer, normaliseOut, decideAnswer, decideMemory, blockPart, blockRefusal};
+ghost use Rattle.model.specs.Calls.{readAnswer, planAnswer, planMemory, planOut, stepAnswer, stepOut, normaliseAnswer, normaliseOut, decideAnswer, decideMemory, blockPart, blockRefusal, campaignDecision, campaignPlan, campaignMemory, campaignOut};
+ghost use Rattle.model.specs.Theorems.OneCall.{Promise};
 ghost use Rattle.engine.specs.Parts.{partCode};
-ghost use Rattle.engine.specs.Sizes.{hostLimit, Readable, Writable, Decidable, Plannable};
+ghost use Rattle.model.specs.Theorems.AnswerSizes.{placeLimit, ReadSmall, WriteSmall, DecideSmall, PlanSmall};
 use model::DecideAnswer;
 use model::PlanAnswer;
 use model::ReadAnswer;
@@ -21,7 +20,7 @@ use model::WriteAnswer;
 
 // Bits 32 to 63 the refusal's number, bits 0 to 31 its place.
 fn refusal_code(r: Refusal) -> u64
-    requires { ⌜ (r .number ≤ 15) × (r .place ≤ hostLimit) ⌝ }
+    requires { ⌜ (r .number ≤ 15) × (r .place ≤ placeLimit) ⌝ }
     ensures { λ c. ⌜ c ≡ refusalCode r ⌝ }
 {
     r.number * 4294967296 + r.place
@@ -35,7 +34,7 @@ fn head_code(kind: u64, props: u64, vars: u64, moves: u64) -> u64
 }
 
 fn read_code(a: ReadAnswer) -> u64
-    requires { ⌜ Readable a ⌝ }
+    requires { ⌜ ReadSmall a ⌝ }
     ensures { λ c. ⌜ c ≡ readCode a ⌝ }
 {
     match a {
@@ -50,7 +49,7 @@ fn read_code(a: ReadAnswer) -> u64
 }
 
 fn write_code(a: WriteAnswer) -> u64
-    requires { ⌜ Writable a ⌝ }
+    requires { ⌜ WriteSmall 64_000 a ⌝ }
     ensures { λ c. ⌜ c ≡ writeCode a ⌝ }
 {
     match a {
@@ -60,7 +59,7 @@ fn write_code(a: WriteAnswer) -> u64
 }
 
 fn decide_code(a: DecideAnswer) -> u64
-    requires { ⌜ Decidable a ⌝ }
+    requires { ⌜ DecideSmall a ⌝ }
     ensures { λ c. ⌜ c ≡ decideCode a ⌝ }
 {
     match a {
@@ -71,7 +70,7 @@ fn decide_code(a: DecideAnswer) -> u64
 }
 
 fn plan_code(a: PlanAnswer, records: &mut u64, first: &mut u64) -> u64
-    requires { ⌜ Plannable a ⌝ }
+    requires { ⌜ PlanSmall a ⌝ }
     ensures { λ c. ⌜ (c ≡ planCode a) × (now (records .exit) ≡ planRecordCount a (now (records .entry)))
         × (now (first .exit) ≡ planFirstMoves a (now (first .entry))) ⌝ }
 {
@@ -101,7 +100,7 @@ fn plan_code(a: PlanAnswer, records: &mut u64, first: &mut u64) -> u64
 
 // The part's length, or the refusal.
 fn part_code(len: u64, number: u64, place: u64) -> u64
-    requires { ⌜ (number ≤ 15) × (place ≤ hostLimit) ⌝ }
+    requires { ⌜ (number ≤ 15) × (place ≤ placeLimit) ⌝ }
     ensures { λ c. ⌜ c ≡ partCode len number place ⌝ }
 {
     if number == 0 {
@@ -123,7 +122,7 @@ pub extern "C" fn lapyndo_read(table: &[u8]) -> u64
 // The block reader, for tests: the part's length; as much of the part as fits is copied to `out`.
 #[no_mangle]
 pub extern "C" fn lapyndo_block(table: &[u8], block: u64, out: &mut [u8]) -> u64
-    ensures { λ c. ⌜ (c ≡ blockCode (blockPart paper (now (table .entry)) block) (blockRefusal paper (now (table .entry)) block))
+    ensures { λ c. ⌜ (c ≡ writeCode (blockAnswer (blockPart paper (now (table .entry)) block) (blockRefusal paper (now (table .entry)) block)))
         × (now (out .exit) ≡ blockCopy (blockPart paper (now (table .entry)) block) (now (out .entry))) ⌝ }
 {
     let mut number: u64 = 0;
@@ -179,4 +178,36 @@ pub extern "C" fn lapyndo_plan(
         records,
         first,
     )
+}
+
+// Normalise, decide and plan in one call, with demand 3 of what is answered: a written table is normalised into `normal`, and
+// decide and plan run on exactly those bytes. The result is plan's answer; `decision` gets decide's, always; the number of
+// records and the first moves are written in an answer only.
+#[no_mangle]
+pub extern "C" fn lapyndo_campaign(
+    table: &[u8],
+    state: &[u8],
+    normal: &mut [u8],
+    layers: &mut [i64],
+    out: &mut [u8],
+    decision: &mut u64,
+    records: &mut u64,
+    first: &mut u64,
+) -> u64
+    ensures { λ c. ⌜ (c ≡ planCode (campaignPlan paper (now (table .entry)) (now (state .entry)) (now (normal .entry)) (now (layers .entry)) (now (out .entry))))
+        × (now (decision .exit) ≡ decideCode (campaignDecision paper (now (table .entry)) (now (state .entry)) (now (normal .entry)) (now (layers .entry))))
+        × (now (records .exit) ≡ planRecordCount (campaignPlan paper (now (table .entry)) (now (state .entry)) (now (normal .entry)) (now (layers .entry)) (now (out .entry))) (now (records .entry)))
+        × (now (first .exit) ≡ planFirstMoves (campaignPlan paper (now (table .entry)) (now (state .entry)) (now (normal .entry)) (now (layers .entry)) (now (out .entry))) (now (first .entry)))
+        × (now (normal .exit) ≡ normaliseOut paper (now (table .entry)) (now (normal .entry)))
+        × (now (layers .exit) ≡ campaignMemory paper (now (table .entry)) (now (state .entry)) (now (normal .entry)) (now (layers .entry)))
+        × (now (out .exit) ≡ campaignOut paper (now (table .entry)) (now (state .entry)) (now (normal .entry)) (now (layers .entry)) (now (out .entry)))
+        × Promise (now (table .entry)) (now (state .entry)) (now (normal .entry)) (now (layers .entry)) (now (out .entry))
+        (campaignDecision paper (now (table .entry)) (now (state .entry)) (now (normal .entry)) (now (layers .entry)))
+        (campaignPlan paper (now (table .entry)) (now (state .entry)) (now (normal .entry)) (now (layers .entry)) (now (out .entry))) (now (out .exit)) ⌝ }
+{
+    let answers = campaign(table, state, normal, layers, out);
+    let decided = answers.decision;
+    *decision = decide_code(decided);
+    let planned = answers.plan;
+    plan_code(planned, records, first)
 }

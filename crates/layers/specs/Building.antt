@@ -1,28 +1,30 @@
 -- Building layers in a memory, layer by layer: what is known at layer t, and how each turn ends.
 -- Assumes nothing.
-use Prim.Native.Nat.{ℕ, suc, _+_, _*_, _≤_, _<_}
+use Prim.Native.Nat.{ℕ, suc, _+_, _-_, _*_, _≤_, _<_}
 use native.Mathlib.Nat.{mul-le-mul, mul-suc}
 use native.Mathlib.Numerals.{add-one}
 use native.Mathlib.Omega.{arith}
 use mathlib.Core.Path.{_≡_, refl, sym, ap, _∙_, subst}
-use mathlib.Core.Bool.{Bool, true, false, not, _&&_}
+use mathlib.Core.Bool.{Bool, true, false}
 use mathlib.Core.List.{List, []}
-use borrow.Author.Tests.{not-false as was-true, not-true as was-false}
-use lib.IntN.{ℤ}
-use lib.ListN.{length, getD, replicate, getD-replicate}
+use borrow.Author.Tests.{ltb-true, ltb-false}
+use borrow.Rule.Slice.PartMut.{midOf, putMid, put-same}
+use lib.Dec.{ltb}
+use lib.IntN.{ℤ, pos}
+use lib.ListN.{length, getD, drop, replicate, length-drop, getD-replicate}
+use lib.Seq.{length-take-le, getD-take, getD-drop}
 use Rattle.layers.specs.declared.Built.{Built as BuiltAnswer}
 use Rattle.layers.specs.declared.Built.the-variants as answer
 use Rattle.layers.specs.declared.NextLayer.{NextLayer}
 use Rattle.layers.specs.declared.NextLayer.the-variants as outlook
 use Rattle.model.specs.Limits.{paper}
-use Rattle.model.specs.Lists.{allBelow}
 use Rattle.model.specs.Task.{normal, Task}
 use Rattle.model.specs.Move.{State, moveAt}
 use Rattle.model.specs.Layer.{Layer, usable, layer, layerAt, meetsGoal, settled, reached, exhausted, bound}
-use Rattle.model.specs.Memory.{wrong15, overwrite, Built, answered, stopped, build, builtMemory}
+use Rattle.model.specs.Memory.{encode, wrong15, overwrite, Built, answered, stopped, build, builtMemory}
 use Rattle.model.specs.Theorems.WellFormed.{TaskOk}
 use Rattle.model.specs.Theorems.Booleans.{T-true, true-T, false-not}
-use Rattle.model.specs.Theorems.Order.{_⊑_, usable-mono}
+use Rattle.model.specs.Theorems.Order.{usable-mono}
 use Rattle.model.specs.Theorems.Layers.{layer-rises, move-ok}
 use Rattle.model.specs.Theorems.Answer.{Passed}
 use Rattle.model.specs.Theorems.Bound.{layers-bound}
@@ -30,24 +32,18 @@ use Rattle.model.specs.Theorems.Memories.{Holds, size, holds-memory}
 use Rattle.table.specs.Outlines.{Outline}
 use Rattle.block.specs.Parts.{rangesOf}
 use Rattle.block.specs.Blocks.{LayerState}
-use Rattle.layers.specs.Comparing.{sameTruth, notAbove, withinAt}
-use Rattle.layers.specs.Raising.{Truths, Values, most, row-values}
-use Rattle.layers.specs.Stepping.{IsMet, GoalTestable, Steppable, UsedIn, Stepped}
-use Rattle.layers.specs.Checks.{same-layer, within-layer, small-row}
+use Rattle.layers.specs.Filling.{Filled, notedAt, rowAt}
+use Rattle.layers.specs.Raising.{Truths, row-values}
+use Rattle.layers.specs.Stepping.{IsMet, GoalTestable, UsedIn}
+use Rattle.layers.specs.Step.{Counts, Steppable, Judged, judged, PartAfter, StepFrom, Stepped, state-truths}
 use Rattle.layers.specs.Answers.{Unrefused, passed-next, unrefused-next, room-there, room-missing, built-reached, built-exhausted, built-large, built-short}
-use Rattle.layers.specs.Storing.{NotesMoves, StoresLayer}
+use Rattle.layers.specs.Storing.{FilledAt, filled-behind, row-behind, holds-before, holds-layer, NotesMoves}
 
 -- how building ended, as the definitions have it
 unfoldable pub builtOf : BuiltAnswer → Built
 builtOf (answer.Reached t) = answered (reached t)
 builtOf (answer.Exhausted t) = answered (exhausted t)
 builtOf (answer.Stopped n p) = stopped n p
-
--- the table's three counts
-pub record Counts (k : Task) (props vars moves : ℕ) : Type 0 where
-  pub props-is : props ≡ k .props
-  pub vars-is : vars ≡ k .vars
-  pub moves-is : moves ≡ length (k .moves)
 
 -- the answer and the memory are right
 pub record IsBuilt (k : Task) (s : State) (old mem : List ℤ) (r : BuiltAnswer) : Type 0 where
@@ -62,21 +58,15 @@ pub record Layered (k : Task) (s : State) (old : List ℤ) (t : ℕ) (mem : List
   pub room : size k s (suc t) ≤ length old
   pub state : LayerState (rangesOf normal k) has row (layerAt k s t)
 
--- what stands in the arrays after the step from layer t
-pub record Turned (k : Task) (s : State) (t : ℕ) (flags : List Bool) (values : List ℤ) (used : List Bool) : Type 0 where
-  pub truths : Truths (k .props) flags (layerAt k s (suc t) .has)
-  pub row : Values most (k .vars) values (layerAt k s (suc t) .val)
-  pub uses : Truths (length (k .moves)) used (λ b. usable (layerAt k s t) (moveAt k b))
-
 -- layers only grow: the moves that a step used are usable in the next layer
-used-next : {k : Task} {s : State} {t : ℕ} {flags : List Bool} {values : List ℤ} {used : List Bool} → TaskOk paper normal k → Turned k s t flags values used → UsedIn k (layerAt k s (suc t)) used
+used-next : {k : Task} (s : State) (t : ℕ) {used : List Bool} → TaskOk paper normal k → Truths (length (k .moves)) used (λ b. usable (layerAt k s t) (moveAt k b)) → UsedIn k (layerAt k s (suc t)) used
 unfolding layerAt moveAt
-used-next {k} {s} {t} ok u =
+used-next {k} s t ok u =
     record {
       usable-there =
           λ b h e.
           T-true (usable (layer (k .moves) s (suc t)) (getD (k .moves) b []))
-          (usable-mono (move-ok ok b h) (layer-rises (k .moves) s t) (true-T (sym (u .uses .same b h) ∙ e)));
+          (usable-mono (move-ok ok b h) (layer-rises (k .moves) s t) (true-T (sym (u .same b h) ∙ e)));
     }
 
 -- before the first step no move is marked
@@ -84,13 +74,6 @@ used-none : {k : Task} {l : Layer} → TaskOk paper normal k → UsedIn k l (rep
 unfolding paper
 used-none ok =
     record { usable-there = λ b h e. absurd (false-not (getD-replicate 64 b false false (omega (arith, ok .moves))) (true-T e)) }
-
-rises : (k : Task) (s : State) (t v : ℕ) → layerAt k s t .val v ⊑ layerAt k s (suc t) .val v
-unfolding layerAt
-rises k s t v = layer-rises (k .moves) s t .val v
-
-state-truths : (k : Task) {has : List Bool} {row : List ℤ} {l : Layer} → LayerState (rangesOf normal k) has row l → Truths (k .props) has (l .has)
-state-truths k w = record { long = w .long; same = w .has }
 
 pub built-by : {k : Task} {s : State} {old mem : List ℤ} {r : BuiltAnswer} (b : Built) (new : List ℤ) → build paper k s (length old) ≡ b → builtOf r ≡ b → builtMemory k s b ≡ new → mem ≡ overwrite new old → IsBuilt k s old mem r
 built-by {k} {s} {old} b new e f g m =
@@ -106,17 +89,6 @@ module _ {k : Task} (ok : TaskOk paper normal k) {s : State} {old : List ℤ} {t
   -- "the number of the last stored layer" is within the bound
   pub layered-bound : t ≤ bound (length (k .moves)) (k .vars)
   layered-bound = layers-bound ok s t (a .passed .unsettled)
-
-  module _ {flags : List Bool} {values : List ℤ} {used : List Bool} (u : Turned k s t flags values used) where
-    -- is the next layer equal
-    pub turned-settled : (allBelow (sameTruth has flags) (k .props) && allBelow (notAbove row values) (k .vars)) ≡ settled k s t
-    unfolding settled
-    turned-settled = same-layer (state-truths k (a .state)) (u .truths) (a .state .row) (u .row) (rises k s t)
-
-    -- is no value past the limit
-    pub turned-within : allBelow (withinAt values) (k .vars) ≡ not (wrong15 paper k s (suc t))
-    unfolding wrong15
-    turned-within = within-layer (u .row)
 
   -- "no plan": the step that changes nothing counts
   pub layered-exhausted : {mem′ : List ℤ} → meetsGoal k s t ≡ false → settled k s t ≡ true → Holds k s (suc t) (suc t) old mem′ → IsBuilt k s old mem′ (answer.Exhausted t)
@@ -146,25 +118,19 @@ module _ {k : Task} (ok : TaskOk paper normal k) {s : State} {old : List ℤ} {t
 
     -- the next layer is stored
     pub layered-next :
-        {mem′ : List ℤ} {flags : List Bool} {values : List ℤ} {used : List Bool}
-        → Turned k s t flags values used
+        {mem′ : List ℤ} {has′ : List Bool} {row′ : List ℤ}
         → wrong15 paper k s (suc t) ≡ false
-        → allBelow (withinAt values) (k .vars) ≡ true
         → size k s (suc (suc t)) ≤ length old
         → Holds k s (suc (suc t)) (suc t) old mem′
-        → Layered k s old (suc t) mem′ flags values
-    layered-next u small within enough held =
+        → LayerState (rangesOf normal k) has′ row′ (layerAt k s (suc t))
+        → Layered k s old (suc t) mem′ has′ row′
+    layered-next small enough held state =
         record {
           passed = passed-next (a .passed) unmet unsettled;
           unrefused = unrefused-next (a .unrefused) small (room-there k s (length old) (suc t) enough);
           holds = held;
           room = enough;
-          state =
-              record {
-                long = u .truths .long;
-                has = u .truths .same;
-                row = small-row (a .state .row) (u .row) (rises k s t) within;
-              };
+          state = state;
         }
 
 -- at most (64 + 32 + 1) × (32 + 1) layers
@@ -174,64 +140,6 @@ bound-small {k} ok =
     let h : length (k .moves) + k .vars + 1 ≤ 97 = omega (arith, ok .moves, ok .vars .0) in
     let i : k .vars + 1 ≤ 33 = omega (arith, ok .vars .0) in
     mul-le-mul h i
-
--- ---- the next layer, worked out by value
-
--- a layer in two arrays, the same two to begin the next one
-pub record Workable (table marks : List ℕ) (props vars moves : ℕ) (has : List Bool) (row : List ℤ) (flags : List Bool) (values : List ℤ) (used : List Bool) : Type 0 where
-  pub steppable : Steppable table marks moves has row flags values used
-  pub has-room : props ≤ length has
-  pub row-room : vars ≤ length row
-  pub flags-room : props ≤ length flags
-  pub values-room : vars ≤ length values
-
--- by the two checks
-unfoldable pub nextLayer : Bool → Bool → NextLayer
-nextLayer true within = outlook.Same
-nextLayer false true = outlook.New
-nextLayer false false = outlook.TooLarge
-
--- are the two layers equal in the arrays
-unfoldable pub sameArrays : ℕ → ℕ → List Bool → List Bool → List ℤ → List ℤ → Bool
-sameArrays props vars has flags row values = allBelow (sameTruth has flags) props && allBelow (notAbove row values) vars
-
-pub record WorkedOut (table marks : List ℕ) (props vars moves : ℕ) (has : List Bool) (row : List ℤ) (flags : List Bool) (values : List ℤ) (used : List Bool) (flags′ : List Bool) (values′ : List ℤ) (used′ : List Bool) (r : NextLayer) : Type 0 where
-  pub stepped : Stepped table marks moves has row flags values used flags′ values′ used′
-  pub is : r ≡ nextLayer (sameArrays props vars has flags′ row values′) (allBelow (withinAt values′) vars)
-
--- what the outcome says of the checks
-pub next-same : (e w : Bool) → outlook.Same ≡ nextLayer e w → e ≡ true
-unfolding nextLayer
-next-same true w h = refl
-next-same false true h = let z : _≡_ {A = ℕ} 0 1 = cc in absurd (omega arith)
-next-same false false h = let z : _≡_ {A = ℕ} 0 1 = cc in absurd (omega arith)
-
-pub next-large : (e w : Bool) → outlook.TooLarge ≡ nextLayer e w → (e ≡ false) × (w ≡ false)
-unfolding nextLayer
-next-large true w h = let z : _≡_ {A = ℕ} 0 1 = cc in absurd (omega arith)
-next-large false true h = let z : _≡_ {A = ℕ} 0 1 = cc in absurd (omega arith)
-next-large false false h = (refl, refl)
-
-pub next-new : (e w : Bool) → outlook.New ≡ nextLayer e w → (e ≡ false) × (w ≡ true)
-unfolding nextLayer
-next-new true w h = let z : _≡_ {A = ℕ} 0 1 = cc in absurd (omega arith)
-next-new false true h = (refl, refl)
-next-new false false h = let z : _≡_ {A = ℕ} 0 1 = cc in absurd (omega arith)
-
--- the three outcomes
-module _ {table marks : List ℕ} {props vars moves : ℕ} {has : List Bool} {row : List ℤ} {flags : List Bool} {values : List ℤ} {used : List Bool} {flags′ : List Bool} {values′ : List ℤ} {used′ : List Bool} (st : Stepped table marks moves has row flags values used flags′ values′ used′) {e : Bool} (same : e ≡ (allBelow (sameTruth has flags′) props && allBelow (notAbove row values′) vars)) where
-  pub worked-same : e ≡ true → WorkedOut table marks props vars moves has row flags values used flags′ values′ used′ outlook.Same
-  unfolding nextLayer sameArrays
-  worked-same h = record { stepped = st; is = rw (sym same ∙ h) refl }
-
-  module _ (h : e ≡ false) {w : Bool} (within : w ≡ allBelow (withinAt values′) vars) where
-    pub worked-new : w ≡ true → WorkedOut table marks props vars moves has row flags values used flags′ values′ used′ outlook.New
-    unfolding nextLayer sameArrays
-    worked-new i = record { stepped = st; is = rw (sym same ∙ h, sym within ∙ i) refl }
-
-    pub worked-large : w ≡ false → WorkedOut table marks props vars moves has row flags values used flags′ values′ used′ outlook.TooLarge
-    unfolding nextLayer sameArrays
-    worked-large i = record { stepped = st; is = rw (sym same ∙ h, sym within ∙ i) refl }
 
 -- ---- a turn of the loop
 
@@ -265,27 +173,16 @@ module _ {table marks : List ℕ} {props vars moves : ℕ} {k : Task} {s : State
   pub goal-testable-at : GoalTestable table marks moves has row
   goal-testable-at = record { task = k; over = layerAt k s t; outlined = o; count = c .moves-is; state = a .state }
 
-  steppable-at : {used : List Bool} → moves ≤ length used → Steppable table marks moves has row has row used
+  pub steppable-at : {used : List Bool} → moves ≤ length used → Steppable table marks props vars moves has row has used
   steppable-at room =
       record {
         task = k;
         over = layerAt k s t;
         outlined = o;
-        count = c .moves-is;
+        counts = c;
         state = a .state;
         flags-room = a .state .long;
-        values-room = a .state .row .long;
         used-room = room;
-      }
-
-  pub workable-at : {used : List Bool} → moves ≤ length used → Workable table marks props vars moves has row has row used
-  workable-at room =
-      record {
-        steppable = steppable-at room;
-        has-room = rw (c .props-is) (a .state .long);
-        row-room = rw (c .vars-is) (a .state .row .long);
-        flags-room = rw (c .props-is) (a .state .long);
-        values-room = rw (c .vars-is) (a .state .row .long);
       }
 
   pub memory-room : props + moves + vars * suc t ≤ length mem
@@ -308,86 +205,117 @@ module _ {table marks : List ℕ} {props vars moves : ℕ} {k : Task} {s : State
   unfolding meetsGoal
   met-is m = m .is k (layerAt k s t) o (c .moves-is) (a .state)
 
-  turned : {flags : List Bool} {values : List ℤ} {used used′ : List Bool} → UsedIn k (layerAt k s t) used → Stepped table marks moves has row has row used flags values used′ → Turned k s t flags values used′
-  unfolding layerAt layer moveAt
-  turned before st =
-      let r = st .is k (layerAt k s t) o (c .moves-is) (a .state) before (state-truths k (a .state)) (row-values (a .state .row)) in
-      record { truths = r .0; row = r .1; uses = r .2 }
-
   pub reached-at : {r : Bool} → IsMet table marks moves has row r → r ≡ true → IsBuilt k s old mem (answer.Reached t)
   reached-at m e = layered-reached (o .ok) a (sym (met-is m) ∙ e)
 
-  module _ {m : Bool} (met : IsMet table marks moves has row m) (no-goal : m ≡ false) {flags : List Bool} {values : List ℤ} {used used′ : List Bool} {r : NextLayer} (before : UsedIn k (layerAt k s t) used) (worked : WorkedOut table marks props vars moves has row has row used flags values used′ r) where
+  module _ {m : Bool} (met : IsMet table marks moves has row m) (no-goal : m ≡ false) {flags used used′ : List Bool} {part : List ℤ} {r : NextLayer} {end : ℕ} (at : end ≡ props + moves + vars * suc t) (before : UsedIn k (layerAt k s t) used) (stepped : Stepped table marks props vars moves has row has used (midOf end (length mem - end) mem) flags used′ part r) where
     unmet : meetsGoal k s t ≡ false
     unmet = sym (met-is met) ∙ no-goal
 
-    turn : Turned k s t flags values used′
-    turn = turned before (worked .stepped)
+    abbrev behind : List ℤ
+    behind = midOf end (length mem - end) mem
 
-    settled-is : sameArrays props vars has flags row values ≡ settled k s t
-    unfolding sameArrays
-    settled-is =
-        ap (λ (n : ℕ). allBelow (sameTruth has flags) n && allBelow (notAbove row values) vars) (c .props-is)
-        ∙ ap (λ (n : ℕ). allBelow (sameTruth has flags) (k .props) && allBelow (notAbove row values) n) (c .vars-is)
-        ∙ turned-settled (o .ok) a turn
+    turn : StepFrom k s t behind flags used′ part r
+    turn =
+        stepped .is k s t (record { outlined = o; counts = c; state = a .state; begun = state-truths k (a .state); used-in = before })
 
-    within-is : allBelow (withinAt values) vars ≡ allBelow (withinAt values) (k .vars)
-    within-is = ap (allBelow (withinAt values)) (c .vars-is)
+    place : end ≡ size k s (suc t)
+    place = at ∙ rw (c .props-is, c .moves-is, c .vars-is) refl
 
-    large-is : allBelow (withinAt values) vars ≡ not (wrong15 paper k s (suc t))
-    large-is = within-is ∙ turned-within (o .ok) a turn
+    behind-length : length behind ≡ length mem - end
+    behind-length = length-take-le (length mem - end) (drop end mem) (omega (arith, length-drop end mem))
+
+    next-size : size k s (suc (suc t)) ≡ end + k .vars
+    next-size = omega (arith, place, mul-suc (k .vars) (suc t))
+
+    enough : end ≤ length mem
+    enough = omega (arith, place, a .room, a .holds .same-length)
+
+    checks : {x : NextLayer} → r ≡ x → Judged x (settled k s t) (wrong15 paper k s (suc t)) (ltb (length behind) (k .vars))
+    checks {x} e =
+        subst (λ (y : NextLayer). Judged y (settled k s t) (wrong15 paper k s (suc t)) (ltb (length behind) (k .vars))) (sym (turn .is) ∙ e)
+        (judged (settled k s t) (wrong15 paper k s (suc t)) (ltb (length behind) (k .vars)))
+
+    written : {x : NextLayer} → r ≡ x → PartAfter (k .vars) (layerAt k s (suc t) .val) behind part x
+    written e = subst (λ (y : NextLayer). PartAfter (k .vars) (layerAt k s (suc t) .val) behind part y) e (turn .part)
+
+    -- a part that is as it was leaves the memory as it was
+    untouched : part ≡ behind → putMid end (length mem - end) mem part ≡ mem
+    untouched e = ap (putMid end (length mem - end) mem) e ∙ put-same end (length mem - end) mem
 
     -- "no plan"
-    pub exhausted-at : {mem′ : List ℤ} → r ≡ outlook.Same → NotesMoves props moves t used′ mem mem′ → IsBuilt k s old mem′ (answer.Exhausted t)
-    exhausted-at e n =
-        layered-exhausted (o .ok) a unmet
-        (sym settled-is ∙ next-same (sameArrays props vars has flags row values) (allBelow (withinAt values) vars) (sym e ∙ worked .is))
-        (n .is k s (suc t) old (c .props-is) (c .moves-is) (turn .uses) (a .holds))
+    pub exhausted-at : {mem′ : List ℤ} → r ≡ outlook.Same → NotesMoves props moves t used′ (putMid end (length mem - end) mem part) mem′ → IsBuilt k s old mem′ (answer.Exhausted t)
+    exhausted-at {mem′} e n =
+        layered-exhausted (o .ok) a unmet (checks e)
+        (subst (λ (l : List ℤ). NotesMoves props moves t used′ l mem′) (untouched (written e)) n .is k s (suc t) old (c .props-is) (c .moves-is) (turn .uses) (a .holds))
 
     -- 15
-    pub large-at : r ≡ outlook.TooLarge → IsBuilt k s old mem (answer.Stopped 15 (t + 1))
-    large-at e =
-        let q = next-large (sameArrays props vars has flags row values) (allBelow (withinAt values) vars) (sym e ∙ worked .is) in
-        layered-large (o .ok) a unmet (sym settled-is ∙ q .0) (was-true (wrong15 paper k s (suc t)) (sym large-is ∙ q .1))
+    pub large-at : r ≡ outlook.TooLarge → IsBuilt k s old (putMid end (length mem - end) mem part) (answer.Stopped 15 (t + 1))
+    large-at e = rw (untouched (written e)) (layered-large (o .ok) a unmet (checks e .0) (checks e .1))
+
+    -- 14
+    pub short-at : r ≡ outlook.TooShort → IsBuilt k s old (putMid end (length mem - end) mem part) (answer.Stopped 14 (t + 1))
+    short-at e =
+        let short : length behind < k .vars = ltb-true (length behind) (k .vars) (checks e .2) in
+        rw (untouched (written e)) (layered-short (o .ok) a unmet (checks e .0) (checks e .1) (omega (arith, next-size, behind-length, enough, a .holds .same-length)))
 
     module _ (e : r ≡ outlook.New) where
-      new : (sameArrays props vars has flags row values ≡ false) × (allBelow (withinAt values) vars ≡ true)
-      new = next-new (sameArrays props vars has flags row values) (allBelow (withinAt values) vars) (sym e ∙ worked .is)
-
-      unsettled : settled k s t ≡ false
-      unsettled = sym settled-is ∙ new .0
-
-      small : wrong15 paper k s (suc t) ≡ false
-      small = was-false (wrong15 paper k s (suc t)) (sym large-is ∙ new .1)
-
       pub below-bound : t < bound moves vars
-      below-bound = rw (c .moves-is, c .vars-is) (layered-below (o .ok) a unmet unsettled)
+      below-bound = rw (c .moves-is, c .vars-is) (layered-below (o .ok) a unmet (checks e .0))
 
-      next-size : size k s (suc (suc t)) ≡ props + moves + vars * suc t + vars
-      next-size = rw (c .props-is, c .moves-is, c .vars-is) (omega (arith, mul-suc (k .vars) (suc t)))
+      fits : end + k .vars ≤ length mem
+      fits = let long : k .vars ≤ length behind = ltb-false (length behind) (k .vars) (checks e .2) in omega (arith, behind-length, enough)
 
-      -- 14
-      pub short-at : length mem < props + moves + vars * suc t + vars → IsBuilt k s old mem (answer.Stopped 14 (t + 1))
-      short-at short = layered-short (o .ok) a unmet unsettled small (omega (arith, next-size, a .holds .same-length))
+      pub new-room : end + vars ≤ length mem
+      new-room = rw (c .vars-is) fits
 
       -- the next layer is the last one stored
       pub next-at :
-          {mem′ mem″ : List ℤ} {end : ℕ}
-          → props + moves + vars * suc t + vars ≤ length mem
-          → end ≡ props + moves + vars * suc t
-          → NotesMoves props moves t used′ mem mem′
-          → StoresLayer props vars end (t + 1) flags values mem′ mem″
-          → Grows k s old (suc t) mem″ flags values used′
-      next-at {mem′} {mem″} {end} enough at n store =
-          let noted = n .is k s (suc t) old (c .props-is) (c .moves-is) (turn .uses) (a .holds) in
-          let place : end ≡ size k s (suc t) = at ∙ rw (c .props-is, c .moves-is, c .vars-is) refl in
-          let stored = subst (λ (x : ℕ). StoresLayer props vars end x flags values mem′ mem″) (add-one t) store in
+          {mem′ mem″ row′ : List ℤ}
+          → NotesMoves props moves t used′ (putMid end (length mem - end) mem part) mem′
+          → Filled (notedAt mem′ flags (t + 1)) props mem′ mem″
+          → Filled (rowAt (midOf end (length mem″ - end) mem″)) vars row row′
+          → Grows k s old (suc t) mem″ flags row′ used′
+      unfolding rowAt
+      next-at {mem′} {mem″} {row′} n f g =
+          let mem₁ = putMid end (length mem - end) mem part in
+          let at₁ : FilledAt (rowAt part) (size k s (suc t)) (k .vars) mem mem₁ =
+          subst (λ (x : ℕ). FilledAt (rowAt part) x (k .vars) mem mem₁) place
+          (filled-behind (rowAt part) end (k .vars) mem part fits (record { same-length = written e .same-length; done = λ i h. refl; kept = written e .kept })) in
+          let noted : Holds k s (suc t) (suc t) mem₁ mem′ = n .is k s (suc t) mem₁ (c .props-is) (c .moves-is) (turn .uses) (holds-before (a .holds) at₁) in
+          let f₁ : Filled (notedAt mem′ flags (suc t)) (k .props) mem′ mem″ =
+          subst (λ (x : ℕ). Filled (notedAt mem′ flags (suc t)) x mem′ mem″) (c .props-is)
+          (subst (λ (x : ℕ). Filled (notedAt mem′ flags x) props mem′ mem″) (add-one t) f) in
+          let held : Holds k s (suc (suc t)) (suc t) old mem″ =
+          holds-layer (row-behind s (row-values (written e .row)) at₁ (a .holds .same-length) (a .holds .kept)) noted (turn .truths) f₁ in
           record {
             layered =
-                layered-next (o .ok) a unmet unsettled turn small (sym within-is ∙ new .1) (omega (arith, next-size, a .holds .same-length))
-                (stored .is k s most (suc t) old (c .props-is) (c .vars-is) place (turn .truths) (turn .row) noted);
-            used-in = used-next (o .ok) turn;
+                layered-next (o .ok) a unmet (checks e .0) (checks e .1) (omega (arith, next-size, fits, a .holds .same-length)) held
+                (record {
+                  long = turn .truths .long;
+                  has = turn .truths .same;
+                  row =
+                      record {
+                        long = omega (arith, g .same-length, a .state .row .long);
+                        each = λ v h. record { is = read held g v h; size = written e .row .each v h .size };
+                      };
+                });
+            used-in = used-next s t (o .ok) (turn .uses);
           }
+        where
+          -- the values read back
+          read :
+              Holds k s (suc (suc t)) (suc t) old mem″
+              → Filled (rowAt (midOf end (length mem″ - end) mem″)) vars row row′
+              → (v : ℕ)
+              → v < k .vars
+              → getD row′ v (pos 0) ≡ encode (layerAt k s (suc t) .val v)
+          read held g v h =
+              g .done v (omega (arith, c .vars-is))
+              ∙ getD-take (length mem″ - end) (drop end mem″) v (pos 0) (omega (arith, held .same-length, fits, a .holds .same-length))
+              ∙ getD-drop end mem″ v (pos 0)
+              ∙ ap (λ (x : ℕ). getD mem″ x (pos 0)) (omega (arith, place))
+              ∙ held .value (suc t) v (omega arith) h
 
 module _ {table marks : List ℕ} {props vars moves : ℕ} {has₀ : List Bool} {row₀ mem₀ : List ℤ} where
   pub growing-start : Growing table marks props vars moves has₀ row₀ mem₀ 0 has₀ row₀ (replicate 64 false) mem₀ (props + moves + vars)

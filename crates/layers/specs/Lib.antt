@@ -3,6 +3,7 @@ pub mod Comparing
 pub mod Raising
 pub mod Stepping
 pub mod Checks
+pub mod Step
 pub mod Answers
 pub mod Storing
 pub mod Building

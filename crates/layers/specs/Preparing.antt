@@ -19,8 +19,11 @@ use Rattle.model.specs.Reading.{Verdict, refused, only, reading}
 use Rattle.model.specs.Move.{State}
 use Rattle.model.specs.StateTable.{stateRefusal}
 use Rattle.model.specs.Calls.{Ready, ready, unready, readyWith, readyOf, prepared, decided, decideOf, decideAnswer, memoryOf, decideMemory}
+use Rattle.model.specs.Theorems.Demand3.{decideLayers}
+use Rattle.model.specs.Theorems.EndToEnd.{LayersWithin, decide-within}
 use Rattle.table.specs.Outlines.{Outline, HeadRead}
-use Rattle.layers.specs.Building.{Counts, IsBuilt, builtOf}
+use Rattle.layers.specs.Step.{Counts}
+use Rattle.layers.specs.Building.{IsBuilt, builtOf}
 use Rattle.layers.specs.Starting.{startOf, Buildable}
 
 -- ---- ready for layers, or refused before
@@ -82,6 +85,10 @@ ready-buildable r = record { task = r .task; outlined = r .outlined; counts = r 
 pub record Decided (t bs : List ℕ) (mem mem′ : List ℤ) (r : DecideAnswer) : Type 0 where
   pub answers : r ≡ decideAnswer paper t bs mem
   pub leaves : mem′ ≡ decideMemory paper t bs mem
+
+-- the reported layers are within the bound
+pub decided-within : {t bs : List ℕ} {mem mem′ : List ℤ} {r : DecideAnswer} → Decided t bs mem mem′ r → LayersWithin t (decideLayers r)
+decided-within {t} {bs} {mem} d = rw (d .answers) (decide-within t bs mem)
 
 pub decided-refused : (t bs : List ℕ) (mem : List ℤ) {r : Refusal} → prepared paper t bs ≡ unready r → Decided t bs mem mem (decide.Refused r)
 unfolding decideAnswer decideOf decideMemory memoryOf

@@ -1,11 +1,12 @@
 -- Layer 0: the state's truths and values in two arrays and in the memory.
 -- Assumes nothing.
-use Prim.Native.Nat.{ℕ, _+_, _*_, _/_, _≤_, _<_}
+use Prim.Native.Nat.{ℕ, _+_, _-_, _*_, _/_, _≤_, _<_}
 use native.Mathlib.Omega.{arith}
 use mathlib.Core.Path.{_≡_, refl, ap, _∙_, subst}
 use mathlib.Core.Bool.{Bool, false}
 use mathlib.Core.List.{List, []}
 use mathlib.Core.Option.{none}
+use borrow.Rule.Slice.PartMut.{midOf, putMid}
 use lib.IntN.{ℤ, pos, natAbs}
 use lib.ListN.{length, getD}
 use Rattle.integer.specs.Linear.{zlin, natAbs-split, le-ltZ}
@@ -22,7 +23,7 @@ use Rattle.model.specs.Memory.{encode, tooLarge, wrong15, overwrite, stopped, b
 use Rattle.model.specs.Theorems.WellFormed.{TaskOk}
 use Rattle.model.specs.Theorems.Booleans.{not-false, false-not}
 use Rattle.model.specs.Theorems.Searching.{anyBelow-cases}
-use Rattle.model.specs.Theorems.Memories.{Holds, size}
+use Rattle.model.specs.Theorems.Memories.{size}
 use Rattle.table.specs.Outlines.{Outline}
 use Rattle.block.specs.Parts.{rangesOf}
 use Rattle.block.specs.Sums.{Encoded}
@@ -30,10 +31,12 @@ use Rattle.block.specs.Blocks.{LayerState}
 use Rattle.state.specs.Overwriting.{written-at}
 use Rattle.state.specs.Checking.{accepted-state}
 use Rattle.state.specs.Loading.{accepted-signed}
-use Rattle.layers.specs.Filling.{Filled, cleared}
+use Rattle.layers.specs.Filling.{Filled, cleared, notedAt, rowAt}
+use Rattle.layers.specs.Raising.{Values}
+use Rattle.layers.specs.Step.{Counts, state-truths}
 use Rattle.layers.specs.Answers.{passed-none, unrefused-none, unrefused-next, room-there, room-missing, built-short}
-use Rattle.layers.specs.Storing.{StoresLayer, holds-cleared}
-use Rattle.layers.specs.Building.{Counts, IsBuilt, Layered, builtOf, built-by}
+use Rattle.layers.specs.Storing.{FilledAt, filled-behind, row-behind, holds-cleared, holds-layer}
+use Rattle.layers.specs.Building.{IsBuilt, Layered, builtOf, built-by}
 
 -- the signed variables of an accepted state
 abbrev pub startOf : ℕ → List ℕ → State
@@ -120,27 +123,31 @@ module _ {k : Task} {props vars moves : ℕ} (ok : TaskOk paper normal k) (n : C
       (built-short ok passed-none unrefused-none first-small (room-missing k (startOf props bs) (length old) 0 (omega (arith, n .props-is, n .vars-is, n .moves-is))))
       refl refl refl
 
-  -- layer 0 is stored
+  -- layer 0 is stored: its values, then the entries
   pub first-stored :
-      {old mem mem′ : List ℤ} {has : List Bool} {row : List ℤ}
+      {old part mem mem′ : List ℤ} {has : List Bool} {row : List ℤ}
       → props + moves + vars ≤ length old
       → LayerState (rangesOf normal k) has row (layerAt k (startOf props bs) 0)
-      → Filled cleared (props + moves) old mem
-      → StoresLayer props vars (props + moves) 0 has row mem mem′
+      → Filled (rowAt row) vars (midOf (props + moves) (length old - (props + moves)) old) part
+      → Filled cleared (props + moves) (putMid (props + moves) (length old - (props + moves)) old part) mem
+      → Filled (notedAt mem has 0) props mem mem′
       → Layered k (startOf props bs) old 0 mem′ has row
-  first-stored {old} {mem} {mem′} {has} {row} enough w f store =
+  first-stored {old} {part} {mem} {mem′} {has} {row} enough w r f g =
       let s = startOf props bs in
+      let mem₁ = putMid (props + moves) (length old - (props + moves)) old part in
       let fits : size k s 1 ≤ length old = omega (arith, n .props-is, n .vars-is, n .moves-is) in
       let front : props + moves ≡ k .props + length (k .moves) = omega (arith, n .props-is, n .moves-is) in
-      let held : Holds k s 0 0 old mem = holds-cleared (subst (λ (x : ℕ). Filled cleared x old mem) front f) in
+      let place : props + moves ≡ size k s 0 = omega (arith, n .props-is, n .moves-is) in
+      let at : FilledAt (rowAt row) (size k s 0) (k .vars) old mem₁ =
+      subst (λ (x : ℕ). FilledAt (rowAt row) x (k .vars) old mem₁) place
+      (subst (λ (x : ℕ). FilledAt (rowAt row) (props + moves) x old mem₁) (n .vars-is) (filled-behind (rowAt row) (props + moves) vars old part enough r)) in
+      let values : Values 1_000_000_000_000 (k .vars) row (layerAt k s 0 .val) = record { long = w .row .long; each = w .row .each } in
       record {
         passed = passed-none;
         unrefused = unrefused-next unrefused-none first-small (room-there k s (length old) 0 fits);
         holds =
-            store .is k s 1_000_000_000_000 0 old (n .props-is) (n .vars-is) (omega (arith, n .props-is, n .moves-is))
-            (record { long = w .long; same = w .has })
-            (record { long = w .row .long; each = w .row .each })
-            held;
+            holds-layer (row-behind s values at refl (λ i h. refl)) (holds-cleared (subst (λ (x : ℕ). Filled cleared x mem₁ mem) front f)) (state-truths k w)
+            (subst (λ (x : ℕ). Filled (notedAt mem has 0) x mem mem′) (n .props-is) g);
         room = fits;
         state = w;
       }

@@ -1,6 +1,6 @@
 -- One step: the next layer from all moves whose conditions hold, move by move.
 -- Assumes nothing.
-use Prim.Native.Nat.{ℕ, _+_, _-_, _≤_, _<_}
+use Prim.Native.Nat.{ℕ, _+_, _≤_, _<_}
 use native.Mathlib.Numerals.{add-one}
 use native.Mathlib.Omega.{arith}
 use mathlib.Core.Path.{_≡_, refl, sym, ap, _∙_, subst}
@@ -17,6 +17,7 @@ use Rattle.model.specs.Theorems.Searching.{below-suc}
 use Rattle.model.specs.Theorems.Order.{_⊑_, highest-comm, highest-assoc}
 use Rattle.model.specs.Theorems.Layers.{raised-old, move-ok}
 use Rattle.table.specs.Outlines.{partAt, Outline}
+use Rattle.reader.specs.Parts.{PartIn, outline-part}
 use Rattle.block.specs.Items.{Ranges, Left}
 use Rattle.block.specs.Parts.{rangesOf, move-left, goal-left}
 use Rattle.block.specs.Blocks.{LayerState, LayerTestable, IsUsable}
@@ -189,7 +190,7 @@ step-next {k} {l} {b} {used} {t} s h room e ts vs =
     more = ap (λ (n : ℕ). take n (k .moves)) (add-one b) ∙ take-suc (k .moves) b [] h
 
 -- what the step needs: a table with its marks, a layer in two arrays, the same two to begin the next one, room for the moves used
-pub record Steppable (table marks : List ℕ) (moves : ℕ) (has : List Bool) (row : List ℤ) (flags : List Bool) (values : List ℤ) (used : List Bool) : Type 0 where
+pub record MovesReady (table marks : List ℕ) (moves : ℕ) (has : List Bool) (row : List ℤ) (flags : List Bool) (values : List ℤ) (used : List Bool) : Type 0 where
   pub task : Task
   pub over : Layer
   pub outlined : Outline normal table marks task
@@ -200,7 +201,7 @@ pub record Steppable (table marks : List ℕ) (moves : ℕ) (has : List Bool) (r
   pub used-room : moves ≤ length used
 
 -- the first b moves are taken in
-pub record Stepping (table marks : List ℕ) (moves : ℕ) (has : List Bool) (row : List ℤ) (flags : List Bool) (values : List ℤ) (used : List Bool) (b : ℕ) (flags′ : List Bool) (values′ : List ℤ) (used′ : List Bool) : Type 0 where
+pub record UsingMoves (table marks : List ℕ) (moves : ℕ) (has : List Bool) (row : List ℤ) (flags : List Bool) (values : List ℤ) (used : List Bool) (b : ℕ) (flags′ : List Bool) (values′ : List ℤ) (used′ : List Bool) : Type 0 where
   pub same-flags : length flags′ ≡ length flags
   pub same-values : length values′ ≡ length values
   pub same-used : length used′ ≡ length used
@@ -216,9 +217,9 @@ pub record Stepping (table marks : List ℕ) (moves : ℕ) (has : List Bool) (ro
       → StepBy k l b flags′ values′ used′
 
 module _ {table marks : List ℕ} {moves : ℕ} {has : List Bool} {row : List ℤ} {flags : List Bool} {values : List ℤ} {used : List Bool} where
-  pub stepping-start : Stepping table marks moves has row flags values used 0 flags values used
+  pub using-start : UsingMoves table marks moves has row flags values used 0 flags values used
   unfolding gained any raised
-  stepping-start =
+  using-start =
       record {
         same-flags = refl;
         same-values = refl;
@@ -233,16 +234,17 @@ module _ {table marks : List ℕ} {moves : ℕ} {has : List Bool} {row : List �
             };
       }
 
-  module _ {b : ℕ} {flags′ : List Bool} {values′ : List ℤ} {used′ : List Bool} (s : Stepping table marks moves has row flags values used b flags′ values′ used′) where
-    pub stepping-next :
-        {flags″ : List Bool} {values″ : List ℤ} {t : Bool}
+  module _ {b : ℕ} {flags′ : List Bool} {values′ : List ℤ} {used′ : List Bool} (s : UsingMoves table marks moves has row flags values used b flags′ values′ used′) where
+    pub using-next :
+        {part : List ℕ} {flags″ : List Bool} {values″ : List ℤ} {t : Bool}
         → b < moves
         → moves ≤ length used
         → length flags″ ≡ length flags′
         → length values″ ≡ length values′
-        → TakenIn (partAt table marks b) (getD used′ b false) has row flags′ values′ flags″ values″ t
-        → Stepping table marks moves has row flags values used (b + 1) flags″ values″ (set used′ b t)
-    stepping-next {t} h room lf lv r =
+        → part ≡ partAt table marks b
+        → TakenIn part (getD used′ b false) has row flags′ values′ flags″ values″ t
+        → UsingMoves table marks moves has row flags values used (b + 1) flags″ values″ (set used′ b t)
+    using-next {t} h room lf lv e r =
         record {
           same-flags = lf ∙ s .same-flags;
           same-values = lv ∙ s .same-values;
@@ -254,12 +256,14 @@ module _ {table marks : List ℕ} {moves : ℕ} {has : List Bool} {row : List �
               let p = s .is k l o c w m ts vs in
               let q =
               r .is (rangesOf normal k) (getD (k .moves) b []) l (λ x. l .has x || gained l x (take b (k .moves))) (λ x. raised l x (take b (k .moves)))
-              refl (move-left (o .ok) b i (o .move b i)) (move-ok (o .ok) b i .once) w (λ e. m .usable-there b i (sym (s .same-rest b (omega arith)) ∙ e)) (p .truths) (p .row) (λ v. raised-old l v (take b (k .moves))) in
+              refl (subst (λ (x : List ℕ). Left (rangesOf normal k) x 1 (getD (k .moves) b [])) (sym e) (move-left (o .ok) b i (o .move b i))) (move-ok (o .ok) b i .once) w (λ f. m .usable-there b i (sym (s .same-rest b (omega arith)) ∙ f)) (p .truths) (p .row) (λ v. raised-old l v (take b (k .moves))) in
               step-next p i (omega (arith, s .same-used)) (q .0) (q .1) (q .2);
         }
 
 -- the next layer, and the moves that made it
-pub record Stepped (table marks : List ℕ) (moves : ℕ) (has : List Bool) (row : List ℤ) (flags : List Bool) (values : List ℤ) (used : List Bool) (flags′ : List Bool) (values′ : List ℤ) (used′ : List Bool) : Type 0 where
+pub record MovesUsed (table marks : List ℕ) (moves : ℕ) (has : List Bool) (row : List ℤ) (flags : List Bool) (values : List ℤ) (used : List Bool) (flags′ : List Bool) (values′ : List ℤ) (used′ : List Bool) : Type 0 where
+  pub same-flags : length flags′ ≡ length flags
+  pub same-used : length used′ ≡ length used
   pub is :
       (k : Task) (l : Layer)
       → Outline normal table marks k
@@ -272,16 +276,18 @@ pub record Stepped (table marks : List ℕ) (moves : ℕ) (has : List Bool) (row
       × Values most (k .vars) values′ (next (k .moves) l .val)
       × Truths (length (k .moves)) used′ (λ b. usable l (getD (k .moves) b []))
 
-pub stepping-end :
+pub using-end :
     {table marks : List ℕ} {moves : ℕ} {has : List Bool} {row : List ℤ} {flags : List Bool} {values : List ℤ} {used : List Bool}
     {b : ℕ} {flags′ : List Bool} {values′ : List ℤ} {used′ : List Bool}
-    → Stepping table marks moves has row flags values used b flags′ values′ used′
+    → UsingMoves table marks moves has row flags values used b flags′ values′ used′
     → moves ≤ b
     → moves ≤ length used
-    → Stepped table marks moves has row flags values used flags′ values′ used′
+    → MovesUsed table marks moves has row flags values used flags′ values′ used′
 unfolding next
-stepping-end {b} {used′} s h room =
+using-end {b} {used′} s h room =
     record {
+      same-flags = s .same-flags;
+      same-used = s .same-used;
       is =
           λ k l o c w m ts vs.
           let p = s .is k l o c w m ts vs in
@@ -293,23 +299,20 @@ stepping-end {b} {used′} s h room =
     }
 
 -- what the move at b is taken in with
-module _ {table marks : List ℕ} {moves : ℕ} {has : List Bool} {row : List ℤ} {flags : List Bool} {values : List ℤ} {used : List Bool} (p : Steppable table marks moves has row flags values used) {b : ℕ} (h : b < moves) where
-  pub steppable-marks : b + 1 < length marks
-  steppable-marks = omega (arith, p .outlined .long, p .count)
+module _ {table marks : List ℕ} {moves : ℕ} {has : List Bool} {row : List ℤ} {flags : List Bool} {values : List ℤ} {used : List Bool} (p : MovesReady table marks moves has row flags values used) {b : ℕ} (h : b < moves) where
+  pub ready-part : PartIn table marks b
+  ready-part = outline-part (p .outlined) b (omega (arith, p .count))
 
-  pub steppable-ordered : getD marks b 0 ≤ getD marks (b + 1) 0
-  steppable-ordered = p .outlined .ordered b (omega (arith, p .count))
-
-  pub steppable-within : getD marks (b + 1) 0 ≤ length table
-  steppable-within = p .outlined .within b (omega (arith, p .count))
-
-  pub steppable-takeable : {flags′ : List Bool} {values′ : List ℤ} → length flags′ ≡ length flags → length values′ ≡ length values → Takeable (partAt table marks b) has row flags′ values′
-  steppable-takeable lf lv =
+  pub ready-takeable : {part : List ℕ} {flags′ : List Bool} {values′ : List ℤ} → part ≡ partAt table marks b → length flags′ ≡ length flags → length values′ ≡ length values → Takeable part has row flags′ values′
+  ready-takeable {part} e lf lv =
       record {
         ranges = rangesOf normal (p .task);
         block = getD (p .task .moves) b [];
         over = p .over;
-        left = let i : b < length (p .task .moves) = omega (arith, p .count) in move-left (p .outlined .ok) b i (p .outlined .move b i);
+        left =
+            let i : b < length (p .task .moves) = omega (arith, p .count) in
+            subst (λ (x : List ℕ). Left (rangesOf normal (p .task)) x 1 (getD (p .task .moves) b [])) (sym e)
+            (move-left (p .outlined .ok) b i (p .outlined .move b i));
         state = p .state;
         flags-room = omega (arith, p .flags-room);
         values-room = omega (arith, p .values-room);
@@ -328,33 +331,24 @@ pub record GoalTestable (table marks : List ℕ) (moves : ℕ) (has : List Bool)
 pub record IsMet (table marks : List ℕ) (moves : ℕ) (has : List Bool) (row : List ℤ) (t : Bool) : Type 0 where
   pub is : (k : Task) (l : Layer) → Outline normal table marks k → moves ≡ length (k .moves) → LayerState (rangesOf normal k) has row l → t ≡ usable l (k .goal)
 
+-- the goal stands in its part
+goal-at : {table marks : List ℕ} {moves : ℕ} {part : List ℕ} {k : Task} → part ≡ partAt table marks moves → Outline normal table marks k → moves ≡ length (k .moves) → Left (rangesOf normal k) part 1 (k .goal)
+goal-at {table} {marks} {k} e o c =
+    subst (λ (x : List ℕ). Left (rangesOf normal k) x 1 (k .goal)) (sym (e ∙ ap (partAt table marks) c)) (goal-left (o .ok) (o .goal))
+
 module _ {table marks : List ℕ} {moves : ℕ} {has : List Bool} {row : List ℤ} (p : GoalTestable table marks moves has row) where
-  pub goal-marks : moves + 1 < length marks
-  goal-marks = omega (arith, p .outlined .long, p .count)
+  pub goal-part : PartIn table marks moves
+  goal-part = outline-part (p .outlined) moves (omega (arith, p .count))
 
-  pub goal-ordered : getD marks moves 0 ≤ getD marks (moves + 1) 0
-  goal-ordered = p .outlined .ordered moves (omega (arith, p .count))
-
-  pub goal-within : getD marks (moves + 1) 0 ≤ length table
-  goal-within = p .outlined .within moves (omega (arith, p .count))
-
-  pub goal-testable : LayerTestable (partAt table marks moves) has row
-  goal-testable =
+  pub goal-testable : {part : List ℕ} → part ≡ partAt table marks moves → LayerTestable part has row
+  goal-testable e =
       record {
         ranges = rangesOf normal (p .task);
         block = p .task .goal;
         over = p .over;
-        left = goal-at (p .outlined) (p .count);
+        left = goal-at e (p .outlined) (p .count);
         row = p .state;
       }
-    where
-      goal-at : {k : Task} → Outline normal table marks k → moves ≡ length (k .moves) → Left (rangesOf normal k) (partAt table marks moves) 1 (k .goal)
-      goal-at {k} o c = subst (λ (n : ℕ). Left (rangesOf normal k) (partAt table marks n) 1 (k .goal)) (sym c) (goal-left (o .ok) (o .goal))
 
-pub is-met : {table marks : List ℕ} {moves : ℕ} {has : List Bool} {row : List ℤ} {t : Bool} → IsUsable (partAt table marks moves) has row t → IsMet table marks moves has row t
-is-met {table} {marks} {moves} u =
-    record {
-      is =
-          λ k l o c w.
-          u .is (rangesOf normal k) (k .goal) l (subst (λ (n : ℕ). Left (rangesOf normal k) (partAt table marks n) 1 (k .goal)) (sym c) (goal-left (o .ok) (o .goal))) w;
-    }
+pub is-met : {table marks : List ℕ} {moves : ℕ} {part : List ℕ} {has : List Bool} {row : List ℤ} {t : Bool} → part ≡ partAt table marks moves → IsUsable part has row t → IsMet table marks moves has row t
+is-met e u = record { is = λ k l o c w. u .is (rangesOf normal k) (k .goal) l (goal-at e o c) w }

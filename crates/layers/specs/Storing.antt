@@ -3,7 +3,7 @@
 use Prim.Native.Nat.{ℕ, suc, _+_, _-_, _*_, _≤_, _<_}
 use native.Mathlib.Nat.{mul-suc}
 use native.Mathlib.Omega.{arith}
-use mathlib.Core.Path.{_≡_, sym, ap, ap₂, _∙_, subst}
+use mathlib.Core.Path.{_≡_, refl, sym, ap, ap₂, _∙_, subst}
 use mathlib.Core.Bool.{Bool}
 use mathlib.Core.List.{List, _++_}
 use borrow.Rule.Slice.PartMut.{midOf, putMid, same-len-mid}
@@ -29,15 +29,6 @@ pub record FilledAt (g : ℕ → ℤ) (a n : ℕ) (old new : List ℤ) : Type 0 
   pub done : (i : ℕ) → i < n → getD new (a + i) (pos 0) ≡ g i
   pub before : (i : ℕ) → i < a → getD new i (pos 0) ≡ getD old i (pos 0)
   pub after : (i : ℕ) → a + n ≤ i → getD new i (pos 0) ≡ getD old i (pos 0)
-
-pub filled-front : {g : ℕ → ℤ} {n : ℕ} {old new : List ℤ} → Filled g n old new → FilledAt g 0 n old new
-filled-front {g} {n} {old} {new} f =
-    record {
-      same-length = f .same-length;
-      done = λ i h. subst (λ (x : ℕ). getD new x (pos 0) ≡ g i) (omega arith) (f .done i h);
-      before = λ i h. absurd (omega arith);
-      after = λ i h. f .kept i (omega arith);
-    }
 
 -- a part that reaches to the end of the memory, filled from its start on
 module _ (g : ℕ → ℤ) (a n : ℕ) (old part : List ℤ) (room : a + n ≤ length old) (f : Filled g n (midOf a (length old - a) old) part) where
@@ -119,45 +110,65 @@ module _ {k : Task} {s : State} {old : List ℤ} where
         read : (b : ℕ) → b < length (k .moves) → getD (midOf (k .props) (length mem - k .props) mem) b (pos 0) ≡ getD mem (k .props + b) (pos 0)
         read b h = getD-take (length mem - k .props) (drop (k .props) mem) b (pos 0) (omega arith) ∙ getD-drop (k .props) mem b (pos 0)
 
-    -- one layer more: first the propositions that it has, then its values behind the last layer
-    pub holds-layer :
-        {mem″ : List ℤ} {has : List Bool} {row : List ℤ} {b : ℕ}
-        → Truths (k .props) has (layerAt k s n .has)
-        → Values b (k .vars) row (layerAt k s n .val)
-        → Filled (notedAt mem has n) (k .props) mem mem′
-        → FilledAt (rowAt row) (size k s n) (k .vars) mem′ mem″
-        → Holds k s (suc n) steps old mem″
-    unfolding notedAt rowAt propEntry
-    holds-layer {mem″} {has} {row} ts vs f g =
-        record {
-          same-length = g .same-length ∙ f .same-length ∙ held .same-length;
-          prop =
-              λ p h.
-              g .before p (omega arith)
-              ∙ f .done p h
-              ∙ ap₂ (λ (z : ℤ) (t : Bool). noted z t n) (held .prop p h) (ts .same p h)
-              ∙ sym (entry-next (λ t. layerAt k s t .has p) n);
-          move = λ m h. g .before (k .props + m) (omega arith) ∙ f .kept (k .props + m) (omega arith) ∙ held .move m h;
-          value = values;
-          kept =
-              λ i h.
-              g .after i (omega (arith, mul-suc (k .vars) n))
-              ∙ f .kept i (omega arith)
-              ∙ held .kept i (omega (arith, mul-suc (k .vars) n));
-        }
-      where
-        values : (u v : ℕ) → u < suc n → v < k .vars → getD mem″ (k .props + length (k .moves) + (k .vars * u + v)) (pos 0) ≡ encode (layerAt k s u .val v)
-        values u v h hv =
-            below-suc u n h
-            (λ before.
-            g .before (k .props + length (k .moves) + (k .vars * u + v)) (omega (arith, place-below k s u n v before hv))
-            ∙ f .kept (k .props + length (k .moves) + (k .vars * u + v)) (omega arith)
-            ∙ held .value u v before hv)
-            (λ last.
-            subst (λ (w : ℕ). getD mem″ (k .props + length (k .moves) + (k .vars * w + v)) (pos 0) ≡ encode (layerAt k s w .val v)) (sym last)
-            (ap (λ (x : ℕ). getD mem″ x (pos 0)) (omega arith) ∙ g .done v hv ∙ vs .each v hv .is))
+-- the values of layer n stand behind the layers so far, which the entries do not know yet
+pub record RowBehind (k : Task) (s : State) (n : ℕ) (old mem : List ℤ) : Type 0 where
+  pub same-length : length mem ≡ length old
+  pub value : (v : ℕ) → v < k .vars → getD mem (size k s n + v) (pos 0) ≡ encode (layerAt k s n .val v)
+  pub kept : (i : ℕ) → size k s (suc n) ≤ i → getD mem i (pos 0) ≡ getD old i (pos 0)
 
--- ---- the writes as promises
+module _ {k : Task} (s : State) {n : ℕ} {old mem : List ℤ} {row : List ℤ} {b : ℕ} (vs : Values b (k .vars) row (layerAt k s n .val)) {mem′ : List ℤ} (g : FilledAt (rowAt row) (size k s n) (k .vars) mem mem′) where
+  pub row-behind : length mem ≡ length old → ((i : ℕ) → size k s n ≤ i → getD mem i (pos 0) ≡ getD old i (pos 0)) → RowBehind k s n old mem′
+  unfolding rowAt
+  row-behind l kept =
+      record {
+        same-length = g .same-length ∙ l;
+        value = λ v h. g .done v h ∙ vs .each v h .is;
+        kept = λ i h. g .after i (omega (arith, mul-suc (k .vars) n)) ∙ kept i (omega (arith, mul-suc (k .vars) n));
+      }
+
+-- a row behind the layers so far changes nothing that they hold
+pub holds-before : {k : Task} {s : State} {n steps : ℕ} {g : ℕ → ℤ} {m : ℕ} {old mem mem′ : List ℤ} → Holds k s n steps old mem → FilledAt g (size k s n) m mem mem′ → Holds k s n steps mem′ mem′
+holds-before {k} {s} {n} held g =
+    record {
+      same-length = refl;
+      prop = λ p h. g .before p (omega arith) ∙ held .prop p h;
+      move = λ b h. g .before (k .props + b) (omega arith) ∙ held .move b h;
+      value = λ u v h hv. g .before (k .props + length (k .moves) + (k .vars * u + v)) (omega (arith, place-below k s u n v h hv)) ∙ held .value u v h hv;
+      kept = λ i h. refl;
+    }
+
+-- one layer more: its values stand behind the last layer, and the propositions that it has are noted
+pub holds-layer :
+    {k : Task} {s : State} {n steps : ℕ} {old mem mem′ mem″ : List ℤ} {has : List Bool}
+    → RowBehind k s n old mem
+    → Holds k s n steps mem mem′
+    → Truths (k .props) has (layerAt k s n .has)
+    → Filled (notedAt mem′ has n) (k .props) mem′ mem″
+    → Holds k s (suc n) steps old mem″
+unfolding notedAt propEntry
+holds-layer {k} {s} {n} {mem′} {mem″} r held ts f =
+    record {
+      same-length = f .same-length ∙ held .same-length ∙ r .same-length;
+      prop =
+          λ p h.
+          f .done p h
+          ∙ ap₂ (λ (z : ℤ) (t : Bool). noted z t n) (held .prop p h) (ts .same p h)
+          ∙ sym (entry-next (λ t. layerAt k s t .has p) n);
+      move = λ m h. f .kept (k .props + m) (omega arith) ∙ held .move m h;
+      value = values;
+      kept = λ i h. f .kept i (omega arith) ∙ held .kept i (omega (arith, mul-suc (k .vars) n)) ∙ r .kept i h;
+    }
+  where
+    values : (u v : ℕ) → u < suc n → v < k .vars → getD mem″ (k .props + length (k .moves) + (k .vars * u + v)) (pos 0) ≡ encode (layerAt k s u .val v)
+    values u v h hv =
+        f .kept (k .props + length (k .moves) + (k .vars * u + v)) (omega arith)
+        ∙ below-suc u n h
+        (λ before. held .value u v before hv)
+        (λ last.
+        subst (λ (w : ℕ). getD mem′ (k .props + length (k .moves) + (k .vars * w + v)) (pos 0) ≡ encode (layerAt k s w .val v)) (sym last)
+        (ap (λ (x : ℕ). getD mem′ x (pos 0)) (omega arith) ∙ held .kept (size k s n + v) (omega arith) ∙ r .value v hv))
+
+-- ---- the moves' entries as a promise
 
 -- the moves used by the step from layer t are noted
 pub record NotesMoves (props moves t : ℕ) (used : List Bool) (mem mem′ : List ℤ) : Type 0 where
@@ -183,33 +194,4 @@ notes-moves props moves t used mem part room f =
           (subst (λ (a : ℕ). FilledAt (notedAt (midOf a (length mem - a) mem) used t) a (length (k .moves)) mem (putMid props (length mem - props) mem part)) e
           (subst (λ (m : ℕ). FilledAt (notedAt (midOf props (length mem - props) mem) used t) props m mem (putMid props (length mem - props) mem part)) g at))
           (omega (arith, e, g));
-    }
-
--- layer t is stored at `at`
-pub record StoresLayer (props vars at t : ℕ) (has : List Bool) (row mem mem′ : List ℤ) : Type 0 where
-  pub is :
-      (k : Task) (s : State) (b steps : ℕ) (old : List ℤ)
-      → props ≡ k .props
-      → vars ≡ k .vars
-      → at ≡ size k s t
-      → Truths (k .props) has (layerAt k s t .has)
-      → Values b (k .vars) row (layerAt k s t .val)
-      → Holds k s t steps old mem
-      → Holds k s (suc t) steps old mem′
-
-pub stores-layer :
-    (props vars at t : ℕ) (has : List Bool) (row mem mem′ part : List ℤ)
-    → at + vars ≤ length mem′
-    → Filled (notedAt mem has t) props mem mem′
-    → Filled (rowAt row) vars (midOf at (length mem′ - at) mem′) part
-    → StoresLayer props vars at t has row mem (putMid at (length mem′ - at) mem′ part)
-stores-layer props vars at t has row mem mem′ part room f g =
-    record {
-      is =
-          λ k s b steps old e d i ts vs held.
-          let stored = filled-behind (rowAt row) at vars mem′ part room g in
-          holds-layer held ts vs
-          (subst (λ (p : ℕ). Filled (notedAt mem has t) p mem mem′) e f)
-          (subst (λ (a : ℕ). FilledAt (rowAt row) a (k .vars) mem′ (putMid at (length mem′ - at) mem′ part)) i
-          (subst (λ (m : ℕ). FilledAt (rowAt row) at m mem′ (putMid at (length mem′ - at) mem′ part)) d stored));
     }

@@ -5,14 +5,17 @@ ghost use Prim.Native.Nat.{_+_, _^_, _<_, _≤_};
 ghost use lib.ListN.{length};
 ghost use Rattle.model.specs.Lists.{allBelow};
 ghost use Rattle.model.specs.Theorems.Entries.{noted};
+ghost use Rattle.model.specs.Theorems.Demand3.{decideLayers};
+ghost use Rattle.model.specs.Theorems.EndToEnd.{LayersWithin};
 ghost use Rattle.model.specs.Limits.{paper};
 ghost use Rattle.model.specs.Calls.{decided, decideAnswer, decideMemory};
 ghost use Rattle.layers.specs.Preparing.{IsPrepared};
 ghost use Rattle.layers.specs.Filling.{Filled, cleared, notedAt, rowAt};
 ghost use Rattle.layers.specs.Raising.{IsOffer, Raisable, IsRaised, Appliable, Applied};
-ghost use Rattle.layers.specs.Stepping.{Takeable, TakenIn, Steppable, Stepped, GoalTestable, IsMet};
-ghost use Rattle.layers.specs.Storing.{NotesMoves, StoresLayer};
-ghost use Rattle.layers.specs.Building.{Workable, WorkedOut, Growable, Grown, builtOf};
+ghost use Rattle.layers.specs.Stepping.{Takeable, TakenIn, MovesReady, MovesUsed, GoalTestable, IsMet};
+ghost use Rattle.layers.specs.Step.{Steppable, Stepped};
+ghost use Rattle.layers.specs.Storing.{NotesMoves};
+ghost use Rattle.layers.specs.Building.{Growable, Grown, builtOf};
 ghost use Rattle.layers.specs.Starting.{Buildable, Builds};
 ghost use Rattle.layers.specs.Comparing.{sameTruth, notAbove, withinLimit, withinAt};
 use block::ItemAt;
@@ -29,11 +32,19 @@ pub enum Built {
     Stopped { number: u64, place: u64 },
 }
 
-// What the next layer is: equal to the last one, with a finite value above the limit, or new.
+// What the next layer is: equal to the last one, with a finite value above the limit, without room in the memory, or new.
 enum NextLayer {
     Same,
     TooLarge,
+    TooShort,
     New,
+}
+
+// A normal table's counts.
+struct Sizes {
+    props: usize,
+    vars: usize,
+    moves: usize,
 }
 
 // What stands before any layer: the counts of an accepted normal table with an accepted state, or the refusal.
@@ -84,14 +95,14 @@ fn note(entries: &mut [i64], marked: &[bool], n: usize, t: u64)
     }
 }
 
-// "The next layer is written into the memory behind the last one": the values of a layer into the part that starts there.
-fn store(row: &[i64], behind: &mut [i64], vars: usize)
-    requires { ⌜ (vars ≤ length (now row)) × (vars ≤ length (now behind)) ⌝ }
-    ensures { λ r. ⌜ Filled (rowAt (now (row .entry))) vars (now (behind .entry)) (now (behind .exit)) ⌝ }
+// The values of a layer, from one row into another.
+fn copy_row(row: &[i64], into: &mut [i64], vars: usize)
+    requires { ⌜ (vars ≤ length (now row)) × (vars ≤ length (now into)) ⌝ }
+    ensures { λ r. ⌜ Filled (rowAt (now (row .entry))) vars (now (into .entry)) (now (into .exit)) ⌝ }
 {
     let mut v = 0;
     while v < vars {
-        behind[v] = row[v];
+        into[v] = row[v];
         v += 1;
     }
 }
@@ -266,7 +277,7 @@ fn take_in(
 
 // "from all moves whose conditions hold in layer t": the next layer, begun as this one, and the moves that the step used. `used` comes
 // with those that the step before used.
-fn step(
+fn use_moves(
     table: &[u8],
     marks: &[usize],
     moves: usize,
@@ -276,14 +287,12 @@ fn step(
     next: &mut [i64],
     used: &mut [bool],
 )
-    requires { ⌜ Steppable (now table) (now marks) moves (now has) (now row) (now flags) (now next) (now used) ⌝ }
-    ensures { λ r. ⌜ Stepped (now (table .entry)) (now (marks .entry)) moves (now (has .entry)) (now (row .entry)) (now (flags .entry)) (now (next .entry)) (now (used .entry)) (now (flags .exit)) (now (next .exit)) (now (used .exit)) ⌝ }
+    requires { ⌜ MovesReady (now table) (now marks) moves (now has) (now row) (now flags) (now next) (now used) ⌝ }
+    ensures { λ r. ⌜ MovesUsed (now (table .entry)) (now (marks .entry)) moves (now (has .entry)) (now (row .entry)) (now (flags .entry)) (now (next .entry)) (now (used .entry)) (now (flags .exit)) (now (next .exit)) (now (used .exit)) ⌝ }
 {
     let mut b = 0;
     while b < moves {
-        let from = marks[b];
-        let to = marks[b + 1];
-        let part = &table[from..to];
+        let part = reader::part(table, marks, b);
         let before = used[b];
         used[b] = take_in(part, before, has, row, flags, next);
         b += 1;
@@ -295,10 +304,7 @@ fn goal_met(table: &[u8], marks: &[usize], moves: usize, has: &[bool], row: &[i6
     requires { ⌜ GoalTestable (now table) (now marks) moves (now has) (now row) ⌝ }
     ensures { λ r. ⌜ IsMet (now (table .entry)) (now (marks .entry)) moves (now (has .entry)) (now (row .entry)) r ⌝ }
 {
-    let from = marks[moves];
-    let to = marks[moves + 1];
-    let part = &table[from..to];
-    block::usable(part, has, row)
+    block::usable(reader::part(table, marks, moves), has, row)
 }
 
 // "A next layer equal to layer t"
@@ -327,47 +333,34 @@ fn note_moves(layers: &mut [i64], used: &[bool], props: usize, moves: usize, t: 
     note(&mut layers[props..], used, moves, t);
 }
 
-// Layer `t`: the entries of its propositions, and its values behind the last layer, from `at` on.
-fn store_layer(
-    layers: &mut [i64],
-    has: &[bool],
-    row: &[i64],
-    props: usize,
-    vars: usize,
-    at: usize,
-    t: u64,
-)
-    requires { ⌜ (props ≤ length (now layers)) × (at + vars ≤ length (now layers)) × (props ≤ length (now has)) × (vars ≤ length (now row)) × (t < 2 ^ 63) ⌝ }
-    ensures { λ r. ⌜ StoresLayer props vars at t (now (has .entry)) (now (row .entry)) (now (layers .entry)) (now (layers .exit)) ⌝ }
-{
-    note(layers, has, props, t);
-    store(row, &mut layers[at..], vars);
-}
-
-// Works out the next layer by value, begun as this one, so that nothing is stored of a layer that is equal or refused.
-fn work_out(
+// "The next layer is written into the memory behind the last one": reads the last layer and writes the part of the memory that starts
+// at the next one. That layer is worked out beside the memory, so that an equal one, 15 and 14 leave the part as it is.
+fn step(
     table: &[u8],
     marks: &[usize],
-    props: usize,
-    vars: usize,
-    moves: usize,
-    has: &[bool],
-    row: &[i64],
-    flags: &mut [bool],
-    next: &mut [i64],
-    used: &mut [bool],
+    n: Sizes,
+    has: &[bool; 120],
+    row: &[i64; 32],
+    flags: &mut [bool; 120],
+    used: &mut [bool; 64],
+    behind: &mut [i64],
 ) -> NextLayer
-    requires { ⌜ Workable (now table) (now marks) props vars moves (now has) (now row) (now flags) (now next) (now used) ⌝ }
-    ensures { λ r. ⌜ WorkedOut (now (table .entry)) (now (marks .entry)) props vars moves (now (has .entry)) (now (row .entry)) (now (flags .entry)) (now (next .entry)) (now (used .entry)) (now (flags .exit)) (now (next .exit)) (now (used .exit)) r ⌝ }
+    requires { ⌜ Steppable (now table) (now marks) (n .props) (n .vars) (n .moves) (now has) (now row) (now flags) (now used) ⌝ }
+    ensures { λ r. ⌜ Stepped (now (table .entry)) (now (marks .entry)) (n .props) (n .vars) (n .moves) (now (has .entry)) (now (row .entry)) (now (flags .entry)) (now (used .entry)) (now (behind .entry)) (now (flags .exit)) (now (used .exit)) (now (behind .exit)) r ⌝ }
 {
-    step(table, marks, moves, has, row, flags, next, used);
-    if settled(has, flags, row, next, props, vars) {
+    let mut next = *row;
+    use_moves(table, marks, n.moves, has, row, flags, &mut next, used);
+    if settled(has, flags, row, &next, n.props, n.vars) {
         return NextLayer::Same;
     }
-    if all_within(next, vars) {
-        return NextLayer::New;
+    if !all_within(&next, n.vars) {
+        return NextLayer::TooLarge;
     }
-    NextLayer::TooLarge
+    if behind.len() < n.vars {
+        return NextLayer::TooShort;
+    }
+    copy_row(&next, behind, n.vars);
+    NextLayer::New
 }
 
 // Builds layers from layer 0, which stands in the memory and in the two arrays. "Reported layers: the number of the last stored
@@ -375,62 +368,38 @@ fn work_out(
 fn grow(
     table: &[u8],
     marks: &[usize],
-    props: usize,
-    vars: usize,
-    moves: usize,
-    first_has: [bool; 120],
-    first_row: [i64; 32],
+    n: Sizes,
+    mut has: [bool; 120],
+    mut row: [i64; 32],
     layers: &mut [i64],
 ) -> Built
-    requires { ⌜ Growable (now table) (now marks) props vars moves «first_has» «first_row» (now layers) ⌝ }
-    ensures { λ r. ⌜ Grown (now (table .entry)) (now (marks .entry)) props vars moves «first_has» «first_row» (now (layers .entry)) (now (layers .exit)) r ⌝ }
+    requires { ⌜ Growable (now table) (now marks) (n .props) (n .vars) (n .moves) «has» «row» (now layers) ⌝ }
+    ensures { λ r. ⌜ Grown (now (table .entry)) (now (marks .entry)) (n .props) (n .vars) (n .moves) «has» «row» (now (layers .entry)) (now (layers .exit)) r ⌝ }
 {
-    let mut has = first_has;
-    let mut row = first_row;
     let mut used = [false; 64];
-    let mut end = props + moves + vars;
+    let mut end = n.props + n.moves + n.vars;
     let mut t: u64 = 0;
     loop {
-        if goal_met(table, marks, moves, &has, &row) {
+        if goal_met(table, marks, n.moves, &has, &row) {
             return Built::Reached { layer: t };
         }
         let mut flags = has;
-        let mut next = row;
-        match work_out(
-            table,
-            marks,
-            props,
-            vars,
-            moves,
-            &has,
-            &row,
-            &mut flags,
-            &mut next,
-            &mut used,
-        ) {
+        let place = t + 1;
+        let behind = &mut layers[end..];
+        match step(table, marks, n, &has, &row, &mut flags, &mut used, behind) {
             NextLayer::Same => {
-                note_moves(layers, &used, props, moves, t);
+                note_moves(layers, &used, n.props, n.moves, t);
                 return Built::Exhausted { layers: t };
             }
-            NextLayer::TooLarge => {
-                return Built::Stopped {
-                    number: 15,
-                    place: t + 1,
-                };
-            }
+            NextLayer::TooLarge => return Built::Stopped { number: 15, place },
+            NextLayer::TooShort => return Built::Stopped { number: 14, place },
             NextLayer::New => {
-                if layers.len() - end < vars {
-                    return Built::Stopped {
-                        number: 14,
-                        place: t + 1,
-                    };
-                }
-                note_moves(layers, &used, props, moves, t);
-                store_layer(layers, &flags, &next, props, vars, end, t + 1);
+                note_moves(layers, &used, n.props, n.moves, t);
+                note(layers, &flags, n.props, place);
                 has = flags;
-                row = next;
-                end += vars;
-                t += 1;
+                copy_row(&layers[end..], &mut row, n.vars);
+                end += n.vars;
+                t = place;
             }
         }
     }
@@ -460,9 +429,11 @@ pub fn build(
     let mut row = [0; 32];
     state::load_truths(state, props, &mut has);
     state::load_signed(state, props, vars / 2, &mut row);
+    copy_row(&row, &mut layers[front..], vars);
     clear(layers, front);
-    store_layer(layers, &has, &row, props, vars, front, 0);
-    grow(table, marks, props, vars, moves, has, row, layers)
+    note(layers, &has, props, 0);
+    let n = Sizes { props, vars, moves };
+    grow(table, marks, n, has, row, layers)
 }
 
 // The answer of decide.
@@ -479,7 +450,8 @@ fn answer(built: Built) -> DecideAnswer
     }
 }
 
-// The checks before any layer: the table's, then the state's. If both pass, `marks` holds the offsets of the table's blocks.
+// The checks before any layer: the table's, then the state's. If both pass, `marks` holds the offsets of the table's blocks;
+// after a refusal nothing is said of `marks`.
 pub fn prepare(table: &[u8], state: &[u8], marks: &mut [usize; 66]) -> Prepared
     ensures { λ r. ⌜ IsPrepared (now (table .entry)) (now (state .entry)) (now (marks .exit)) r ⌝ }
 {
@@ -505,9 +477,9 @@ pub fn prepare(table: &[u8], state: &[u8], marks: &mut [usize; 66]) -> Prepared
     }
 }
 
-// "Decide answers layer or "no plan" with the reported layers".
+// "Decide answers layer or "no plan" with the reported layers"; these are at most (A + N + 1) × (N + 1).
 pub fn decide(table: &[u8], state: &[u8], layers: &mut [i64]) -> DecideAnswer
-    ensures { λ r. ⌜ (r ≡ decideAnswer paper (now (table .entry)) (now (state .entry)) (now (layers .entry))) × (now (layers .exit) ≡ decideMemory paper (now (table .entry)) (now (state .entry)) (now (layers .entry))) ⌝ }
+    ensures { λ r. ⌜ (r ≡ decideAnswer paper (now (table .entry)) (now (state .entry)) (now (layers .entry))) × (now (layers .exit) ≡ decideMemory paper (now (table .entry)) (now (state .entry)) (now (layers .entry))) × LayersWithin (now (table .entry)) (decideLayers r) ⌝ }
 {
     let mut marks = [0; 66];
     match prepare(table, state, &mut marks) {

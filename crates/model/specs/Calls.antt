@@ -1,14 +1,14 @@
 -- The answers of the calls, with what each lent memory holds afterwards, as functions of what it held before. For any bytes
 -- there is exactly one answer. Assumes nothing.
-use Prim.Native.Nat.{ℕ, suc, _+_, _/_}
-use mathlib.Core.Bool.{true, false}
+use Prim.Native.Nat.{ℕ, zero, suc, _+_, _/_}
+use mathlib.Core.Bool.{true, false, _&&_}
 use mathlib.Core.List.{List, [], _∷_, _++_}
-use mathlib.Core.Option.{Option, none, some}
-use lib.Dec.{ltb, leb}
+use mathlib.Core.Option.{Option, none, some, Option·map}
+use lib.Dec.{eqb, ltb, leb}
 use lib.IntN.{ℤ}
-use lib.ListN.{length, getD}
+use lib.ListN.{length, getD, take, drop}
 use lib.Seq.{slice}
-use Rattle.integer.specs.BigEndian.{bytes}
+use Rattle.integer.specs.BigEndian.{bytes, unsigned}
 use Rattle.model.specs.declared.Refusal.{Refusal}
 use Rattle.model.specs.declared.ReadAnswer.{ReadAnswer}
 use Rattle.model.specs.declared.ReadAnswer.the-variants as read
@@ -49,6 +49,11 @@ partOf t b (accepted k) =
     elim (leb b (k .header .moves)) [ true ↦ slice (getD (k .marks) b 0) (getD (k .marks) (suc b) 0) t | false ↦ [] ]
 partOf t b (refused r) = []
 
+-- "as a part of the caller's table": the offset at which the part starts; that of a refusal starts at 0
+unfoldable pub startOf : ℕ → Verdict → ℕ
+startOf b (accepted k) = elim (leb b (k .header .moves)) [ true ↦ getD (k .marks) b 0 | false ↦ 0 ]
+startOf b (refused r) = 0
+
 -- "step, reader | 10 | no such move or block | 0"
 unfoldable pub noBlock : ℕ → Verdict → Option Refusal
 noBlock b (accepted k) = elim (leb b (k .header .moves)) [ true ↦ none | false ↦ some (record { number = 10; place = 0 }) ]
@@ -56,6 +61,9 @@ noBlock b (refused r) = some r
 
 unfoldable pub blockPart : Limits → List ℕ → ℕ → List ℕ
 blockPart L t b = partOf t b (reading L both t)
+
+unfoldable pub blockStart : Limits → List ℕ → ℕ → ℕ
+blockStart L t b = startOf b (reading L both t)
 
 unfoldable pub blockRefusal : Limits → List ℕ → ℕ → Option Refusal
 blockRefusal L t b = noBlock b (reading L both t)
@@ -192,6 +200,16 @@ unfoldable pub recordBytes : List Record → List ℕ
 recordBytes [] = []
 recordBytes (r ∷ rs) = 0x52 ∷ r .move ∷ bytes 8 (r .count) ++ recordBytes rs
 
+-- "Record: 52, move (1 byte), count (8 bytes)", read back: the moves and counts of the first n records in the bytes; none where
+-- the bytes end before them, or where another byte stands for 52
+unfoldable pub recordsRead : ℕ → List ℕ → Option (List (ℕ × ℕ))
+recordsRead zero bs = some []
+recordsRead (suc n) bs =
+    elim (leb 10 (length bs) && eqb (getD bs 0 0) 0x52) [
+      | true ↦ Option·map (λ rs. (getD bs 1 0, unsigned (take 8 (drop 2 bs))) ∷ rs) (recordsRead n (drop 10 bs))
+      | false ↦ none
+    ]
+
 -- the records of an answered call: "No plan" has none
 unfoldable pub planRecords : Task → State → Built → List Record
 planRecords k s (answered (reached m)) = records k s m
@@ -228,3 +246,23 @@ planOutOf L size (unready r) out = out
 
 unfoldable pub planOut : Limits → List ℕ → List ℕ → List ℤ → List ℕ → List ℕ
 planOut L t bs mem out = planOutOf L (length mem) (prepared L t bs) out
+
+-- ---- campaign: normalise, decide and plan in one call
+
+-- Demand 3 is "one claim, from the written table and the state to both answers and the plan's list": decide and plan run on
+-- exactly the bytes that normalise writes, and turn back where it does.
+unfoldable pub onNormal : {A : Type 0} → Output → (List ℕ → A) → (Refusal → A) → A
+onNormal (writes nb) run back = run nb
+onNormal (turns r) run back = back r
+
+unfoldable pub campaignDecision : Limits → List ℕ → List ℕ → List ℕ → List ℤ → DecideAnswer
+campaignDecision L t bs spare mem = onNormal (normalised L t (length spare)) (λ nb. decideAnswer L nb bs mem) (λ r. decide.Refused r)
+
+unfoldable pub campaignPlan : Limits → List ℕ → List ℕ → List ℕ → List ℤ → List ℕ → PlanAnswer
+campaignPlan L t bs spare mem out = onNormal (normalised L t (length spare)) (λ nb. planAnswer L nb bs mem out) (λ r. plan.Refused r)
+
+unfoldable pub campaignMemory : Limits → List ℕ → List ℕ → List ℕ → List ℤ → List ℤ
+campaignMemory L t bs spare mem = onNormal (normalised L t (length spare)) (λ nb. planMemory L nb bs mem) (λ r. mem)
+
+unfoldable pub campaignOut : Limits → List ℕ → List ℕ → List ℕ → List ℤ → List ℕ → List ℕ
+campaignOut L t bs spare mem out = onNormal (normalised L t (length spare)) (λ nb. planOut L nb bs mem out) (λ r. out)

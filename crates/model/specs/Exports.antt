@@ -1,8 +1,10 @@
 -- The answers as one 64-bit number, for hosts in C: bits 32 to 63 the refusal's number, 0 if accepted; bits 0 to 31 the
 -- place, or the result. Assumes nothing.
-use Prim.Native.Nat.{ℕ, _+_, _*_, _^_}
+use Prim.Native.Nat.{ℕ, _+_, _-_, _*_, _^_, _/_, _%_}
+use mathlib.Core.Bool.{true, false}
 use mathlib.Core.List.{List}
 use mathlib.Core.Option.{Option, none, some}
+use lib.Dec.{eqb, leb}
 use lib.ListN.{length, take}
 use Rattle.model.specs.declared.Refusal.{Refusal}
 use Rattle.model.specs.declared.ReadAnswer.{ReadAnswer}
@@ -51,9 +53,45 @@ planFirstMoves (plan.NoPlan layers records moves) old = moves
 planFirstMoves (plan.Refused r) old = old
 
 -- the block reader's part: its length, and as much of it as fits copied to an output
-unfoldable pub blockCode : List ℕ → Option Refusal → ℕ
-blockCode part none = length part
-blockCode part (some r) = refusalCode r
+unfoldable pub blockAnswer : List ℕ → Option Refusal → WriteAnswer
+blockAnswer part none = write.Written (length part)
+blockAnswer part (some r) = write.Refused r
 
 unfoldable pub blockCopy : List ℕ → List ℕ → List ℕ
 blockCopy part out = overwrite (take (length out) part) out
+
+-- ---- a code taken apart
+
+-- bits 32 to 63, and bits 0 to 31
+unfoldable pub codeNumber : ℕ → ℕ
+codeNumber c = c / 2 ^ 32
+
+unfoldable pub codePlace : ℕ → ℕ
+codePlace c = c % 2 ^ 32
+
+-- a refusal has a number above 0
+unfoldable pub apart : {A : Type 0} → (ℕ → A) → (Refusal → A) → ℕ → A
+apart result back c =
+    elim (eqb (codeNumber c) 0) [
+      | true ↦ result (codePlace c)
+      | false ↦ back (record { number = codeNumber c; place = codePlace c })
+    ]
+
+unfoldable pub readApart : ℕ → ReadAnswer
+readApart c =
+    apart (λ n. read.Head (n / 2 ^ 24) (n / 2 ^ 16 % 2 ^ 8) (n / 2 ^ 8 % 2 ^ 8) (n % 2 ^ 8)) (λ r. read.Refused r) c
+
+unfoldable pub writeApart : ℕ → WriteAnswer
+writeApart c = apart (λ n. write.Written n) (λ r. write.Refused r) c
+
+-- bit 31 tells "no plan" from an answer layer
+unfoldable pub decideApart : ℕ → DecideAnswer
+decideApart c =
+    apart (λ n. elim (leb (2 ^ 31) n) [ true ↦ decide.NoPlan (n - 2 ^ 31) | false ↦ decide.Plan n n ]) (λ r. decide.Refused r) c
+
+-- with plan's two further numbers
+unfoldable pub planApart : ℕ → ℕ → ℕ → PlanAnswer
+planApart c records moves =
+    apart
+    (λ n. elim (leb (2 ^ 31) n) [ true ↦ plan.NoPlan (n - 2 ^ 31) records moves | false ↦ plan.Plan n n records moves ])
+    (λ r. plan.Refused r) c

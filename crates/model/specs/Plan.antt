@@ -1,7 +1,7 @@
 -- The plan: wants, the moves taken for them, counts and records (document 01, "Plan").
 -- Assumes nothing.
 use Prim.Native.Nat.{ℕ, zero, suc, _+_, _^_, max}
-use mathlib.Core.Bool.{Bool, true, false, cond, _&&_, _||_}
+use mathlib.Core.Bool.{Bool, true, false, cond, not, _&&_, _||_}
 use mathlib.Core.List.{List, [], _∷_, _++_}
 use mathlib.Core.Option.{Option, none, some}
 use lib.Dec.{eqb}
@@ -134,33 +134,36 @@ unfoldable pub takeAchiever : Task → Layer → State → Descent → ℕ → �
 takeAchiever k l s d v z none = d
 takeAchiever k l s d v z (some b) = takeEffect k l s d v z b (effectOn v (moveAt k b))
 
-unfoldable pub carryProp : Descent → ℕ → Descent
-carryProp d p = record { wants = wantProp (d .wants) p; count = d .count }
+-- "At layer t ≥ 1 what layer t−1 already has is carried down."
+unfoldable pub carriedTarget : Value → Target → Target
+carriedTarget x free = free
+carriedTarget x (least z) = cond (reaches x z) (least z) free
 
-unfoldable pub carryValue : Descent → ℕ → ℤ → Descent
-carryValue d v z = record { wants = wantValue (d .wants) v z; count = d .count }
+unfoldable pub carried : Layer → Wants → Wants
+carried l w =
+    record { props = λ p. w .props p && l .has p; target = λ v. carriedTarget (l .val v) (w .target v) }
 
--- "At layer t ≥ 1 what layer t−1 already has is carried down. For any other, try the moves usable in t−1 in rising order"
-unfoldable pub descendProp : Task → Layer → State → Wants → ℕ → Descent → Descent
-descendProp k l s w p d =
-    elim (w .props p) [
-      | true ↦ elim (l .has p) [ true ↦ carryProp d p | false ↦ takeAdder k l s d (adder k l p) ]
-      | false ↦ d
-    ]
+abbrev pub carriedDown : Layer → Wants → Descent
+carriedDown l w = record { wants = carried l w; count = λ b. 0 }
 
-unfoldable pub descendValue : Task → Layer → State → Wants → ℕ → Descent → Descent
-descendValue k l s w v d =
-    elim (w .target v) [
-      | free ↦ d
-      | least z ↦
-          elim (reaches (l .val v) z) [ true ↦ carryValue d v z | false ↦ takeAchiever k l s d v z (achiever k l v z) ]
-    ]
+-- "For any other, try the moves usable in t−1 in rising order"
+unfoldable pub takeProp : Task → Layer → State → Wants → ℕ → Descent → Descent
+takeProp k l s w p d =
+    elim (w .props p && not (l .has p)) [ true ↦ takeAdder k l s d (adder k l p) | false ↦ d ]
 
--- from the wants of layer t to layer l = t−1: the propositions, then the variables
+unfoldable pub takeTarget : Task → Layer → State → ℕ → Target → Descent → Descent
+takeTarget k l s v free d = d
+takeTarget k l s v (least z) d =
+    elim (reaches (l .val v) z) [ true ↦ d | false ↦ takeAchiever k l s d v z (achiever k l v z) ]
+
+unfoldable pub takeValue : Task → Layer → State → Wants → ℕ → Descent → Descent
+takeValue k l s w v d = takeTarget k l s v (w .target v) d
+
+-- from the wants of layer t to layer l = t−1: what is carried, then the propositions, then the variables
 unfoldable pub descend : Task → Layer → State → Wants → Descent
 descend k l s w =
-    foldBelow (descendValue k l s w) (k .vars)
-    (foldBelow (descendProp k l s w) (k .props) (record { wants = noWants; count = λ b. 0 }))
+    foldBelow (takeValue k l s w) (k .vars)
+    (foldBelow (takeProp k l s w) (k .props) (carriedDown l w))
 
 -- "Record: 52, move (1 byte), count (8 bytes)", with the layer that the move is taken in
 pub record Record : Type 0 where
@@ -192,7 +195,11 @@ unfoldable pub firstMoves : List Record → ℕ
 firstMoves [] = 0
 firstMoves (r ∷ rs) = cond (eqb (r .layer) 0) (2 ^ (r .move)) 0 + firstMoves rs
 
+-- what the bytes of a record say
+abbrev pub moveAndCount : Record → ℕ × ℕ
+moveAndCount r = (r .move, r .count)
+
 -- "A plan's list is its records in order, each move written as many times in a row as its count."
-unfoldable pub planList : List Record → List ℕ
+unfoldable pub planList : List (ℕ × ℕ) → List ℕ
 planList [] = []
-planList (r ∷ rs) = replicate (r .count) (r .move) ++ planList rs
+planList ((move, count) ∷ rs) = replicate count move ++ planList rs

@@ -1,6 +1,6 @@
 -- Theorems about the definitions, in reading order: what an accepted table gives; the trial campaigns; laws of tests and
 -- searches; order and relaxation; circles and the bound on layers; the normal form; plans; reading and printing; layer memory; sizes;
--- demand 3.
+-- demand 2 for the normal form; demand 3; codes.
 pub mod WellFormed
 pub mod Campaigns
 pub mod Computing
@@ -65,8 +65,12 @@ pub mod TargetSizes
 pub mod CountSizes
 pub mod DescentSizes
 pub mod PlanSizes
+pub mod ReadBack
 pub mod Rebuilding
+pub mod Demand2
 pub mod Demand3
 pub mod EndToEnd
+pub mod OneCall
 pub mod Instance
 pub mod AnswerSizes
+pub mod Codes

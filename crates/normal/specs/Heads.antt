@@ -1,6 +1,5 @@
 -- The answer of normalising, from what reading the table answers. Assumes nothing.
 use Prim.Native.Nat.{ℕ}
-use native.Mathlib.Omega.{arith}
 use mathlib.Core.Path.{_≡_, sym, ap, _∙_}
 use mathlib.Core.List.{List}
 use lib.ListN.{length}
@@ -24,7 +23,6 @@ module _ {t marks : List ℕ} {props vars moves : ℕ} (h : HeadRead written t m
   head-source =
       record {
         outline = rw task-is (h .outline);
-        long = omega (arith, h .outline .long, h .count);
         count = rw task-is (h .count);
       }
 

@@ -14,6 +14,7 @@ use Rattle.model.specs.NormalForm.{normalBlock, normalTask}
 use Rattle.model.specs.Calls.{normalBytes}
 use Rattle.model.specs.Theorems.NormalPrint.{normal-fits}
 use Rattle.table.specs.Outlines.{partAt, Outline}
+use Rattle.reader.specs.Parts.{PartIn, outline-part}
 use Rattle.block.specs.Parts.{move-left, goal-left}
 use Rattle.normal.specs.Printing.{Put, put-join, put-same, Printing, PutTo, printing-start, printing-rest, printing-step}
 use Rattle.normal.specs.Blocks.{Remaining, blockPrint}
@@ -29,7 +30,6 @@ readTask t = taskIn (reading paper (only written) t)
 -- an accepted written table, with the offsets of its blocks
 pub record Source (t marks : List ℕ) (moves : ℕ) : Type 0 where
   pub outline : Outline written t marks (readTask t)
-  pub long : moves + 2 ≤ length marks
   pub count : moves ≡ length (readTask t .moves)
 
 -- its head
@@ -50,32 +50,31 @@ module _ {t marks : List ℕ} {moves : ℕ} (s : Source t marks moves) where
   unfolding paper
   few-moves = omega (arith, s .count, s .outline .ok .moves)
 
-  pub move-remaining : (b : ℕ) → b < moves → Remaining (partAt t marks b) 1 (getD (readTask t .moves) b [])
-  move-remaining b h =
-      record {
+  pub move-remaining : (b : ℕ) → b < moves → {part : List ℕ} → part ≡ partAt t marks b → Remaining part 1 (getD (readTask t .moves) b [])
+  move-remaining b h e =
+      rw e
+      (record {
         props = readTask t .props;
         vars = readTask t .vars;
         few-props = few-props;
         few-vars = few-vars;
         left = let i : b < length (readTask t .moves) = omega (arith, s .count) in move-left (s .outline .ok) b i (s .outline .move b i);
-      }
+      })
 
-  pub goal-remaining : Remaining (partAt t marks moves) 1 (readTask t .goal)
-  goal-remaining =
-      record {
+  pub goal-remaining : {part : List ℕ} → part ≡ partAt t marks moves → Remaining part 1 (readTask t .goal)
+  goal-remaining e =
+      rw e
+      (record {
         props = readTask t .props;
         vars = readTask t .vars;
         few-props = few-props;
         few-vars = few-vars;
         left = rw (s .count) (goal-left (s .outline .ok) (s .outline .goal));
-      }
+      })
 
   -- the offsets of a block
-  pub block-ordered : (b : ℕ) → b ≤ moves → getD marks b 0 ≤ getD marks (b + 1) 0
-  block-ordered b h = s .outline .ordered b (omega (arith, s .count))
-
-  pub block-within : (b : ℕ) → b ≤ moves → getD marks (b + 1) 0 ≤ length t
-  block-within b h = s .outline .within b (omega (arith, s .count))
+  pub block-in : (b : ℕ) → b ≤ moves → PartIn t marks b
+  block-in b h = outline-part (s .outline) b (omega (arith, s .count))
 
   -- "normal 64,000 bytes at most"
   pub source-small : length (normalBytes (readTask t)) ≤ 64_000

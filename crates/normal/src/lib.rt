@@ -362,9 +362,7 @@ fn moves_length(table: &[u8], marks: &[usize], moves: usize) -> usize
     let mut b = 0;
     let mut size = 0;
     while b < moves {
-        let from = marks[b];
-        let end = marks[b + 1];
-        size += 1 + items_length(&table[from..end]);
+        size += 1 + items_length(reader::part(table, marks, b));
         b += 1;
     }
     size
@@ -378,9 +376,7 @@ fn put_moves(table: &[u8], marks: &[usize], moves: usize, out: &mut [u8], start:
     let mut b = 0;
     let mut to = start;
     while b < moves {
-        let from = marks[b];
-        let end = marks[b + 1];
-        to = put_block(&table[from..end], 0x41, out, to);
+        to = put_block(reader::part(table, marks, b), 0x41, out, to);
         b += 1;
     }
     to
@@ -392,9 +388,7 @@ fn table_length(table: &[u8], marks: &[usize], moves: usize) -> usize
     ensures { λ r. ⌜ r ≡ length (normalBytes (readTask (now (table .entry)))) ⌝ }
 {
     let size = moves_length(table, marks, moves);
-    let from = marks[moves];
-    let end = marks[moves + 1];
-    size + items_length(&table[from..end]) + 6
+    size + items_length(reader::part(table, marks, moves)) + 6
 }
 
 // Stores the head of the normal form: "4E P N A".
@@ -413,9 +407,7 @@ fn put_table(table: &[u8], marks: &[usize], props: usize, vars: usize, moves: us
 {
     put_head(out, props, vars, moves);
     let goal = put_moves(table, marks, moves, out, 4);
-    let from = marks[moves];
-    let end = marks[moves + 1];
-    let to = put_block(&table[from..end], 0x47, out, goal);
+    let to = put_block(reader::part(table, marks, moves), 0x47, out, goal);
     put_byte(out, to, 0x45);
 }
 

@@ -1,2 +1,2 @@
-pub mod Standing
-pub mod Blocks
+pub mod Parts
+pub mod Handed

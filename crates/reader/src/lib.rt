@@ -1,148 +1,76 @@
-// "A reader stands on a table at one command": a table and the offset of a command in it. The functions on the struct are thin:
-// each takes it apart and calls a function on the table and the offset. `block_at` serves every other caller, with a plain table.
+// "A reader stands on a table at one command": a table and the offset of a command in it. It hands back a part of its table,
+// "neither copy nor offsets". The functions on the struct are thin; `part` and `block_at` serve every other caller, with a plain
+// table.
 ghost use mathlib.Core.Path.{_≡_};
+ghost use Prim.Native.Nat.{_≤_};
+ghost use lib.ListN.{length, getD};
 ghost use Rattle.model.specs.Limits.{paper};
-ghost use Rattle.model.specs.Command.{commandOf, width};
-ghost use Rattle.model.specs.Calls.{blockPart, blockRefusal, refusalNumber, refusalPlace};
-ghost use Rattle.reader.specs.Standing.{bounds, standingAt, nextAt, blockEnd, blockFrom};
+ghost use Rattle.model.specs.Calls.{blockPart, blockStart, blockRefusal, refusalNumber, refusalPlace};
+ghost use Rattle.table.specs.Outlines.{partAt};
+ghost use Rattle.reader.specs.Parts.{LiesAt, IsCut, PartIn};
 
-pub struct Reader<'a> {
-    pub table: &'a [u8],
-    pub at: usize,
+struct Reader<'a> {
+    table: &'a [u8],
+    at: usize,
 }
 
-// What a reader stands on: a command, by its byte, or the table's end.
-pub enum Standing {
-    Command(u8),
-    End,
-}
-
-// A command's bytes with its operands.
-fn width_of(code: u8) -> usize
-    ensures { λ r. ⌜ r ≡ width (commandOf code) ⌝ }
+// The bytes between two offsets, a part of the table.
+fn cut<'a>(table: &'a [u8], from: usize, to: usize) -> &'a [u8]
+    requires { ⌜ (from ≤ to) × (to ≤ length (now table)) ⌝ }
+    ensures { λ r. ⌜ IsCut (table .entry) from to r ⌝ }
 {
-    match code {
-        0x54 => 4,
-        0x4E => 4,
-        0x50 => 2,
-        0x2B => 2,
-        0x2D => 2,
-        0x57 => 4,
-        0x43 => 6,
-        0x46 => 7,
-        _ => 1,
-    }
-}
-
-// Is it a 41, 47 or 45 command?
-fn bounds(code: u8) -> bool
-    ensures { λ r. ⌜ r ≡ bounds (commandOf code) ⌝ }
-{
-    match code {
-        0x41 => true,
-        0x47 => true,
-        0x45 => true,
-        _ => false,
-    }
-}
-
-// What stands at an offset.
-fn standing_at(table: &[u8], at: usize) -> Standing
-    ensures { λ r. ⌜ r ≡ standingAt (now (table .entry)) at ⌝ }
-{
-    if at < table.len() {
-        Standing::Command(table[at])
-    } else {
-        Standing::End
-    }
-}
-
-// The offset of the command behind the one at an offset; the table's end stays where it is.
-fn next_at(table: &[u8], at: usize) -> usize
-    ensures { λ r. ⌜ r ≡ nextAt (now (table .entry)) at ⌝ }
-{
-    if at < table.len() {
-        at + width_of(table[at])
-    } else {
-        at
-    }
-}
-
-// The offset of the first 41, 47 or 45 command behind the command at an offset; the table's length if there is none.
-fn block_end(table: &[u8], at: usize) -> usize
-    ensures { λ r. ⌜ r ≡ blockEnd (now (table .entry)) at ⌝ }
-{
-    let mut to = next_at(table, at);
-    while to < table.len() {
-        if bounds(table[to]) {
-            return to;
-        }
-        to = next_at(table, to);
-    }
-    table.len()
-}
-
-// The bytes from an offset up to the next 41, 47 or 45 command.
-fn block_from<'a>(table: &'a [u8], at: usize) -> &'a [u8]
-    ensures { λ r. ⌜ now r ≡ blockFrom (now (table .entry)) at ⌝ }
-{
-    if at < table.len() {
-        let to = block_end(table, at);
-        &table[at..to]
-    } else {
-        &table[0..0]
-    }
-}
-
-// A reader on a table's first command.
-pub fn start<'a>(table: &'a [u8]) -> Reader<'a>
-    ensures { λ r. ⌜ (r .table ≡ table .entry) × (r .at ≡ 0) ⌝ }
-{
-    Reader { table, at: 0 }
+    &table[from..to]
 }
 
 // A reader on the command at an offset.
-pub fn placed<'a>(table: &'a [u8], at: usize) -> Reader<'a>
+fn placed<'a>(table: &'a [u8], at: usize) -> Reader<'a>
     ensures { λ r. ⌜ (r .table ≡ table .entry) × (r .at ≡ at) ⌝ }
 {
     Reader { table, at }
 }
 
-// The command that it stands on.
-pub fn command<'a>(r: Reader<'a>) -> Standing
-    ensures { λ s. ⌜ s ≡ standingAt (now (r .entry .table)) (r .entry .at) ⌝ }
+// The bytes from the command that it stands on up to an offset, a part of its table.
+fn block<'a>(r: Reader<'a>, to: usize) -> &'a [u8]
+    requires { ⌜ (r .at ≤ to) × (to ≤ length (now (r .table))) ⌝ }
+    ensures { λ s. ⌜ IsCut (r .entry .table) (r .entry .at) to s ⌝ }
 {
-    standing_at(r.table, r.at)
-}
-
-// The reader on the next command.
-pub fn next<'a>(r: Reader<'a>) -> Reader<'a>
-    ensures { λ q. ⌜ (q .table ≡ r .entry .table) × (q .at ≡ nextAt (now (r .entry .table)) (r .entry .at)) ⌝ }
-{
-    Reader {
-        table: r.table,
-        at: next_at(r.table, r.at),
-    }
-}
-
-// The bytes from the command that it stands on up to the next 41, 47 or 45 command, a part of its table.
-pub fn block<'a>(r: Reader<'a>) -> &'a [u8]
-    ensures { λ s. ⌜ now s ≡ blockFrom (now (r .entry .table)) (r .entry .at) ⌝ }
-{
-    block_from(r.table, r.at)
+    cut(r.table, r.at, to)
 }
 
 // The same of a reader that is placed at an offset.
-pub fn part_from<'a>(table: &'a [u8], at: usize) -> &'a [u8]
-    ensures { λ s. ⌜ now s ≡ blockFrom (now (table .entry)) at ⌝ }
+fn part_from<'a>(table: &'a [u8], at: usize, to: usize) -> &'a [u8]
+    requires { ⌜ (at ≤ to) × (to ≤ length (now table)) ⌝ }
+    ensures { λ s. ⌜ IsCut (table .entry) at to s ⌝ }
 {
-    block(placed(table, at))
+    block(placed(table, at), to)
 }
 
-// "hands back the bytes of one block as a part of the caller's table": block b is move b, and block A the goal. After a refusal
-// the part is empty and `number` and `place` say why; otherwise both are 0.
+// "hands back the bytes of one block as a part of the caller's table": block `b` of an accepted table, from the offsets that
+// `table::outline` left in `marks`.
+pub fn part<'a>(table: &'a [u8], marks: &[usize], b: usize) -> &'a [u8]
+    requires { ⌜ PartIn (now table) (now marks) b ⌝ }
+    ensures { λ r. ⌜ (now r ≡ partAt (now (table .entry)) (now (marks .entry)) b) × LiesAt (table .entry) (getD (now (marks .entry)) b 0) r ⌝ }
+{
+    let from = marks[b];
+    let to = marks[b + 1];
+    part_from(table, from, to)
+}
+
+// The same, from all the offsets that `table::outline` leaves.
+fn marked<'a>(table: &'a [u8], marks: &[usize; 66], b: usize) -> &'a [u8]
+    requires { ⌜ PartIn (now table) (now marks) b ⌝ }
+    ensures { λ r. ⌜ (now r ≡ partAt (now (table .entry)) (now (marks .entry)) b) × LiesAt (table .entry) (getD (now (marks .entry)) b 0) r ⌝ }
+{
+    part(table, marks, b)
+}
+
+// The block reader: block b is move b, and block A the goal. "It makes all checks of read first; a refusal hands back an empty
+// part", and `number` and `place` say why; otherwise both are 0.
 pub fn block_at<'a>(table: &'a [u8], b: u64, number: &mut u64, place: &mut u64) -> &'a [u8]
-    ensures { λ r. ⌜ (now r ≡ blockPart paper (now (table .entry)) b) × (now (number .exit) ≡ refusalNumber (blockRefusal paper (now (table .entry)) b)) × (now (place .exit) ≡ refusalPlace (blockRefusal paper (now (table .entry)) b)) ⌝ }
+    ensures { λ r. ⌜ (now r ≡ blockPart paper (now (table .entry)) b)
+        × (now (number .exit) ≡ refusalNumber (blockRefusal paper (now (table .entry)) b))
+        × (now (place .exit) ≡ refusalPlace (blockRefusal paper (now (table .entry)) b))
+        × LiesAt (table .entry) (blockStart paper (now (table .entry)) b) r ⌝ }
 {
     let mut marks = [0; 66];
     let answer = table::outline(table, table::Wanted::Both, &mut marks);
@@ -165,8 +93,7 @@ pub fn block_at<'a>(table: &'a [u8], b: u64, number: &mut u64, place: &mut u64) 
             }
             *number = 0;
             *place = 0;
-            let i = b as usize;
-            part_from(table, marks[i])
+            marked(table, &marks, b as usize)
         }
     }
 }

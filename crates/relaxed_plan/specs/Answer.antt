@@ -29,8 +29,11 @@ use Rattle.model.specs.Theorems.WellFormed.{TaskOk}
 use Rattle.model.specs.Theorems.Building.{built-outcome}
 use Rattle.model.specs.Theorems.Memories.{Holds, size, memory-holds}
 use Rattle.model.specs.Theorems.StateSizes.{SmallState, accepted-small, normalState-small}
+use Rattle.model.specs.Theorems.Demand3.{planLayers}
+use Rattle.model.specs.Theorems.EndToEnd.{LayersWithin, plan-within}
 use Rattle.model.specs.Theorems.PlanSizes.{answered-passes, reported-most}
 use Rattle.table.specs.Outlines.{Outline}
+use Rattle.reader.specs.Parts.{outline-part}
 use Rattle.block.specs.Parts.{move-left, goal-left}
 use Rattle.layers.specs.declared.Built.{Built as BuiltAnswer}
 use Rattle.layers.specs.declared.Built.the-variants as building
@@ -48,7 +51,7 @@ pub outlined-parts : {table marks : List ℕ} {k : Task} → Outline normal tabl
 unfolding moveAt
 outlined-parts {table} {marks} {k} o =
     record {
-      inside = λ b h. record { room = omega (arith, o .long); rises = o .ordered b h; within = o .within b h };
+      inside = outline-part o;
       move = λ b h. move-left (o .ok) b h (o .move b h);
       goal = goal-left (o .ok) (o .goal);
     }
@@ -123,6 +126,10 @@ pub record Planned (t bs : List ℕ) (mem mem′ : List ℤ) (out out′ : List 
   pub answers : r ≡ planAnswer paper t bs mem out
   pub leaves : mem′ ≡ planMemory paper t bs mem
   pub writes-is : out′ ≡ planOut paper t bs mem out
+
+-- "bounded by the formula": the reported layers are within (A + N + 1) × (N + 1), with the counts of the head
+pub planned-within : {t bs : List ℕ} {mem mem′ : List ℤ} {out out′ : List ℕ} {r : PlanAnswer} → Planned t bs mem mem′ out out′ r → LayersWithin t (planLayers r)
+planned-within {t} {bs} {mem} {out = out} p = subst (λ (a : PlanAnswer). LayersWithin t (planLayers a)) (sym (p .answers)) (plan-within t bs mem out)
 
 pub planned-refused : (t bs : List ℕ) (mem : List ℤ) (out : List ℕ) {r : Refusal} → prepared paper t bs ≡ unready r → Planned t bs mem mem out out (plan.Refused r)
 unfolding planAnswer planOf planMemory decideMemory memoryOf planOut planOutOf

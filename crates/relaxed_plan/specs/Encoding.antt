@@ -1,6 +1,6 @@
 -- Wants as they stand in arrays: a flag for each proposition, a number for each variable, the least 64-bit number where there is
 -- no target. Each step of the wants is a store. Assumes nothing.
-use Prim.Native.Nat.{ℕ, _-_, _^_, _≤_, _<_}
+use Prim.Native.Nat.{ℕ, _^_, _≤_, _<_}
 use native.Mathlib.Omega.{arith}
 use mathlib.Core.Path.{_≡_, refl, ap, _∙_, subst}
 use mathlib.Core.Bool.{Bool, true, false, cond, _||_, or-true, or-false}

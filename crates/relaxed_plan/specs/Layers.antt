@@ -1,33 +1,35 @@
 -- One layer down from layer memory: what stands in the memory, the wants of the layer above, and what is taken. Assumes nothing.
-use Prim.Native.Nat.{ℕ, suc, _+_, _*_, _-_, _≤_, _<_}
+use Prim.Native.Nat.{ℕ, suc, _+_, _*_, _≤_, _<_}
 use native.Mathlib.Nat.{mul-le-mul-left, mul-suc, mul-zero}
 use native.Mathlib.Omega.{arith}
 use mathlib.Core.Path.{_≡_, refl, sym, ap, _∙_, subst}
 use mathlib.Core.Bool.{Bool, false}
 use mathlib.Core.List.{List}
 use lib.IntN.{ℤ, pos}
-use lib.ListN.{length}
+use lib.ListN.{length, getD}
 use Rattle.model.specs.Limits.{paper}
 use Rattle.model.specs.Task.{normal, Task}
 use Rattle.model.specs.Move.{State}
 use Rattle.model.specs.Layer.{layer, layerAt}
 use Rattle.model.specs.Memory.{wrong15}
-use Rattle.model.specs.Plan.{Wants, noWants, low, wantBlock, descendProp, descendValue, descend}
+use Rattle.model.specs.Plan.{Wants, noWants, low, wantBlock, carried, carriedDown, takeProp, takeValue, descend}
 use Rattle.model.specs.Lists.{foldBelow}
 use Rattle.model.specs.Theorems.WellFormed.{TaskOk}
 use Rattle.model.specs.Theorems.Memories.{Holds, size}
 use Rattle.model.specs.Theorems.StateSizes.{SmallState}
 use Rattle.model.specs.Theorems.LayerSizes.{layer-small}
 use Rattle.table.specs.Outlines.{partAt}
+use Rattle.reader.specs.Parts.{PartIn}
 use Rattle.block.specs.Parts.{rangesOf}
 use Rattle.block.specs.Items.{Left}
 use Rattle.block.specs.Sums.{Row, LayerRow}
 use Rattle.relaxed_plan.specs.declared.Targets.{Targets}
 use Rattle.relaxed_plan.specs.Encoding.{fresh, Encodes, encodes-none}
 use Rattle.relaxed_plan.specs.Blocks.{BlockWantable, BlockWanted}
-use Rattle.relaxed_plan.specs.Search.{Parts, PartIn}
+use Rattle.relaxed_plan.specs.Search.{Parts}
 use Rattle.relaxed_plan.specs.Taking.{EncodesTaken}
-use Rattle.relaxed_plan.specs.Descending.{nothing, Descendable, PropsDescendable, propsBelow, PropsDone, SmallTargets, ValuesDescendable, ValuesDone}
+use Rattle.relaxed_plan.specs.Carrying.{Carriable, Carried}
+use Rattle.relaxed_plan.specs.Descending.{Descendable, PropsTakeable, propsBelow, PropsTaken, SmallTargets, ValuesTakeable, ValuesTaken}
 use Rattle.relaxed_plan.specs.View.{Filled, heldAt, numberAt, lowAt, view-has, view-used, view-row, start-row, low-row}
 
 -- a table with its blocks' marks, and a memory that holds the layers 0 to m of its task, the answer layer
@@ -167,7 +169,7 @@ module _ {table marks : List ℕ} {layers start : List ℤ} {props vars moves t 
       (read-used : Filled false (heldAt layers props t) moves 120 used)
       (read : Filled (pos 0) (numberAt layers (props + moves + vars * t)) vars 32 row)
       (made : Filled (pos 0) (lowAt row start) vars 32 lows) where
-    abbrev pub layer-scene : Descendable table marks used row lows moves upper
+    abbrev pub layer-scene : Descendable table marks used row lows moves
     layer-scene =
         record {
           search =
@@ -187,31 +189,58 @@ module _ {table marks : List ℕ} {layers start : List ℤ} {props vars moves t 
           few = stored-moves (x .stored);
           values = stored-row (x .stored) (omega (arith, x .below)) read;
           low-values = stored-low (x .stored) (omega (arith, x .below)) read (x .start-is) made;
-          encoded = x .encoded;
         }
 
-    abbrev pub layer-props : PropsDescendable table marks has used row lows moves props upper
-    layer-props =
+    pub has-long : props ≤ length has
+    has-long = omega (arith, read-has .long, stored-props (x .stored))
+
+    pub has-of : (p : ℕ) → p < props → getD has p false ≡ layerAt (x .stored .task) (x .stored .start) t .has p
+    has-of p h = read-has .done p h ∙ view-has (x .stored .ok) (x .stored .held) (omega (arith, x .below)) p (omega (arith, x .stored .props-is))
+
+    -- the wants of layer t + 1, and layer t
+    abbrev pub layer-carriable : Carriable props vars has row upper
+    layer-carriable =
         record {
-          scene = layer-scene;
-          many = x .stored .props-is;
-          long = omega (arith, read-has .long, stored-props (x .stored));
-          has-is = λ p h. read-has .done p h ∙ view-has (x .stored .ok) (x .stored .held) (omega (arith, x .below)) p (omega (arith, x .stored .props-is));
+          wants = x .wants;
+          over = layerAt (x .stored .task) (x .stored .start) t;
+          encoded =
+              subst (λ (n : ℕ). Encodes props n upper (x .wants)) (x .stored .vars-is)
+              (subst (λ (n : ℕ). Encodes n (x .stored .task .vars) upper (x .wants)) (x .stored .props-is) (x .encoded));
+          long = has-long;
+          has-is = has-of;
+          values =
+              subst (λ (n : ℕ). LayerRow n row (layerAt (x .stored .task) (x .stored .start) t .val)) (x .stored .vars-is)
+              (stored-row (x .stored) (omega (arith, x .below)) read);
         }
 
-    module _ {taken : Targets} {counts : List ℕ} (props-done : PropsDone layer-props props taken counts) where
-      abbrev pub layer-values : ValuesDescendable table marks used row lows start moves vars upper taken counts
+    module _ {kept : Targets} (carried-is : Carried layer-carriable kept) where
+      abbrev pub layer-props : PropsTakeable table marks has used row lows moves props (upper .props) kept
+      layer-props =
+          record {
+            scene = layer-scene;
+            many = x .stored .props-is;
+            long = has-long;
+            has-is = has-of;
+            wanted-is = λ p h. x .encoded .prop p (omega (arith, x .stored .props-is));
+            kept =
+                subst (λ (n : ℕ). Encodes (x .stored .task .props) n kept (carried (layerAt (x .stored .task) (x .stored .start) t) (x .wants))) (sym (x .stored .vars-is))
+                (subst (λ (n : ℕ). Encodes n vars kept (carried (layerAt (x .stored .task) (x .stored .start) t) (x .wants))) (sym (x .stored .props-is)) (carried-is .is));
+          }
+
+    module _ {kept taken : Targets} {counts : List ℕ} (carried-is : Carried layer-carriable kept) (props-done : PropsTaken (layer-props carried-is) props taken counts) where
+      abbrev pub layer-values : ValuesTakeable table marks used row lows start moves vars (upper .target) taken counts
       layer-values =
           record {
             scene = layer-scene;
             many = x .stored .vars-is;
             start-values = subst (λ (i : ℕ). Row i start (x .stored .start .val)) (x .stored .vars-is) (x .start-is);
             small = x .small;
+            targets-are = λ v h. x .encoded .target v (omega (arith, x .stored .vars-is));
             descent = propsBelow layer-scene props;
             taken = props-done .is;
           }
 
-      pub layer-descended : {r : Targets} {more : List ℕ} → ValuesDone layer-values vars r more → LayerDescended x r more
+      pub layer-descended : {r : Targets} {more : List ℕ} → ValuesTaken layer-values vars r more → LayerDescended x r more
       unfolding descend
       layer-descended {r} {more} d =
           let k = x .stored .task in
@@ -219,8 +248,8 @@ module _ {table marks : List ℕ} {layers start : List ℤ} {props vars moves t 
           let s = x .stored .start in
           record {
             is =
-                subst (λ (n : ℕ). EncodesTaken k r more (foldBelow (descendValue k l s (x .wants)) n (foldBelow (descendProp k l s (x .wants)) (k .props) nothing)))
+                subst (λ (n : ℕ). EncodesTaken k r more (foldBelow (takeValue k l s (x .wants)) n (foldBelow (takeProp k l s (x .wants)) (k .props) (carriedDown l (x .wants)))))
                 (sym (x .stored .vars-is))
-                (subst (λ (n : ℕ). EncodesTaken k r more (foldBelow (descendValue k l s (x .wants)) vars (foldBelow (descendProp k l s (x .wants)) n nothing)))
+                (subst (λ (n : ℕ). EncodesTaken k r more (foldBelow (takeValue k l s (x .wants)) vars (foldBelow (takeProp k l s (x .wants)) n (carriedDown l (x .wants)))))
                 (sym (x .stored .props-is)) (d .is));
           }

@@ -5,8 +5,9 @@ pub mod Wanting
 pub mod Blocks
 pub mod Search
 pub mod Taking
-pub mod Descending
 pub mod View
+pub mod Carrying
+pub mod Descending
 pub mod Layers
 pub mod Records
 pub mod Passes

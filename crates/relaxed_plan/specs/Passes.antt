@@ -42,6 +42,12 @@ pub record Walked {table marks : List ℕ} {layers : List ℤ} {props vars moves
 pub record Counted {table marks : List ℕ} {layers : List ℤ} {props vars moves m : ℕ} (x : Stored table marks layers props vars moves m) (t : ℕ) (counts : List ℕ) : Type 0 where
   pub same : (u : ℕ) → layerRecords u (descentAt (x .task) (x .start) m t .count) 0 (length (x .task .moves)) ≡ layerRecords u (countAt counts) 0 moves
 
+-- the state's row and the wants of the answer layer beside
+pub record Begun (table marks : List ℕ) (layers start : List ℤ) (props vars moves m : ℕ) (w : Targets) : Type 0 where
+  pub stored : Stored table marks layers props vars moves m
+  pub row : Row (stored .task .vars) start (stored .start .val)
+  pub walked : Walked stored m w
+
 module _ {table marks : List ℕ} {layers : List ℤ} {props vars moves m : ℕ} (x : Stored table marks layers props vars moves m) {start : List ℤ} (row : Row (x .task .vars) start (x .start .val)) where
   abbrev pub walk-goal : GoalWantable table marks layers start props vars moves m
   walk-goal = record { stored = x; start-is = row }
@@ -49,6 +55,9 @@ module _ {table marks : List ℕ} {layers : List ℤ} {props vars moves m : ℕ}
   pub walk-start : {w : Targets} → GoalWanted walk-goal w → Walked x m w
   walk-start {w} g =
       record { encoded = subst (Encodes (x .task .props) (x .task .vars) w) (sym (wantsAt-answer (x .task) (x .start) m)) (g .encoded) }
+
+  abbrev pub walk-begun : {w : Targets} → GoalWanted walk-goal w → Begun table marks layers start props vars moves m w
+  walk-begun g = record { stored = x; row = row; walked = walk-start g }
 
   module _ {t : ℕ} (h : t < m) {w : Targets} (d : Walked x (suc t) w) where
     abbrev pub walk-layer : LayerDescendable table marks layers start props vars moves t w
@@ -171,49 +180,49 @@ module _ {table marks : List ℕ} {layers : List ℤ} {props vars moves m : ℕ}
 -- ---- the second pass: the records' bytes, from the last layer backwards
 
 -- an output with room for the records
-pub record Writable (table marks : List ℕ) (layers : List ℤ) (props vars moves m n : ℕ) (out : List ℕ) : Type 0 where
-  pub stored : Stored table marks layers props vars moves m
-  pub total : n ≡ length (planRecords stored)
+pub record Writable (table marks : List ℕ) (layers start : List ℤ) (props vars moves m : ℕ) (w₀ : Targets) (n : ℕ) (out : List ℕ) : Type 0 where
+  pub begun : Begun table marks layers start props vars moves m w₀
+  pub total : n ≡ length (planRecords (begun .stored))
   pub room : 10 * n ≤ length out
 
-pub record Backwards {table marks : List ℕ} {layers : List ℤ} {props vars moves m n : ℕ} {out : List ℕ} (x : Writable table marks layers props vars moves m n out) (t : ℕ) (w : Targets) (at : ℕ) (new : List ℕ) : Type 0 where
-  pub walked : Walked (x .stored) t w
+pub record Backwards {table marks : List ℕ} {layers start : List ℤ} {props vars moves m : ℕ} {w₀ : Targets} {n : ℕ} {out : List ℕ} (x : Writable table marks layers start props vars moves m w₀ n out) (t : ℕ) (w : Targets) (at : ℕ) (new : List ℕ) : Type 0 where
+  pub walked : Walked (x .begun .stored) t w
   pub later : List Record
-  pub split : planRecords (x .stored) ≡ recordsBelow (x .stored) t ++ later
-  pub here : at ≡ 10 * length (recordsBelow (x .stored) t)
+  pub split : planRecords (x .begun .stored) ≡ recordsBelow (x .begun .stored) t ++ later
+  pub here : at ≡ 10 * length (recordsBelow (x .begun .stored) t)
   pub new-is : new ≡ put out at (recordBytes later)
 
-module _ {table marks : List ℕ} {layers : List ℤ} {props vars moves m n : ℕ} {out : List ℕ} (x : Writable table marks layers props vars moves m n out) where
-  pub backwards-start : {w : Targets} → Walked (x .stored) m w → Backwards x m w (10 * n) out
+module _ {table marks : List ℕ} {layers start : List ℤ} {props vars moves m : ℕ} {w₀ : Targets} {n : ℕ} {out : List ℕ} (x : Writable table marks layers start props vars moves m w₀ n out) where
+  pub backwards-start : Backwards x m w₀ (10 * n) out
   unfolding recordBytes
-  backwards-start walked =
-      let k = x .stored .task in
-      let s = x .stored .start in
+  backwards-start =
+      let k = x .begun .stored .task in
+      let s = x .begun .stored .start in
       record {
-        walked = walked;
+        walked = x .begun .walked;
         later = [];
-        split = records-answer k s m ∙ sym (append-nil (recordsBelow (x .stored) m));
+        split = records-answer k s m ∙ sym (append-nil (recordsBelow (x .begun .stored) m));
         here = omega (arith, x .total, ap length (records-answer k s m));
         new-is = sym (put-nil out (10 * n));
       }
 
   module _ {t : ℕ} {w : Targets} {at : ℕ} {new : List ℕ} (s : Backwards x t w at new) where
-    all-length : length (planRecords (x .stored)) ≡ length (recordsBelow (x .stored) t) + length (s .later)
-    all-length = ap length (s .split) ∙ length-append (recordsBelow (x .stored) t) (s .later)
+    all-length : length (planRecords (x .begun .stored)) ≡ length (recordsBelow (x .begun .stored) t) + length (s .later)
+    all-length = ap length (s .split) ∙ length-append (recordsBelow (x .begun .stored) t) (s .later)
 
     pub backwards-length : length new ≡ length out
     backwards-length =
         ap length (s .new-is)
         ∙ length-put out at (recordBytes (s .later)) (omega (arith, s .here, all-length, x .total, x .room, length-recordBytes (s .later)))
 
-  module _ {t : ℕ} {w : Targets} {at : ℕ} {new : List ℕ} (h : t < m) (s : Backwards x (suc t) w at new) {u : Targets} {counts : List ℕ} {c : ℕ} (walked : Walked (x .stored) t u) (counted : Counted (x .stored) t counts) (is : c ≡ length (layerRecords 0 (countAt counts) 0 moves)) where
+  module _ {t : ℕ} {w : Targets} {at : ℕ} {new : List ℕ} (h : t < m) (s : Backwards x (suc t) w at new) {u : Targets} {counts : List ℕ} {c : ℕ} (walked : Walked (x .begun .stored) t u) (counted : Counted (x .begun .stored) t counts) (is : c ≡ length (layerRecords 0 (countAt counts) 0 moves)) where
     layer : List Record
     layer = layerRecords t (countAt counts) 0 moves
 
-    below-length : length (recordsBelow (x .stored) (suc t)) ≡ length (recordsBelow (x .stored) t) + c
+    below-length : length (recordsBelow (x .begun .stored) (suc t)) ≡ length (recordsBelow (x .begun .stored) t) + c
     unfolding layer
     below-length =
-        omega (arith, ap length (below-next (x .stored) h counted), length-append (recordsBelow (x .stored) t) layer, records-layer-length t (countAt counts) 0 moves, is)
+        omega (arith, ap length (below-next (x .begun .stored) h counted), length-append (recordsBelow (x .begun .stored) t) layer, records-layer-length t (countAt counts) 0 moves, is)
 
     pub back-enough : 10 * c ≤ at
     back-enough = omega (arith, s .here, below-length)
@@ -233,8 +242,8 @@ module _ {table marks : List ℕ} {layers : List ℤ} {props vars moves m n : �
           walked = walked;
           later = layer ++ s .later;
           split =
-              s .split ∙ ap (λ (rs : List Record). rs ++ s .later) (below-next (x .stored) h counted)
-              ∙ append-assoc (recordsBelow (x .stored) t) layer (s .later);
+              s .split ∙ ap (λ (rs : List Record). rs ++ s .later) (below-next (x .begun .stored) h counted)
+              ∙ append-assoc (recordsBelow (x .begun .stored) t) layer (s .later);
           here = omega (arith, s .here, below-length);
           new-is =
               e
@@ -243,7 +252,7 @@ module _ {table marks : List ℕ} {layers : List ℤ} {props vars moves m n : �
               ∙ ap (put out p) (ap (λ (l : List ℕ). l ++ cs) (sym (recordBytes-layer t (countAt counts) 0 moves)) ∙ sym (recordBytes-append layer (s .later)));
         }
 
-  pub backwards-end : (t : ℕ) {w : Targets} {at : ℕ} {new : List ℕ} → t ≤ 0 → Backwards x t w at new → new ≡ put out 0 (recordBytes (planRecords (x .stored)))
+  pub backwards-end : (t : ℕ) {w : Targets} {at : ℕ} {new : List ℕ} → t ≤ 0 → Backwards x t w at new → new ≡ put out 0 (recordBytes (planRecords (x .begun .stored)))
   unfolding recordsFrom
   backwards-end zero {w} {at} {new} h s =
       s .new-is
@@ -264,7 +273,7 @@ pub survey-down :
 survey-down {x = x} {t = t} {w = w} {counts = counts} {n = n} h s = subst (λ (i : ℕ). Surveying x i w counts n) (down t h) s
 
 pub backwards-down :
-    {table marks : List ℕ} {layers : List ℤ} {props vars moves m n : ℕ} {out : List ℕ} {x : Writable table marks layers props vars moves m n out} {t : ℕ} {w : Targets} {at : ℕ} {new : List ℕ}
+    {table marks : List ℕ} {layers start : List ℤ} {props vars moves m : ℕ} {w₀ : Targets} {n : ℕ} {out : List ℕ} {x : Writable table marks layers start props vars moves m w₀ n out} {t : ℕ} {w : Targets} {at : ℕ} {new : List ℕ}
     → 0 < t
     → Backwards x t w at new
     → Backwards x (suc (t - 1)) w at new

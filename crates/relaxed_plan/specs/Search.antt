@@ -18,6 +18,7 @@ use Rattle.model.specs.Layer.{Value, Layer, reaches, usable, layerValue}
 use Rattle.model.specs.Memory.{encode}
 use Rattle.model.specs.Plan.{adder, demand, achieves, achiever}
 use Rattle.table.specs.Outlines.{partAt}
+use Rattle.reader.specs.Parts.{PartIn}
 use Rattle.block.specs.Parts.{rangesOf}
 use Rattle.block.specs.Items.{Left, Followed, EffectFound, EffectIs}
 use Rattle.block.specs.Sums.{LayerRow, Encoded}
@@ -28,12 +29,6 @@ use Rattle.relaxed_plan.specs.declared.Achiever.{Achiever}
 use Rattle.relaxed_plan.specs.declared.Achiever.the-variants.{Effect as EffectOf, Nobody as NoEffect}
 
 -- ---- the parts of the blocks
-
--- the marks of block b lie within the table
-pub record PartIn (table marks : List ℕ) (b : ℕ) : Type 0 where
-  pub room : b + 1 < length marks
-  pub rises : getD marks b 0 ≤ getD marks (b + 1) 0
-  pub within : getD marks (b + 1) 0 ≤ length table
 
 -- the part of each move and of the goal holds its items
 pub record Parts (table marks : List ℕ) (k : Task) : Type 0 where

@@ -5,26 +5,31 @@ use layers::Prepared;
 use model::PlanAnswer;
 use model::Refusal;
 ghost use mathlib.Core.Path.{_≡_};
-ghost use Prim.Native.Nat.{_+_, _*_, _^_, _<_, _≤_, max};
+ghost use Prim.Native.Nat.{ℕ, _+_, _-_, _*_, _^_, _<_, _≤_, max};
 ghost use lib.ListN.{length, replicate};
-ghost use mathlib.Core.Bool.{Bool, true, false};
+ghost use mathlib.Core.Bool.{Bool, true, false, _&&_};
 ghost use mathlib.Core.List.{List};
 ghost use lib.IntN.{pos, natAbs};
-ghost use Rattle.integer.specs.Linear.{larger, up};
+ghost use Rattle.integer.specs.Linear.{up};
 ghost use Rattle.model.specs.Plan.{wantFinite, layerRecords, firstMoves};
+ghost use Rattle.model.specs.Layer.{Value};
+ghost use Rattle.model.specs.Memory.{encode};
+ghost use Rattle.block.specs.Sums.{LayerRow};
 ghost use Rattle.model.specs.Limits.{paper};
 ghost use Rattle.model.specs.Calls.{recordBytes, planAnswer, planMemory, planOut};
+ghost use Rattle.model.specs.Theorems.Demand3.{planLayers};
+ghost use Rattle.model.specs.Theorems.EndToEnd.{LayersWithin};
 ghost use Rattle.integer.specs.Store.{put};
-ghost use Rattle.table.specs.Outlines.{partAt};
 ghost use Rattle.relaxed_plan.specs.Wanting.{Finitely, FinitelyIn, Wantable, WantableIn, Wanted, UnboundedIn, NormalTerm, IsDivisor};
 ghost use Rattle.relaxed_plan.specs.Blocks.{BlockWantable, BlockWanted};
-ghost use Rattle.relaxed_plan.specs.Search.{PartIn, demandBy, Searchable, IsAdder, Achievable, IsAchiever};
+ghost use Rattle.relaxed_plan.specs.Search.{demandBy, Searchable, IsAdder, Achievable, IsAchiever};
 ghost use Rattle.relaxed_plan.specs.Taking.{countedAt, Above0, IsStep, IsRuns, Takeable, AdderTaken, AchieverTaken};
-ghost use Rattle.relaxed_plan.specs.Descending.{isFree, PropsDescendable, PropsDone, ValuesDescendable, ValuesDone};
+ghost use Rattle.relaxed_plan.specs.Carrying.{Mapped, heldIn, keptBy, keptAt, Carriable, Carried};
+ghost use Rattle.relaxed_plan.specs.Descending.{isFree, PropsTakeable, PropsTaken, ValuesTakeable, ValuesTaken};
 ghost use Rattle.relaxed_plan.specs.View.{Filled, heldBy, heldAt, numberAt, lowBy, lowAt};
 ghost use Rattle.relaxed_plan.specs.Layers.{Stored, GoalWantable, GoalWanted, LayerDescendable, LayerDescended};
 ghost use Rattle.relaxed_plan.specs.Records.{countAt, oneBit, oneBytes};
-ghost use Rattle.relaxed_plan.specs.Passes.{Surveyed, Writable, planRecords};
+ghost use Rattle.relaxed_plan.specs.Passes.{Begun, Surveyed, Writable, planRecords};
 ghost use Rattle.relaxed_plan.specs.Answer.{Extracted};
 ghost use Rattle.relaxed_plan.specs.Encoding.{fresh, holding, raisedAt, Added, Encodes};
 
@@ -71,6 +76,16 @@ impl Targets {
         self
     }
 
+    // "what layer t−1 already has is carried down": of these wants, those that the layer has.
+    fn carry_down(mut self, has: &[bool], row: &[i64], props: usize, vars: usize) -> Self
+        requires { ⌜ Carriable props vars (now has) (now row) self ⌝ }
+        ensures { λ r. ⌜ ((x : Carriable props vars (now (has .entry)) (now (row .entry)) self) → Carried x r) ⌝ }
+    {
+        keep_props(&mut self.props, has, props);
+        keep_targets(&mut self.target, row, vars);
+        self
+    }
+
     // "Want its conditions": those of the block whose part is lent, a move or the goal.
     fn want_block(mut self, part: &[u8], row: &[i64], lows: &[i64]) -> Self
         requires { ⌜ BlockWantable (now part) (now row) (now lows) self ⌝ }
@@ -90,7 +105,7 @@ impl Targets {
                     terms,
                     after,
                 } => {
-                    raise_sum(&mut self.target, part, from, terms, bound, row, lows);
+                    self = self.want_sum(part, from, terms, bound, row, lows);
                     at = after;
                 }
                 ItemAt::Add { prop: _, after } => {
@@ -114,6 +129,49 @@ impl Targets {
                 }
             }
         }
+    }
+}
+
+fn both(a: bool, b: bool) -> bool
+    ensures { λ r. ⌜ r ≡ (a && b) ⌝ }
+{
+    if a { b } else { false }
+}
+
+// Of the propositions that are wanted, those that the layer has.
+fn keep_props(wanted: &mut [bool; 120], has: &[bool], props: usize)
+    requires { ⌜ (props ≤ length (now has)) × (props ≤ 120) × (length (now wanted) ≡ 120) ⌝ }
+    ensures { λ r. ⌜ Mapped false (heldIn (now (has .entry))) props (now (wanted .entry)) (now (wanted .exit)) ⌝ }
+{
+    let mut p = 0;
+    while p < props {
+        let old = wanted[p];
+        wanted[p] = both(old, has[p]);
+        p += 1;
+    }
+}
+
+// A target that the layer's value reaches, or none.
+fn kept_target(target: i64, value: i64) -> i64
+    ensures { λ r. ⌜ ((x : Value) → value ≡ encode x → r ≡ keptBy x target) ⌝ }
+{
+    if block::reaches(value, target) {
+        return target;
+    }
+    -9223372036854775808
+}
+
+// Of the targets, those that the layer's values reach.
+fn keep_targets(target: &mut [i64; 32], row: &[i64], vars: usize)
+    requires { ⌜ (vars ≤ length (now row)) × (vars ≤ 32) × (length (now target) ≡ 32) ⌝ }
+    ensures { λ r. ⌜ ((f : ℕ → Value) → LayerRow vars (now (row .entry)) f → Mapped (pos 0) (keptAt f) vars (now (target .entry)) (now (target .exit))) ⌝ }
+{
+    let mut v = 0;
+    while v < vars {
+        let old = target[v];
+        let value = row[v];
+        target[v] = kept_target(old, value);
+        v += 1;
     }
 }
 
@@ -224,16 +282,6 @@ enum Achiever {
     Nobody,
 }
 
-// The part of block `b`.
-fn part_of<'a>(table: &'a [u8], marks: &[usize], b: usize) -> &'a [u8]
-    requires { ⌜ PartIn (now table) (now marks) b ⌝ }
-    ensures { λ r. ⌜ now r ≡ partAt (now (table .entry)) (now (marks .entry)) b ⌝ }
-{
-    let from = marks[b];
-    let to = marks[b + 1];
-    &table[from..to]
-}
-
 // "value ≥ target T (:=) or > 0 (+=)": what the value has to reach.
 fn demand(kind: u8, target: i64) -> i64
     ensures { λ r. ⌜ r ≡ demandBy kind target ⌝ }
@@ -258,7 +306,7 @@ fn find_adder(table: &[u8], marks: &[usize], used: &[bool], moves: usize, p: usi
             b += 1;
             continue 'moves;
         }
-        let part = part_of(table, marks, b);
+        let part = reader::part(table, marks, b);
         let mut at = 1;
         loop {
             match block::next(part, at) {
@@ -326,7 +374,7 @@ fn find_achiever(
             b += 1;
             continue 'moves;
         }
-        let part = part_of(table, marks, b);
+        let part = reader::part(table, marks, b);
         let mut at = 1;
         loop {
             match block::next(part, at) {
@@ -446,7 +494,7 @@ fn runs(kind: u8, target: i64, old: i64, value: i64) -> u64
 impl Targets {
     // "take the first that adds the proposition": wants its conditions and counts it once.
     fn take_adder(
-        self,
+        mut self,
         table: &[u8],
         marks: &[usize],
         used: &[bool],
@@ -464,13 +512,14 @@ impl Targets {
             return self;
         };
         recount(counts, b, 1);
-        self.want_block(part_of(table, marks, b), row, lows)
+        self = self.want_block(reader::part(table, marks, b), row, lows);
+        self
     }
 
     // "or whose effect on v has value ≥ target T (:=) or > 0 (+=)": wants its conditions and that value, and counts its runs from
     // the state's value `old`.
     fn take_achiever(
-        self,
+        mut self,
         table: &[u8],
         marks: &[usize],
         used: &[bool],
@@ -498,15 +547,16 @@ impl Targets {
             return self;
         };
         recount(counts, index, runs(kind, target, old, value));
-        let part = part_of(table, marks, index);
-        let conditions = self.want_block(part, row, lows);
+        let part = reader::part(table, marks, index);
         let c = integer::sub(demand(kind, target), base);
-        conditions.want_sum(part, from, terms, c, row, lows)
+        self = self.want_block(part, row, lows);
+        self.want_sum(part, from, terms, c, row, lows)
     }
 
-    // The wanted propositions: "what layer t−1 already has is carried down. For any other, try the moves".
-    fn descend_props(
-        self,
+    // "For any other, try the moves": the propositions wanted above that the layer lacks.
+    fn take_props(
+        mut self,
+        wanted: &[bool; 120],
         table: &[u8],
         marks: &[usize],
         has: &[bool],
@@ -517,32 +567,30 @@ impl Targets {
         props: usize,
         counts: &mut [u64; 64],
     ) -> Self
-        requires { ⌜ PropsDescendable (now table) (now marks) (now has) (now used) (now row) (now lows) moves props self ⌝ }
-        ensures { λ r. ⌜ ((x : PropsDescendable (now (table .entry)) (now (marks .entry)) (now (has .entry)) (now (used .entry)) (now (row .entry)) (now (lows .entry)) moves props self)
-            → PropsDone x props r (now (counts .exit))) ⌝ }
+        requires { ⌜ PropsTakeable (now table) (now marks) (now has) (now used) (now row) (now lows) moves props (now wanted) self ⌝ }
+        ensures { λ r. ⌜ ((x : PropsTakeable (now (table .entry)) (now (marks .entry)) (now (has .entry)) (now (used .entry)) (now (row .entry)) (now (lows .entry)) moves props (now (wanted .entry)) self)
+            → PropsTaken x props r (now (counts .exit))) ⌝ }
     {
-        let mut below = Targets::none();
         *counts = no_counts();
         let mut done = 0;
         while done < props {
             let p = done;
             done += 1;
-            if !self.props[p] {
+            if !wanted[p] {
                 continue;
             }
             if has[p] {
-                below.props[p] = true;
                 continue;
             }
-            below = below.take_adder(table, marks, used, row, lows, moves, p, counts);
+            self = self.take_adder(table, marks, used, row, lows, moves, p, counts);
         }
-        below
+        self
     }
 
-    // The targets, behind the propositions: `below` is what the propositions came to.
-    fn descend_values(
-        self,
-        mut below: Targets,
+    // The targets above that the layer does not reach, behind the propositions.
+    fn take_values(
+        mut self,
+        targets: &[i64; 32],
         table: &[u8],
         marks: &[usize],
         used: &[bool],
@@ -553,38 +601,26 @@ impl Targets {
         vars: usize,
         counts: &mut [u64; 64],
     ) -> Self
-        requires { ⌜ ValuesDescendable (now table) (now marks) (now used) (now row) (now lows) (now start) moves vars self below (now counts) ⌝ }
-        ensures { λ r. ⌜ ((x : ValuesDescendable (now (table .entry)) (now (marks .entry)) (now (used .entry)) (now (row .entry)) (now (lows .entry)) (now (start .entry)) moves vars self below (now (counts .entry)))
-            → ValuesDone x vars r (now (counts .exit))) ⌝ }
+        requires { ⌜ ValuesTakeable (now table) (now marks) (now used) (now row) (now lows) (now start) moves vars (now targets) self (now counts) ⌝ }
+        ensures { λ r. ⌜ ((x : ValuesTakeable (now (table .entry)) (now (marks .entry)) (now (used .entry)) (now (row .entry)) (now (lows .entry)) (now (start .entry)) moves vars (now (targets .entry)) self (now (counts .entry)))
+            → ValuesTaken x vars r (now (counts .exit))) ⌝ }
     {
         let mut done = 0;
         while done < vars {
             let v = done;
             done += 1;
-            let target = self.target[v];
+            let target = targets[v];
             if is_free(target) {
                 continue;
             }
             let value = row[v];
             if block::reaches(value, target) {
-                raise_target(&mut below.target, v, target);
                 continue;
             }
             let old = start[v];
-            below = below.take_achiever(
-                table,
-                marks,
-                used,
-                row,
-                lows,
-                moves,
-                v,
-                target,
-                old,
-                counts,
-            );
+            self = self.take_achiever(table, marks, used, row, lows, moves, v, target, old, counts);
         }
-        below
+        self
     }
 }
 
@@ -600,33 +636,29 @@ fn held(entry: i64, t: usize) -> bool
 }
 
 // Of the `n` entries from `from` on, which layer `t` has.
-fn read_entries(layers: &[i64], from: usize, n: usize, t: usize) -> [bool; 120]
-    requires { ⌜ (from + n ≤ length (now layers)) × (n ≤ 120) × (t < 2 ^ 63) ⌝ }
-    ensures { λ r. ⌜ Filled false (heldAt (now (layers .entry)) from t) n 120 r ⌝ }
+fn read_entries(layers: &[i64], from: usize, n: usize, t: usize, flags: &mut [bool; 120])
+    requires { ⌜ (from + n ≤ length (now layers)) × (n ≤ 120) × (t < 2 ^ 63) × (length (now flags) ≡ 120) ⌝ }
+    ensures { λ r. ⌜ Filled false (heldAt (now (layers .entry)) from t) n 120 (now (flags .exit)) ⌝ }
 {
-    let mut flags = [false; 120];
     let mut i = 0;
     while i < n {
         let e = layers[from + i];
         flags[i] = held(e, t);
         i += 1;
     }
-    flags
 }
 
 // The `n` numbers from `from` on.
-fn read_row(layers: &[i64], from: usize, n: usize) -> [i64; 32]
-    requires { ⌜ (from + n ≤ length (now layers)) × (n ≤ 32) ⌝ }
-    ensures { λ r. ⌜ Filled (pos 0) (numberAt (now (layers .entry)) from) n 32 r ⌝ }
+fn read_row(layers: &[i64], from: usize, n: usize, row: &mut [i64; 32])
+    requires { ⌜ (from + n ≤ length (now layers)) × (n ≤ 32) × (length (now row) ≡ 32) ⌝ }
+    ensures { λ r. ⌜ Filled (pos 0) (numberAt (now (layers .entry)) from) n 32 (now (row .exit)) ⌝ }
 {
-    let mut row = [0; 32];
     let mut i = 0;
     while i < n {
         let x = layers[from + i];
         row[i] = x;
         i += 1;
     }
-    row
 }
 
 fn low(value: i64, old: i64) -> i64
@@ -639,11 +671,10 @@ fn low(value: i64, old: i64) -> i64
 }
 
 // "layer values for finite and state values for other unbounded ones".
-fn low_row(row: &[i64], start: &[i64], n: usize) -> [i64; 32]
-    requires { ⌜ (n ≤ length (now row)) × (n ≤ length (now start)) × (n ≤ 32) ⌝ }
-    ensures { λ r. ⌜ Filled (pos 0) (lowAt (now (row .entry)) (now (start .entry))) n 32 r ⌝ }
+fn low_row(row: &[i64], start: &[i64], n: usize, lows: &mut [i64; 32])
+    requires { ⌜ (n ≤ length (now row)) × (n ≤ length (now start)) × (n ≤ 32) × (length (now lows) ≡ 32) ⌝ }
+    ensures { λ r. ⌜ Filled (pos 0) (lowAt (now (row .entry)) (now (start .entry))) n 32 (now (lows .exit)) ⌝ }
 {
-    let mut lows = [0; 32];
     let mut v = 0;
     while v < n {
         let x = row[v];
@@ -651,7 +682,6 @@ fn low_row(row: &[i64], start: &[i64], n: usize) -> [i64; 32]
         lows[v] = low(x, y);
         v += 1;
     }
-    lows
 }
 
 // "Begin with the goal in m": what is wanted in the answer layer `m`.
@@ -668,16 +698,18 @@ fn want_goal(
     requires { ⌜ GoalWantable (now table) (now marks) (now layers) (now start) props vars moves m ⌝ }
     ensures { λ r. ⌜ ((x : GoalWantable (now (table .entry)) (now (marks .entry)) (now (layers .entry)) (now (start .entry)) props vars moves m) → GoalWanted x r) ⌝ }
 {
-    let row = read_row(layers, props + moves + vars * m, vars);
-    let lows = low_row(&row, start, vars);
-    let part = part_of(table, marks, moves);
+    let mut row = [0; 32];
+    let mut lows = [0; 32];
+    read_row(layers, props + moves + vars * m, vars, &mut row);
+    low_row(&row, start, vars, &mut lows);
+    let part = reader::part(table, marks, moves);
     Targets::none().want_block(part, &row, &lows)
 }
 
 impl Targets {
-    // From the wants of layer t + 1 to those of layer `t`, with the counts of the moves taken there.
+    // "At layer t ≥ 1": from the wants of layer `t` to those of layer t−1, with the counts of the moves taken there.
     fn descend(
-        self,
+        mut self,
         table: &[u8],
         marks: &[usize],
         layers: &[i64],
@@ -688,14 +720,21 @@ impl Targets {
         t: usize,
         counts: &mut [u64; 64],
     ) -> Self
-        requires { ⌜ (LayerDescendable (now table) (now marks) (now layers) (now start) props vars moves t self) × (t < 4000) ⌝ }
-        ensures { λ r. ⌜ ((x : LayerDescendable (now (table .entry)) (now (marks .entry)) (now (layers .entry)) (now (start .entry)) props vars moves t self) → LayerDescended x r (now (counts .exit))) ⌝ }
+        requires { ⌜ (LayerDescendable (now table) (now marks) (now layers) (now start) props vars moves (t - 1) self) × (0 < t) × (t ≤ 4000) ⌝ }
+        ensures { λ r. ⌜ ((x : LayerDescendable (now (table .entry)) (now (marks .entry)) (now (layers .entry)) (now (start .entry)) props vars moves (t - 1) self) → LayerDescended x r (now (counts .exit))) ⌝ }
     {
-        let has = read_entries(layers, 0, props, t);
-        let used = read_entries(layers, props, moves, t);
-        let row = read_row(layers, props + moves + vars * t, vars);
-        let lows = low_row(&row, start, vars);
-        let below = self.descend_props(
+        let lower = t - 1;
+        let mut has = [false; 120];
+        let mut used = [false; 120];
+        let mut row = [0; 32];
+        let mut lows = [0; 32];
+        read_entries(layers, 0, props, lower, &mut has);
+        read_entries(layers, props, moves, lower, &mut used);
+        read_row(layers, props + moves + vars * lower, vars, &mut row);
+        low_row(&row, start, vars, &mut lows);
+        let carried = self.carry_down(&has, &row, props, vars);
+        let taken = carried.take_props(
+            &self.props,
             table,
             marks,
             &has,
@@ -706,8 +745,8 @@ impl Targets {
             props,
             counts,
         );
-        self.descend_values(
-            below,
+        self = taken.take_values(
+            &self.target,
             table,
             marks,
             &used,
@@ -717,7 +756,8 @@ impl Targets {
             moves,
             vars,
             counts,
-        )
+        );
+        self
     }
 }
 
@@ -798,48 +838,50 @@ struct Summary {
     first: u64,
 }
 
-// "From answer layer m down": the number of records and the first moves, before a byte is written.
+// "From answer layer m down", whose wants are given: the number of records and the first moves, before a byte is written.
 fn survey(
+    mut wants: Targets,
     table: &[u8],
     marks: &[usize],
     layers: &[i64],
+    start: &[i64],
     props: usize,
     vars: usize,
     moves: usize,
     m: usize,
 ) -> Summary
-    requires { ⌜ Stored (now table) (now marks) (now layers) props vars moves m ⌝ }
-    ensures { λ r. ⌜ ((x : Stored (now (table .entry)) (now (marks .entry)) (now (layers .entry)) props vars moves m) → Surveyed x (r .records) (r .first)) ⌝ }
+    requires { ⌜ Begun (now table) (now marks) (now layers) (now start) props vars moves m wants ⌝ }
+    ensures { λ r. ⌜ ((x : Begun (now (table .entry)) (now (marks .entry)) (now (layers .entry)) (now (start .entry)) props vars moves m wants) → Surveyed (x .stored) (r .records) (r .first)) ⌝ }
 {
-    let start = read_row(layers, props + moves, vars);
-    let mut wants = want_goal(table, marks, layers, &start, props, vars, moves, m);
     let mut counts = no_counts();
     let mut records = 0;
     let mut t = m;
     while t > 0 {
-        t -= 1;
         wants = wants.descend(
             table,
             marks,
             layers,
-            &start,
+            start,
             props,
             vars,
             moves,
             t,
             &mut counts,
         );
+        t -= 1;
         records += count_taken(&counts, moves);
     }
     let first = first_set(&counts, moves);
     Summary { records, first }
 }
 
-// The records, from the last layer's backwards; the output has room for all of them.
+// The records, from the last layer's backwards, again from the wants of the answer layer; the output has room for all of them.
 fn write_plan(
+    mut wants: Targets,
     table: &[u8],
     marks: &[usize],
     layers: &[i64],
+    start: &[i64],
     props: usize,
     vars: usize,
     moves: usize,
@@ -847,28 +889,26 @@ fn write_plan(
     records: usize,
     out: &mut [u8],
 )
-    requires { ⌜ Writable (now table) (now marks) (now layers) props vars moves m records (now out) ⌝ }
-    ensures { λ r. ⌜ ((x : Writable (now (table .entry)) (now (marks .entry)) (now (layers .entry)) props vars moves m records (now (out .entry)))
-        → now (out .exit) ≡ put (now (out .entry)) 0 (recordBytes (planRecords (x .stored)))) ⌝ }
+    requires { ⌜ Writable (now table) (now marks) (now layers) (now start) props vars moves m wants records (now out) ⌝ }
+    ensures { λ r. ⌜ ((x : Writable (now (table .entry)) (now (marks .entry)) (now (layers .entry)) (now (start .entry)) props vars moves m wants records (now (out .entry)))
+        → now (out .exit) ≡ put (now (out .entry)) 0 (recordBytes (planRecords (x .begun .stored)))) ⌝ }
 {
-    let start = read_row(layers, props + moves, vars);
-    let mut wants = want_goal(table, marks, layers, &start, props, vars, moves, m);
     let mut counts = no_counts();
     let mut at = 10 * records;
     let mut t = m;
     while t > 0 {
-        t -= 1;
         wants = wants.descend(
             table,
             marks,
             layers,
-            &start,
+            start,
             props,
             vars,
             moves,
             t,
             &mut counts,
         );
+        t -= 1;
         at -= 10 * count_taken(&counts, moves);
         write_records(out, at, &counts, moves);
     }
@@ -889,7 +929,10 @@ fn extract(
     ensures { λ r. ⌜ ((x : Stored (now (table .entry)) (now (marks .entry)) (now (layers .entry)) props vars moves m)
         → Extracted (planRecords x) m (now (out .entry)) (now (out .exit)) r) ⌝ }
 {
-    let summary = survey(table, marks, layers, props, vars, moves, m);
+    let mut start = [0; 32];
+    read_row(layers, props + moves, vars, &mut start);
+    let wants = want_goal(table, marks, layers, &start, props, vars, moves, m);
+    let summary = survey(wants, table, marks, layers, &start, props, vars, moves, m);
     let records = summary.records;
     let first = summary.first;
     if out.len() < 10 * records {
@@ -898,7 +941,19 @@ fn extract(
             place: 0,
         });
     }
-    write_plan(table, marks, layers, props, vars, moves, m, records, out);
+    write_plan(
+        wants,
+        table,
+        marks,
+        layers,
+        &start,
+        props,
+        vars,
+        moves,
+        m,
+        records,
+        out,
+    );
     PlanAnswer::Plan {
         layer: m as u64,
         layers: m as u64,
@@ -911,7 +966,8 @@ fn extract(
 pub fn plan(table: &[u8], state: &[u8], layers: &mut [i64], out: &mut [u8]) -> PlanAnswer
     ensures { λ r. ⌜ (r ≡ planAnswer paper (now (table .entry)) (now (state .entry)) (now (layers .entry)) (now (out .entry)))
         × (now (layers .exit) ≡ planMemory paper (now (table .entry)) (now (state .entry)) (now (layers .entry)))
-        × (now (out .exit) ≡ planOut paper (now (table .entry)) (now (state .entry)) (now (layers .entry)) (now (out .entry))) ⌝ }
+        × (now (out .exit) ≡ planOut paper (now (table .entry)) (now (state .entry)) (now (layers .entry)) (now (out .entry)))
+        × LayersWithin (now (table .entry)) (planLayers r) ⌝ }
 {
     let mut marks = [0; 66];
     match layers::prepare(table, state, &mut marks) {

@@ -10,5 +10,4 @@ pub mod Marks
 pub mod Tracks
 pub mod Advance
 pub mod Answer
-pub mod Part
 pub mod Outlines

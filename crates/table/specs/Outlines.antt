@@ -6,7 +6,7 @@ use native.Mathlib.Omega.{arith}
 use mathlib.Core.Path.{_≡_, sym, ap, ap₂, _∙_, subst}
 use mathlib.Core.List.{List, [], _∷_}
 use lib.ListN.{length, getD, take, drop}
-use lib.Seq.{slice}
+use lib.Seq.{slice, take-nil}
 use Rattle.integer.specs.BigEndian.{AllBytes}
 use Rattle.model.specs.declared.Refusal.{Refusal}
 use Rattle.model.specs.declared.ReadAnswer.{ReadAnswer}
@@ -19,7 +19,19 @@ use Rattle.model.specs.Theorems.WellFormed.{TaskOk}
 use Rattle.model.specs.Theorems.Accepted.{Accepted, reading-accepted, reading-form, reading-head}
 use Rattle.model.specs.Theorems.Parts.{move-part, goal-part}
 use Rattle.table.specs.Answer.{Outlined, answer-accepted, answer-refused}
-use Rattle.table.specs.Part.{part-slice}
+
+-- a part by its start and its length
+pub part-slice : (f e : ℕ) (l : List ℕ) → f ≤ e → take (e - f) (drop f l) ≡ slice f e l
+part-slice zero e l h = ap (λ (n : ℕ). take n l) (zero-less e)
+  where
+    zero-less : (n : ℕ) → n - 0 ≡ n
+    zero-less n = omega arith
+part-slice (suc f) zero l h = absurd (omega arith)
+part-slice (suc f) (suc e) [] h = take-nil (suc e - suc f)
+part-slice (suc f) (suc e) (x ∷ l) h = ap (λ (n : ℕ). take n (drop f l)) (both e f) ∙ part-slice f e l (omega arith)
+  where
+    both : (m n : ℕ) → suc m - suc n ≡ m - n
+    both m n = omega arith
 
 -- the part of block b
 abbrev pub partAt : List ℕ → List ℕ → ℕ → List ℕ
@@ -36,7 +48,7 @@ pub record Outline (f : Form) (table marks : List ℕ) (k : Task) : Type 0 where
   pub goal : partAt table marks (length (k .moves)) ≡ codeOf openGoal ∷ itemsBytes (k .goal)
 
 -- what is above 0 stands within the list
-inside-list : (l : List ℕ) (i : ℕ) → 0 < getD l i 0 → i < length l
+pub inside-list : (l : List ℕ) (i : ℕ) → 0 < getD l i 0 → i < length l
 inside-list [] i h = absurd (omega arith)
 inside-list (x ∷ l) zero h = omega arith
 inside-list (x ∷ l) (suc i) h = omega (arith, inside-list l i h)

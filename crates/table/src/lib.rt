@@ -816,7 +816,7 @@ fn finish(length: usize, c: Cursor, edges: &[bool; 1024]) -> model::ReadAnswer
 }
 
 // Reads a table for a call that wants these heads. If the table is accepted, `marks` holds the offset of each block's 41 or 47
-// and, behind them, of 45.
+// and, behind them, of 45; after a refusal nothing is said of `marks`.
 pub fn outline(table: &[u8], wanted: Wanted, marks: &mut [usize; 66]) -> model::ReadAnswer
     ensures { λ r. ⌜ Outlined (now (table .entry)) (reading paper (wantedOf wanted) (now (table .entry))) r (now (marks .exit)) ⌝ }
 {

@@ -1,5 +1,5 @@
 -- The answer of a step, by its checks: the table's, the state's, 10. Assumes nothing.
-use Prim.Native.Nat.{ℕ, _+_, _≤_, _<_}
+use Prim.Native.Nat.{ℕ, _≤_, _<_}
 use native.Mathlib.Omega.{arith}
 use mathlib.Core.Path.{_≡_, refl, sym, ap, ap₂, _∙_}
 use mathlib.Core.List.{List, []}
@@ -18,6 +18,7 @@ use Rattle.model.specs.Calls.{turns, fitted, moved, stepWithState, stepOf, step
 use Rattle.model.specs.Theorems.Layers.{move-ok}
 use Rattle.state.specs.Checking.{accepted-state}
 use Rattle.table.specs.Outlines.{partAt, HeadRead}
+use Rattle.reader.specs.Parts.{PartIn, outline-part}
 use Rattle.block.specs.Parts.{move-left}
 use Rattle.normal.specs.Answers.{Answered}
 use Rattle.transition.specs.Moving.{Chosen, Movable, movedBy}
@@ -41,10 +42,6 @@ module _ {t marks : List ℕ} {props vars moves : ℕ} (h : Read t marks props v
   pub few-vars : vars ≤ 16
   unfolding paper
   few-vars = omega (arith, h .vars-is, h .outline .ok .vars)
-
-  pub few-moves : moves ≤ 64
-  unfolding paper
-  few-moves = omega (arith, h .count, h .outline .ok .moves)
 
   -- the state is refused
   pub step-state-refused : {q : Refusal} → stateRefusal paper props vars bs ≡ some q → stepOf paper (reading paper (only written) t) bs b ≡ turns q
@@ -72,29 +69,27 @@ module _ {t marks : List ℕ} {props vars moves : ℕ} (h : Read t marks props v
         ∙ ap (stepWithState paper k bs b) e
         ∙ rw (stepWithState, lt-ltb b (length (k .moves)) (omega (arith, h .count))) refl)
 
-    pub step-chosen : b < moves → Chosen (partAt t marks b) bs props vars (getD (h .table .task .moves) b [])
-    step-chosen l =
-        record {
+    pub step-chosen : b < moves → {part : List ℕ} → part ≡ partAt t marks b → Chosen part bs props vars (getD (h .table .task .moves) b [])
+    step-chosen l f =
+        rw f
+        (record {
           left = rw (h .props-is, h .vars-is) (let i : b < length (h .table .task .moves) = omega (arith, h .count) in move-left (h .outline .ok) b i (h .outline .move b i));
           once = move-ok (h .outline .ok) b (omega (arith, h .count)) .once;
-        }
+        })
 
-    pub step-movable : b < moves → Movable (partAt t marks b) bs props vars
-    step-movable l =
+    pub step-movable : b < moves → {part : List ℕ} → part ≡ partAt t marks b → Movable part bs props vars
+    step-movable l f =
         record {
           block = getD (h .table .task .moves) b [];
-          chosen = step-chosen l;
+          chosen = step-chosen l f;
           few-props = few-props;
           few-vars = few-vars;
           state-ok = accepted-state props vars bs e;
         }
 
   -- the offsets of the move
-  pub move-ordered : b < moves → getD marks b 0 ≤ getD marks (b + 1) 0
-  move-ordered l = h .outline .ordered b (omega (arith, h .count))
-
-  pub move-within : b < moves → getD marks (b + 1) 0 ≤ length t
-  move-within l = h .outline .within b (omega (arith, h .count))
+  pub move-in : b < moves → PartIn t marks b
+  move-in l = outline-part (h .outline) b (omega (arith, h .count))
 
 -- ---- the call
 

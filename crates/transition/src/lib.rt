@@ -211,10 +211,8 @@ fn choose(
             place: 0,
         });
     }
-    let b = chosen as usize;
-    let from = marks[b];
-    let end = marks[b + 1];
-    moved(&table[from..end], state, props, vars, out)
+    let part = reader::part(table, marks, chosen as usize);
+    moved(part, state, props, vars, out)
 }
 
 // Checks the state, and makes the move.

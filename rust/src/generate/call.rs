@@ -13,12 +13,7 @@ use crate::reference::{normal_form, parse_table, plan};
 pub fn call(rng: &mut Rng) -> Call {
     let kind = *rng.pick(&[Kind::Written, Kind::Normal]);
     let Task { table, state } = any_task(rng, kind);
-    let state = if rng.chance(1, 8) {
-        wrong_state(rng, &state)
-    } else {
-        state
-    };
-    match (kind, rng.below(8)) {
+    match (kind, rng.below(10)) {
         (_, 0) => Call::Read { table },
         (_, 1) => Call::Block {
             block: any_index(rng, &table),
@@ -29,6 +24,7 @@ pub fn call(rng: &mut Rng) -> Call {
             room: around(rng, normal_length(&table)),
             table,
         },
+        (Kind::Written, 6 | 7) => campaign_of(rng, &Task { table, state }),
         (Kind::Written, _) => Call::Step {
             mv: any_index(rng, &table),
             room: around(rng, state.len()),
@@ -37,6 +33,12 @@ pub fn call(rng: &mut Rng) -> Call {
         },
         (Kind::Normal, _) => planning_call(rng, &Task { table, state }),
     }
+}
+
+/// A `campaign` of a table that is mostly accepted, with sizes that are mostly enough.
+pub fn campaign_call(rng: &mut Rng) -> Call {
+    let task = any_task(rng, Kind::Written);
+    campaign_of(rng, &task)
 }
 
 /// `decide` and `plan` of a task with every size of memory and of output that matters:
@@ -65,9 +67,10 @@ pub fn sized_calls(task: &Task) -> Vec<Call> {
     calls
 }
 
-/// A table that is mostly accepted and of the given kind, with a state.
+/// A table that is mostly accepted and of the given kind, with a state that is now and then
+/// wrong.
 fn any_task(rng: &mut Rng, kind: Kind) -> Task {
-    let task = match rng.below(24) {
+    let mut task = match rng.below(24) {
         0 => at_value_limit(rng),
         1 => {
             let (half, gates) = (1 + rng.below(4), 1 + rng.below(6));
@@ -81,7 +84,10 @@ fn any_task(rng: &mut Rng, kind: Kind) -> Task {
         _ => task(rng, kind),
     };
     if kind == Kind::Normal && rng.chance(1, 2) {
-        return normalised(task);
+        task = normalised(task);
+    }
+    if rng.chance(1, 8) {
+        task.state = wrong_state(rng, &task.state);
     }
     task
 }
@@ -149,6 +155,20 @@ pub fn normal_length(table: &[u8]) -> usize {
 }
 
 fn planning_call(rng: &mut Rng, task: &Task) -> Call {
+    let (numbers, room) = planning_sizes(rng, task);
+    match rng.chance(1, 3) {
+        true => task.decide(numbers),
+        false => task.plan(numbers, room),
+    }
+}
+
+fn campaign_of(rng: &mut Rng, task: &Task) -> Call {
+    let (numbers, room) = planning_sizes(rng, &normalised(task.clone()));
+    task.campaign(around(rng, normal_length(&task.table)), numbers, room)
+}
+
+/// Numbers of memory and bytes of output at or around what a normal table needs.
+fn planning_sizes(rng: &mut Rng, task: &Task) -> (usize, usize) {
     let Needs {
         entries,
         layer,
@@ -161,10 +181,7 @@ fn planning_call(rng: &mut Rng, task: &Task) -> Call {
         _ => around(rng, entries + layer * layers),
     };
     let records = plan.map_or(2, |plan| plan.records as usize);
-    if rng.chance(1, 3) {
-        return task.decide(numbers);
-    }
-    task.plan(numbers, around(rng, 10 * records))
+    (numbers, around(rng, 10 * records))
 }
 
 /// A size at or around the one that is needed.

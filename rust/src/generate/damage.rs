@@ -266,6 +266,7 @@ pub fn damage(rng: &mut Rng, call: &mut Call) {
         Call::Step { table, state, .. }
         | Call::Decide { table, state, .. }
         | Call::Plan { table, state, .. }
+        | Call::Campaign { table, state, .. }
         | Call::Listing { task: table, state } => {
             let bytes = if rng.chance(1, 4) { state } else { table };
             damage_bytes(rng, bytes);

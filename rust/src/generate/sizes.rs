@@ -74,8 +74,22 @@ impl Sizes {
         lengths
     }
 
+    /// Such lengths with any output, and outputs around the records with enough memory.
+    pub fn plans(&self, rng: &mut Rng) -> Vec<(usize, usize)> {
+        let outputs = self.outputs(rng);
+        let memories = self.memories(rng).into_iter();
+        let mut pairs: Vec<(usize, usize)> = memories
+            .map(|numbers| (numbers, *rng.pick(&outputs)))
+            .collect();
+        let enough = outputs
+            .into_iter()
+            .map(|room| (self.memory() + rng.below(2), room));
+        pairs.extend(enough);
+        pairs
+    }
+
     /// Lengths of an output around those of the records.
-    pub fn plans(&self, rng: &mut Rng) -> Vec<usize> {
+    fn outputs(&self, rng: &mut Rng) -> Vec<usize> {
         let records = self.records;
         let mut lengths = vec![records, records + 1, records + 1 + rng.below(30)];
         if records > 0 {

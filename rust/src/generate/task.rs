@@ -48,6 +48,18 @@ impl Task {
             room,
         }
     }
+
+    /// `campaign` of this task with so many bytes for the normal form, numbers of memory and
+    /// bytes of output.
+    pub fn campaign(&self, normal: usize, numbers: usize, room: usize) -> Call {
+        Call::Campaign {
+            table: self.table.clone(),
+            state: self.state.clone(),
+            normal,
+            numbers,
+            room,
+        }
+    }
 }
 
 /// Both in hexadecimal.

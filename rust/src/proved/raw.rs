@@ -49,13 +49,29 @@ extern "C" {
         records: *mut u64,
         first_moves: *mut u64,
     ) -> u64;
+
+    fn lapyndo_campaign(
+        table: *const u8,
+        table_len: usize,
+        state: *const u8,
+        state_len: usize,
+        normal: *mut u8,
+        normal_len: usize,
+        layers: *mut i64,
+        layers_len: usize,
+        out: *mut u8,
+        out_len: usize,
+        decision: *mut u64,
+        records: *mut u64,
+        first_moves: *mut u64,
+    ) -> u64;
 }
 
 /// The result in an answer's number, or the refusal.
 ///
 /// # Panics
 /// If the refusal's number is unknown.
-fn answered(number: u64) -> Result<u32, Refusal> {
+pub fn answered(number: u64) -> Result<u32, Refusal> {
     let [reason, low] = [number >> 32, number & 0xFFFF_FFFF];
     if reason == 0 {
         return Ok(low as u32);
@@ -137,6 +153,42 @@ pub fn plan(
             out.len(),
             records,
             first_moves,
+        )
+    })
+}
+
+/// The three numbers that `campaign` writes: decide's whole answer always, plan's two further
+/// numbers in an answer only.
+pub struct Numbers<'n> {
+    pub decision: &'n mut u64,
+    pub records: &'n mut u64,
+    pub first_moves: &'n mut u64,
+}
+
+/// Answers what plan does.
+pub fn campaign(
+    table: &[u8],
+    state: &[u8],
+    normal: &mut [u8],
+    layers: &mut [i64],
+    out: &mut [u8],
+    numbers: Numbers,
+) -> Result<u32, Refusal> {
+    answered(unsafe {
+        lapyndo_campaign(
+            table.as_ptr(),
+            table.len(),
+            state.as_ptr(),
+            state.len(),
+            normal.as_mut_ptr(),
+            normal.len(),
+            layers.as_mut_ptr(),
+            layers.len(),
+            out.as_mut_ptr(),
+            out.len(),
+            numbers.decision,
+            numbers.records,
+            numbers.first_moves,
         )
     })
 }

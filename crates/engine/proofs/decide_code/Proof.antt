@@ -3,8 +3,7 @@ use mathlib.Core.Path.{sym, ap, subst, _∙_}
 use native.Mathlib.Omega.{arith}
 use Rattle.model.specs.Exports.{decideCode}
 use Rattle.model.specs.Theorems.Places.{Small}
-use Rattle.model.specs.Theorems.AnswerSizes.{DecideSmall}
-use Rattle.engine.specs.Sizes.{hostLimit}
+use Rattle.model.specs.Theorems.AnswerSizes.{placeLimit, DecideSmall}
 use Rattle.engine.proofs.decide_code.Statement.{statement}
 use Rattle.engine.proofs.decide_code.Tie as tie
 use Rattle.engine.proofs.decide_code.Reads as reads
@@ -21,7 +20,7 @@ enum-known-a-2 c = search needs
 
 -- src/lib.rt:54:44
 add-result : tie.Need-add-result
-add-result c = record { fits = omega (arith, subst (DecideSmall hostLimit) (c .before .a2 .given .1) (c .before .before .before .pre .small)) }
+add-result c = record { fits = omega (arith, subst DecideSmall (c .before .a2 .given .1) (c .before .before .before .pre)) }
 
 -- src/lib.rt:55:31
 enum-known-a-3 : tie.Need-enum-known-a-3
@@ -30,8 +29,8 @@ enum-known-a-3 c = search needs
 -- src/lib.rt:55:37
 refusal-code-requires : tie.Need-refusal-code-requires
 refusal-code-requires c κs =
-    let small : Small hostLimit (c .before .a3 .given .0 .0) =
-    subst (DecideSmall hostLimit) (c .before .a3 .given .1) (c .before .before .before .pre .small) in
+    let small : Small placeLimit (c .before .a3 .given .0 .0) =
+    subst DecideSmall (c .before .a3 .given .1) (c .before .before .before .pre) in
     (small .number, small .place)
 
 -- src/lib.rt:48:1

@@ -1,7 +1,6 @@
 use Prim.Native.Nat.{ℕ}
 use mathlib.Core.Path.{ap, _∙_}
 use mathlib.Core.List.{List}
-use native.Mathlib.Omega.{arith}
 use Rattle.model.specs.Exports.{blockCopy}
 use Rattle.engine.specs.Parts.{block-fits, block-answer}
 use borrow.Author.Needs.{needs}
@@ -24,7 +23,7 @@ copied-requires c κs = search needs
 -- src/lib.rt:132:5
 part-code-requires : tie.Need-part-code-requires
 part-code-requires c κs =
-    block-fits _ _ _ _ (omega arith) (c .before .before .before .before .block-at .ensures .1)
+    block-fits _ _ _ _ (c .before .before .before .before .block-at .ensures .1)
     (c .before .before .before .before .block-at .ensures .2)
 
 -- src/lib.rt:123:1
@@ -35,7 +34,7 @@ same-length c = search needs
 returns : tie.Need-returns
 returns c = (
   c .part-code .ensures
-      ∙ block-answer _ _ _ _ (omega arith) (c .before .before .before .before .before .block-at .ensures .1)
+      ∙ block-answer _ _ _ _ (c .before .before .before .before .before .block-at .ensures .1)
       (c .before .before .before .before .before .block-at .ensures .2) _ (c .before .before .before .before .before .block-at .ensures .0),
   c .before .before .before .copied .ensures ∙ ap (λ (l : List ℕ). blockCopy l (c .before .before .before .before .before .before .before .before .before .before .args .out .now)) (c .before .before .before .before .before .block-at .ensures .0),
 )

@@ -1,7 +1,6 @@
 use mathlib.Core.Path.{ap, _∙_}
-use native.Mathlib.Omega.{arith}
 use Rattle.model.specs.Exports.{decideCode}
-use Rattle.engine.specs.Sizes.{decide-fits}
+use Rattle.model.specs.Theorems.AnswerSizes.{decide-small}
 use borrow.Author.Needs.{needs}
 use Rattle.engine.proofs.lapyndo_decide.Statement.{statement}
 use Rattle.engine.proofs.lapyndo_decide.Tie as tie
@@ -16,7 +15,7 @@ decide-requires c κs = search needs
 
 -- src/lib.rt:141:5
 decide-code-requires : tie.Need-decide-code-requires
-decide-code-requires c κs = rw (c .before .decide .ensures .0) (decide-fits _ (omega arith) _ _)
+decide-code-requires c κs = rw (c .before .decide .ensures .0) (decide-small _ _ _)
 
 -- src/lib.rt:136:1
 same-length : tie.Need-same-length

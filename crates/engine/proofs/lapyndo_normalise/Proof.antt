@@ -1,7 +1,6 @@
 use mathlib.Core.Path.{ap, _∙_}
-use native.Mathlib.Omega.{arith}
 use Rattle.model.specs.Exports.{writeCode}
-use Rattle.engine.specs.Sizes.{normalise-fits}
+use Rattle.model.specs.Theorems.AnswerSizes.{normalise-small}
 use borrow.Author.Needs.{needs}
 use Rattle.engine.proofs.lapyndo_normalise.Statement.{statement}
 use Rattle.engine.proofs.lapyndo_normalise.Tie as tie
@@ -16,7 +15,7 @@ normalise-requires c κs = search needs
 
 -- src/lib.rt:140:5
 write-code-requires : tie.Need-write-code-requires
-write-code-requires c κs = rw (c .before .before .normalise .ensures .0) (normalise-fits _ (omega arith) _ (omega arith))
+write-code-requires c κs = rw (c .before .before .normalise .ensures .0) (normalise-small _ _)
 
 -- src/lib.rt:135:1
 same-length : tie.Need-same-length

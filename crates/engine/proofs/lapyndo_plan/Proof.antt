@@ -1,8 +1,7 @@
 use mathlib.Core.Path.{ap, _∙_}
-use native.Mathlib.Omega.{arith}
 use Rattle.model.specs.declared.PlanAnswer.{PlanAnswer}
 use Rattle.model.specs.Exports.{planCode, planRecordCount, planFirstMoves}
-use Rattle.engine.specs.Sizes.{plan-fits}
+use Rattle.model.specs.Theorems.AnswerSizes.{plan-small}
 use borrow.Author.Needs.{needs}
 use Rattle.engine.proofs.lapyndo_plan.Statement.{statement}
 use Rattle.engine.proofs.lapyndo_plan.Tie as tie
@@ -17,7 +16,7 @@ plan-requires c κs = search needs
 
 -- src/lib.rt:180:5
 plan-code-requires : tie.Need-plan-code-requires
-plan-code-requires c κs = rw (c .before .before .before .before .before .plan .ensures .0) (plan-fits _ (omega arith) _ _ _)
+plan-code-requires c κs = rw (c .before .before .before .before .before .plan .ensures .0) (plan-small _ _ _ _)
 
 -- src/lib.rt:165:1
 same-length : tie.Need-same-length

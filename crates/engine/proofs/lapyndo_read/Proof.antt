@@ -1,7 +1,6 @@
 use mathlib.Core.Path.{ap, _∙_}
-use native.Mathlib.Omega.{arith}
 use Rattle.model.specs.Exports.{readCode}
-use Rattle.engine.specs.Sizes.{read-fits}
+use Rattle.model.specs.Theorems.AnswerSizes.{read-small}
 use borrow.Author.Needs.{needs}
 use Rattle.engine.proofs.lapyndo_read.Statement.{statement}
 use Rattle.engine.proofs.lapyndo_read.Tie as tie
@@ -16,7 +15,7 @@ read-requires c κs = search needs
 
 -- src/lib.rt:102:5
 read-code-requires : tie.Need-read-code-requires
-read-code-requires c κs = rw (c .read .ensures) (read-fits _ (omega arith))
+read-code-requires c κs = rw (c .read .ensures) (read-small _)
 
 -- src/lib.rt:98:1
 returns : tie.Need-returns

@@ -3,8 +3,7 @@ use mathlib.Core.Path.{refl, subst}
 use native.Mathlib.Omega.{arith}
 use Rattle.model.specs.Exports.{planCode, planRecordCount, planFirstMoves}
 use Rattle.model.specs.Theorems.Places.{Small}
-use Rattle.model.specs.Theorems.AnswerSizes.{PlanSmall}
-use Rattle.engine.specs.Sizes.{hostLimit}
+use Rattle.model.specs.Theorems.AnswerSizes.{placeLimit, PlanSmall}
 use Rattle.engine.proofs.plan_code.Statement.{statement}
 use Rattle.engine.proofs.plan_code.Tie as tie
 use Rattle.engine.proofs.plan_code.Reads as reads
@@ -21,7 +20,7 @@ enum-known-a-2 c = search needs
 
 -- src/lib.rt:82:13
 add-result : tie.Need-add-result
-add-result c = record { fits = omega (arith, subst (PlanSmall hostLimit) (c .before .a2 .given .1) (c .before .before .before .pre .small) .0) }
+add-result c = record { fits = omega (arith, subst PlanSmall (c .before .a2 .given .1) (c .before .before .before .pre) .0) }
 
 -- src/lib.rt:84:29
 enum-known-a-3 : tie.Need-enum-known-a-3
@@ -30,8 +29,8 @@ enum-known-a-3 c = search needs
 -- src/lib.rt:84:35
 refusal-code-requires : tie.Need-refusal-code-requires
 refusal-code-requires c κs =
-    let small : Small hostLimit (c .before .a3 .given .0 .0) =
-    subst (PlanSmall hostLimit) (c .before .a3 .given .1) (c .before .before .before .pre .small) in
+    let small : Small placeLimit (c .before .a3 .given .0 .0) =
+    subst PlanSmall (c .before .a3 .given .1) (c .before .before .before .pre) in
     (small .number, small .place)
 
 -- src/lib.rt:59:1

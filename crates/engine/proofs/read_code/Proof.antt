@@ -1,9 +1,8 @@
 use borrow.Author.Needs.{needs}
 use mathlib.Core.Path.{sym, ap, subst, _∙_}
 use Rattle.model.specs.Exports.{readCode}
-use Rattle.engine.specs.Sizes.{hostLimit}
 use Rattle.model.specs.Theorems.Places.{Small}
-use Rattle.model.specs.Theorems.AnswerSizes.{ReadSmall}
+use Rattle.model.specs.Theorems.AnswerSizes.{placeLimit, ReadSmall}
 use Rattle.engine.proofs.read_code.Statement.{statement}
 use Rattle.engine.proofs.read_code.Tie as tie
 use Rattle.engine.proofs.read_code.Reads as reads
@@ -17,7 +16,7 @@ enum-known-a c = search needs
 
 -- src/lib.rt:33:14
 head-code-requires : tie.Need-head-code-requires
-head-code-requires c κs = subst (ReadSmall hostLimit) (c .before .a .given .1) (c .before .before .before .pre .small)
+head-code-requires c κs = subst ReadSmall (c .before .a .given .1) (c .before .before .before .pre)
 
 -- src/lib.rt:34:29
 enum-known-a-2 : tie.Need-enum-known-a-2
@@ -26,8 +25,8 @@ enum-known-a-2 c = search needs
 -- src/lib.rt:34:35
 refusal-code-requires : tie.Need-refusal-code-requires
 refusal-code-requires c κs =
-    let small : Small hostLimit (c .before .a2 .given .0 .0) =
-    subst (ReadSmall hostLimit) (c .before .a2 .given .1) (c .before .before .before .pre .small) in
+    let small : Small placeLimit (c .before .a2 .given .0 .0) =
+    subst ReadSmall (c .before .a2 .given .1) (c .before .before .before .pre) in
     (small .number, small .place)
 
 -- src/lib.rt:23:1

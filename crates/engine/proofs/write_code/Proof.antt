@@ -2,8 +2,7 @@ use borrow.Author.Needs.{needs}
 use mathlib.Core.Path.{sym, ap, subst, _∙_}
 use Rattle.model.specs.Exports.{writeCode}
 use Rattle.model.specs.Theorems.Places.{Small}
-use Rattle.model.specs.Theorems.AnswerSizes.{WriteSmall}
-use Rattle.engine.specs.Sizes.{hostLimit}
+use Rattle.model.specs.Theorems.AnswerSizes.{placeLimit, WriteSmall}
 use Rattle.engine.proofs.write_code.Statement.{statement}
 use Rattle.engine.proofs.write_code.Tie as tie
 use Rattle.engine.proofs.write_code.Reads as reads
@@ -21,8 +20,8 @@ enum-known-a-2 c = search needs
 -- src/lib.rt:44:36
 refusal-code-requires : tie.Need-refusal-code-requires
 refusal-code-requires c κs =
-    let small : Small hostLimit (c .before .a2 .given .0 .0) =
-    subst (WriteSmall hostLimit hostLimit) (c .before .a2 .given .1) (c .before .before .before .pre .small) in
+    let small : Small placeLimit (c .before .a2 .given .0 .0) =
+    subst (WriteSmall 64_000) (c .before .a2 .given .1) (c .before .before .before .pre) in
     (small .number, small .place)
 
 -- src/lib.rt:38:1

@@ -1,7 +1,7 @@
 -- `decide` meets its contract. Assumes nothing.
 use mathlib.Core.Path.{subst}
 use Rattle.layers.specs.declared.Prepared.{Prepared}
-use Rattle.layers.specs.Preparing.{ReadyIn, IsPrepared, ready-buildable, decided-refused, decided-built}
+use Rattle.layers.specs.Preparing.{ReadyIn, IsPrepared, ready-buildable, decided-within, decided-refused, decided-built}
 use borrow.Author.Needs.{needs}
 use Rattle.layers.proofs.decide.Statement.{statement}
 use Rattle.layers.proofs.decide.Tie as tie
@@ -33,7 +33,7 @@ returns c =
     let a = c .before .before .before .before .before .before .before .args in
     let d = decided-refused (a .table .now) (a .state .now) (a .layers .now)
     (subst (λ (r : Prepared). IsPrepared (a .table .now) (a .state .now) (c .before .before .before .prepare .last .1 .1 .0) r) (c .before .r .given .1) (c .before .before .before .prepare .ensures)) in
-    (d .answers, d .leaves)
+    (d .answers, d .leaves, decided-within d)
 
 same-length : tie.Need-same-length
 same-length c = c .before .before .build .kept .1 .1 .1 .1 .1 .1 .0
@@ -43,7 +43,7 @@ returns-2 c =
     let a = c .before .before .before .before .before .before .before .before .before .before .before .before .args in
     let r = accepted-both (c .before .before .before .before .before) in
     let d = decided-built (a .table .now) (a .state .now) (a .layers .now) (c .before .before .build .last .1 .1 .1 .1 .1 .1 .0) (r .is) (c .before .before .build .ensures .is (r .task) (r .outlined) (r .counts)) (c .answer .ensures) in
-    (d .answers, d .leaves)
+    (d .answers, d .leaves, decided-within d)
 
 pub decide-spec : {M : Type 1} → statement M
 decide-spec =

@@ -1,99 +1,66 @@
--- `step` meets its contract. The invariant: the moves passed are taken in. The measure is the number of moves left. Assumes nothing.
-use Prim.Native.Nat.{_-_, _≤_}
-use Rattle.layers.specs.Stepping.{Stepping, stepping-start, stepping-next, stepping-end, steppable-marks, steppable-ordered, steppable-within, steppable-takeable}
+-- `step` meets its contract. Assumes nothing.
+use borrow.Author.Needs.{needs}
+use borrow.Author.Tests.{not-true, not-false}
 use native.Mathlib.Omega.{arith}
+use Rattle.layers.specs.Step.{steppable-row, stepped-same, stepped-large, stepped-short, stepped-new}
 use Rattle.layers.proofs.step.Statement.{statement}
 use Rattle.layers.proofs.step.Tie as tie
 
-abbrev Inv-loop : tie.InvT-loop
-Inv-loop table marks moves has row flags₀ next₀ used₀ b₀ flags next used b = (b ≤ moves) × Stepping table marks moves has row flags₀ next₀ used₀ b flags next used
+slice-aggregate-use-moves : tie.Need-slice-aggregate-use-moves
+slice-aggregate-use-moves c = search needs
 
-abbrev μ-loop : tie.MeasureT-loop
-μ-loop table marks moves has row flags₀ next₀ used₀ b₀ flags next used b = moves - b
+use-moves-requires : tie.Need-use-moves-requires
+use-moves-requires c κs = search needs
 
-loop-holds : tie.Need-loop-holds Inv-loop μ-loop
-loop-holds c = (omega arith, stepping-start)
+slice-aggregate-settled : tie.Need-slice-aggregate-settled
+slice-aggregate-settled c = search needs
 
-mul-from : tie.Need-mul-from Inv-loop μ-loop
-mul-from c = omega (arith, steppable-marks (c .before .before .before .before .before .before .before .pre) (c .loop-test .taken))
+settled-requires : tie.Need-settled-requires
+settled-requires c κs = search needs
 
-shared-slice-read-from : tie.Need-shared-slice-read-from Inv-loop μ-loop
-shared-slice-read-from c = omega (arith, steppable-marks (c .before .before .before .before .before .before .before .before .pre) (c .before .loop-test .taken))
+returns : tie.Need-returns
+returns c = stepped-same (c .before .before .before .before .before .before .before .before .use-moves .ensures) (c .before .settled .ensures) (c .if1 .taken)
 
-add-to : tie.Need-add-to Inv-loop μ-loop
-add-to c = omega (arith, steppable-marks (c .before .before .before .before .before .before .before .before .pre) (c .before .loop-test .taken))
+slice-aggregate-all-within : tie.Need-slice-aggregate-all-within
+slice-aggregate-all-within c = search needs
 
-mul-to : tie.Need-mul-to Inv-loop μ-loop
-mul-to c = omega (arith, steppable-marks (c .before .before .before .before .before .before .before .before .pre) (c .before .loop-test .taken))
+all-within-requires : tie.Need-all-within-requires
+all-within-requires c κs = search needs
 
-shared-slice-read-to : tie.Need-shared-slice-read-to Inv-loop μ-loop
-shared-slice-read-to c = steppable-marks (c .before .before .before .before .before .before .before .before .before .pre) (c .before .before .loop-test .taken)
+returns-2 : tie.Need-returns-2
+returns-2 c = stepped-large (c .before .before .before .before .before .before .before .before .before .before .before .use-moves .ensures) (c .before .before .before .before .settled .ensures) (c .before .before .before .if1 .left) (c .before .all-within .ensures) (not-true _ (c .if2 .taken))
 
-sub-part : tie.Need-sub-part Inv-loop μ-loop
-sub-part c = steppable-ordered (c .before .before .before .before .before .before .before .before .before .pre) (c .before .before .loop-test .taken)
+returns-3 : tie.Need-returns-3
+returns-3 c =
+    stepped-short (c .before .before .before .before .before .before .before .before .before .before .before .before .before .use-moves .ensures) (c .before .before .before .before .before .before .settled .ensures) (c .before .before .before .before .before .if1 .left) (c .before .before .before .all-within .ensures) (not-false _ (c .before .before .if2 .left)) (c .if3 .taken)
 
-part-part-start : tie.Need-part-part-start Inv-loop μ-loop
-part-part-start c = steppable-ordered (c .before .before .before .before .before .before .before .before .before .pre) (c .before .before .loop-test .taken)
+slice-aggregate-copy-row : tie.Need-slice-aggregate-copy-row
+slice-aggregate-copy-row c = search needs
 
-part-part-end : tie.Need-part-part-end Inv-loop μ-loop
-part-part-end c = steppable-within (c .before .before .before .before .before .before .before .before .before .pre) (c .before .before .loop-test .taken)
+copy-row-requires : tie.Need-copy-row-requires
+copy-row-requires c κs = (omega (arith, steppable-row (c .before .before .before .before .before .before .before .before .before .before .before .before .before .before .before .before .before .before .before .before .before .before .before .before .pre), c .before .before .before .before .before .before .before .before .before .before .before .before .before .before .before .use-moves .kept .1 .1 .1 .1 .1 .1 .0), omega (arith, c .before .before .if3 .left))
 
-slice-read-before : tie.Need-slice-read-before Inv-loop μ-loop
-slice-read-before c = omega (arith, c .before .before .before .before .before .before .before .before .before .before .before .pre .used-room, c .before .before .before .before .before .loop .inv .1 .same-used)
+same-length : tie.Need-same-length
+same-length c = search needs
 
-take-in-requires : tie.Need-take-in-requires Inv-loop μ-loop
-take-in-requires c κs =
-    let i = c .before .before .before .before .before .before in
-    steppable-takeable (i .before .before .before .before .before .before .before .pre) (i .loop-test .taken) (i .before .loop .inv .1 .same-flags) (i .before .loop .inv .1 .same-values)
-
-slice-write-used : tie.Need-slice-write-used Inv-loop μ-loop
-slice-write-used c = omega (arith, c .before .before .before .before .before .before .before .before .before .before .before .before .before .before .before .before .before .pre .used-room, c .before .before .before .before .before .before .before .before .before .before .before .loop .inv .1 .same-used)
-
-add-b : tie.Need-add-b Inv-loop μ-loop
-add-b c = omega arith
-
-loop-less : tie.Need-loop-less Inv-loop μ-loop
-loop-less c = omega arith
-
-loop-again : tie.Need-loop-again Inv-loop μ-loop
-loop-again c =
-    let t = c .before .before .before .take-in in
-    (omega arith, stepping-next (c .before .before .before .before .before .before .before .before .before .before .before .loop .inv .1) (c .before .before .before .before .before .before .before .before .before .before .loop-test .taken) (c .before .before .before .before .before .before .before .before .before .before .before .before .before .before .before .before .before .pre .used-room) (t .kept .1 .1 .1 .1 .0) (t .kept .1 .1 .1 .1 .1 .0) (t .ensures))
-
-same-length : tie.Need-same-length Inv-loop μ-loop
-same-length c = c .before .loop .inv .1 .same-flags
-
-same-length-2 : tie.Need-same-length-2 Inv-loop μ-loop
-same-length-2 c = c .before .loop .inv .1 .same-values
-
-same-length-3 : tie.Need-same-length-3 Inv-loop μ-loop
-same-length-3 c = c .before .loop .inv .1 .same-used
-
-returns : tie.Need-returns Inv-loop μ-loop
-returns c = stepping-end (c .before .loop .inv .1) (c .loop-test .left) (c .before .before .before .before .before .before .before .pre .used-room)
+returns-4 : tie.Need-returns-4
+returns-4 c =
+    stepped-new (c .before .before .before .before .before .before .before .before .before .before .before .before .before .before .before .before .before .use-moves .ensures) (c .before .before .before .before .before .before .before .before .before .before .settled .ensures) (c .before .before .before .before .before .before .before .before .before .if1 .left) (c .before .before .before .before .before .before .before .all-within .ensures) (not-false _ (c .before .before .before .before .before .before .if2 .left)) (c .before .before .before .before .if3 .left) (c .before .copy-row .ensures)
 
 pub step-spec : {M : Type 1} → statement M
 step-spec =
     tie.close
     (tie.spec
-    Inv-loop
-    μ-loop
-    loop-holds
-    mul-from
-    shared-slice-read-from
-    add-to
-    mul-to
-    shared-slice-read-to
-    sub-part
-    part-part-start
-    part-part-end
-    slice-read-before
-    take-in-requires
-    slice-write-used
-    add-b
-    loop-less
-    loop-again
+    slice-aggregate-use-moves
+    use-moves-requires
+    slice-aggregate-settled
+    settled-requires
+    returns
+    slice-aggregate-all-within
+    all-within-requires
+    returns-2
+    returns-3
+    slice-aggregate-copy-row
+    copy-row-requires
     same-length
-    same-length-2
-    same-length-3
-    returns)
+    returns-4)

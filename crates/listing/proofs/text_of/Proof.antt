@@ -4,7 +4,7 @@ use mathlib.Core.List.{List}
 use lib.ListN.{length, take}
 use lib.Seq.{length-take-le}
 use Rattle.model.specs.declared.PlanAnswer.{PlanAnswer}
-use Rattle.engine.specs.Campaign.{written-hands}
+use Rattle.model.specs.Theorems.Demand2.{written-hands}
 use Rattle.report.specs.Answer.{printedText}
 use Rattle.listing.specs.Rooms.{printed-is, refused-room, refused-text, planned-room, planned-text, plan-same-out}
 use borrow.Author.Needs.{needs}

@@ -124,3 +124,7 @@ reading-form L f t {k} e = go f (k .header .form) (reading-accepted L (only f) t
     go written normal h = absurd h
     go normal written h = absurd h
     go normal normal h = refl
+
+-- Its task is within every limit of that head.
+pub reading-task : (L : Limits) (f : Form) (t : List ℕ) {k : Table} → reading L (only f) t ≡ accepted k → TaskOk L f (k .task)
+reading-task L f t {k} e = subst (λ (g : Form). TaskOk L g (k .task)) (reading-form L f t e) (reading-ok L (only f) t e)

@@ -11,13 +11,15 @@ use lib.ListN.{length}
 use Rattle.model.specs.Limits.{Limits}
 use Rattle.model.specs.Task.{normal, Task}
 use Rattle.model.specs.Move.{State, relaxed, Solves}
-use Rattle.model.specs.Layer.{meetsGoal, settled, Outcome, reached, exhausted, reported, searchFrom, bound, outcome}
+use Rattle.model.specs.Layer.{layerAt, meetsGoal, settled, Outcome, reached, exhausted, reported, searchFrom, bound, outcome}
 use Rattle.model.specs.Theorems.WellFormed.{TaskOk}
 use Rattle.model.specs.Theorems.Searching.{below-suc}
+use Rattle.model.specs.Theorems.Settled.{settled-equal}
 use Rattle.model.specs.Theorems.Relaxation.{no-plan}
 use Rattle.model.specs.Theorems.Bound.{layers-bound}
 
--- building goes past every layer below t: none meets the goal, none has an equal next layer
+-- building goes past every layer below t: none meets the goal, none has an equal next layer (exactly then is a layer `settled`,
+-- `Theorems.Settled.settled-equal`)
 pub record Passed (k : Task) (s : State) (t : ℕ) : Type 0 where
   pub unmet : (u : ℕ) → u < t → meetsGoal k s u ≡ false
   pub unsettled : (u : ℕ) → u < t → settled k s u ≡ false
@@ -32,6 +34,11 @@ pub record Exhausted (k : Task) (s : State) (t : ℕ) : Type 0 where
   pub passed : Passed k s t
   pub unmet : meetsGoal k s t ≡ false
   pub settles : settled k s t ≡ true
+
+-- "the first t whose next layer equals layer t", said of the layers themselves
+pub record FirstEqual (k : Task) (s : State) (t : ℕ) : Type 0 where
+  pub equal : layerAt k s (suc t) ≡ layerAt k s t
+  pub first : (u : ℕ) → u < t → layerAt k s (suc u) ≡ layerAt k s u → ⊥
 
 -- the answer is right
 abbrev pub Answered : Task → State → Outcome → Type 0
@@ -129,6 +136,14 @@ module _ {L : Limits} {k : Task} (ok : TaskOk L normal k) (s : State) where
   -- a right answer, found in whatever way, is the outcome
   pub outcome-unique : (o : Outcome) → Answered k s o → outcome k s ≡ o
   outcome-unique o a = answered-unique k s (outcome k s) o answered a
+
+  -- "no plan" ends with that layer
+  pub exhausted-first : (t : ℕ) → Exhausted k s t → FirstEqual k s t
+  exhausted-first t a =
+      record {
+        equal = settled-equal ok s t .0 (a .settles);
+        first = λ u h e. true≢false (sym (settled-equal ok s u .1 e) ∙ a .passed .unsettled u h);
+      }
 
   -- "Reported layers" are at most (A + N + 1) × (N + 1)
   pub reported-bound : reported (outcome k s) ≤ bound (length (k .moves)) (k .vars)

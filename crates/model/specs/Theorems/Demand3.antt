@@ -4,12 +4,11 @@ use Prim.Native.Nat.{ℕ, _*_, _/_, _≤_}
 use mathlib.Core.Path.{_≡_, refl, ap, _∙_}
 use mathlib.Core.Logic.{_↔_}
 use mathlib.Core.Bool.{false}
-use mathlib.Core.List.{List, [], _∷_}
+use mathlib.Core.List.{List, map}
 use mathlib.Core.Option.{Option, none, some}
 use native.Mathlib.Omega.{arith}
 use lib.IntN.{ℤ}
-use lib.ListN.{length, take, drop, length-append}
-use lib.Seq.{take-append-seam}
+use lib.ListN.{length}
 use borrow.Author.Tests.{le-ltb}
 use Rattle.model.specs.Limits.{paper}
 use Rattle.model.specs.Task.{written, normal, Task}
@@ -19,15 +18,16 @@ use Rattle.model.specs.Layer.{Outcome, reported, outcome}
 use Rattle.model.specs.Reading.{Table, accepted, only, reading}
 use Rattle.model.specs.StateTable.{stateOf, stateRefusal}
 use Rattle.model.specs.Memory.{Built, room, wrong15, answered, build, overwrite}
-use Rattle.model.specs.Plan.{Record, records, firstMoves, planList}
-use Rattle.integer.specs.BigEndian.{bytes, length-bytes}
-use Rattle.model.specs.Calls.{Ready, writes, fitted, writeAnswer, outputAfter, normalOf, normalised, ready, readyWith, readyOf, prepared, normalBytes, normaliseAnswer, normaliseOut, decideAnswer, planAnswer, planOut, planRecords, recordBytes, decided, decideOf, planned, planOf, planFitted, planOutOf}
+use Rattle.model.specs.Plan.{Record, records, firstMoves, moveAndCount, planList}
+use Rattle.integer.specs.BigEndian.{AllBytes}
+use Rattle.model.specs.Calls.{Ready, writes, fitted, outputAfter, ready, readyWith, readyOf, prepared, normalBytes, normaliseAnswer, decideAnswer, planAnswer, planOut, planRecords, recordBytes, recordsRead, decided, decideOf, planned, planOf, planFitted, planOutOf}
 use Rattle.model.specs.declared.WriteAnswer.the-variants as write
 use Rattle.model.specs.declared.DecideAnswer.{DecideAnswer}
 use Rattle.model.specs.declared.DecideAnswer.the-variants as decide
 use Rattle.model.specs.declared.PlanAnswer.{PlanAnswer}
 use Rattle.model.specs.declared.PlanAnswer.the-variants as plan
-use Rattle.model.specs.Theorems.Answer.{Reached}
+use Rattle.model.specs.Theorems.Answer.{Reached, Exhausted, FirstEqual}
+use Rattle.model.specs.Theorems.Records.{length-recordBytes}
 
 -- "The relaxed task is the normal table run with relaxed moves from layer 0."
 abbrev pub relaxedTask : Table → Task
@@ -59,10 +59,6 @@ pub record Given (t bs spare : List ℕ) (layers : List ℤ) (out : List ℕ) : 
   pub small :
       (u : ℕ) → u ≤ reported (endOf table bs) → wrong15 paper (relaxedTask table) (layerZero table bs) u ≡ false
 
--- the bytes that normalise leaves: as many from the start of its output as it answers
-abbrev pub normalPart : List ℕ → List ℕ → ℕ → List ℕ
-normalPart t spare n = take n (normaliseOut paper t spare)
-
 -- "no plan" as decide's and as plan's answer
 pub record DecideNoPlan (r : DecideAnswer) : Type 0 where
   pub layers : ℕ
@@ -83,19 +79,36 @@ planLayers (plan.Plan layer layers records moves) = some layers
 planLayers (plan.NoPlan layers records moves) = some layers
 planLayers (plan.Refused r) = none
 
+-- the records of the plan that document 01 defines
+abbrev pub recordsOf : Table → List ℕ → ℕ → List Record
+recordsOf w bs layer = records (relaxedTask w) (layerZero w bs) layer
+
+-- "no plan": the reported layers, and that nothing is written
+pub record NotFound (w : Table) (bs : List ℕ) (d : DecideAnswer) (p : PlanAnswer) (before after : List ℕ) : Type 0 where
+  pub layers : ℕ
+  -- "with "no plan", the first t whose next layer equals layer t"
+  pub lastLayer : FirstEqual (relaxedTask w) (layerZero w bs) layers
+  -- no layer up to it meets the goal
+  pub exhausted : Exhausted (relaxedTask w) (layerZero w bs) layers
+  pub decides : d ≡ decide.NoPlan layers
+  pub plans : p ≡ plan.NoPlan layers 0 0
+  -- "it writes no plan bytes"
+  pub kept : after ≡ before
+
 -- "otherwise": the answer layer, the records and the list
 pub record Found (w : Table) (bs : List ℕ) (d : DecideAnswer) (p : PlanAnswer) (before after : List ℕ) : Type 0 where
   pub layer : ℕ
   -- it is the first layer that meets the goal, and no layer before it equals its next one
   pub answerLayer : Reached (relaxedTask w) (layerZero w bs) layer
   pub decides : d ≡ decide.Plan layer layer
-  pub plans :
-      p
-      ≡ plan.Plan layer layer (length (records (relaxedTask w) (layerZero w bs) layer))
-      (firstMoves (records (relaxedTask w) (layerZero w bs) layer))
-  pub written : after ≡ overwrite (recordBytes (records (relaxedTask w) (layerZero w bs) layer)) before
-  pub solves :
-      Solves relaxed (relaxedTask w) (layerZero w bs) (planList (records (relaxedTask w) (layerZero w bs) layer))
+  pub plans : p ≡ plan.Plan layer layer (length (recordsOf w bs layer)) (firstMoves (recordsOf w bs layer))
+  -- the output holds the records, and nothing behind them is changed
+  pub written : after ≡ overwrite (recordBytes (recordsOf w bs layer)) before
+  pub bytes : AllBytes (recordBytes (recordsOf w bs layer))
+  -- read back from the output, as many records as plan answers are these,
+  pub read : recordsRead (length (recordsOf w bs layer)) after ≡ some (map moveAndCount (recordsOf w bs layer))
+  -- and the list of what is read back solves the relaxed task
+  pub solves : Solves relaxed (relaxedTask w) (layerZero w bs) (planList (map moveAndCount (recordsOf w bs layer)))
 
 pub record Answers
     (w : Table) (t bs spare : List ℕ) (layers : List ℤ) (out nb : List ℕ) (d : DecideAnswer) (p : PlanAnswer) : Type 0 where
@@ -110,6 +123,8 @@ pub record Answers
   -- both give the reported layers
   pub decideReports : decideLayers d ≡ some (reported (endOf w bs))
   pub planReports : planLayers p ≡ some (reported (endOf w bs))
+  -- with "no plan" these are the first layer whose next one equals it
+  pub notFound : DecideNoPlan d → NotFound w bs d p out (planOut paper nb bs layers out)
   -- otherwise the answer layer and the records, whose list solves the relaxed task
   pub found : (DecideNoPlan d → ⊥) → Found w bs d p out (planOut paper nb bs layers out)
 
@@ -127,26 +142,6 @@ pub ready-normal :
 unfolding prepared readyOf readyWith normalTask
 ready-normal w n bs e same state = rw (e, readyOf, same, half-double (w .task .vars), state) refl
 
-record-length : (rs : List Record) → length (recordBytes rs) ≡ 10 * length rs
-unfolding recordBytes
-record-length [] = refl
-record-length (r ∷ rs) =
-    omega (arith, length-append (bytes 8 (r .count)) (recordBytes rs), length-bytes 8 (r .count), record-length rs)
-
--- what normalise writes, and that decide and plan are given just that
-module _ (t spare : List ℕ) (w : Table) (read : reading paper (only written) t ≡ accepted w) (fits : length (normalBytes (w .task)) ≤ length spare) where
-  pub normalise-writes : normalised paper t (length spare) ≡ writes (normalBytes (w .task))
-  unfolding normalised normalOf fitted
-  normalise-writes = rw (read, le-ltb (length spare) (length (normalBytes (w .task))) fits, fitted) refl
-
-  pub normalise-answers : normaliseAnswer paper t spare ≡ write.Written (length (normalBytes (w .task)))
-  unfolding normaliseAnswer writeAnswer
-  normalise-answers = rw normalise-writes refl
-
-  pub normalise-leaves : normalPart t spare (length (normalBytes (w .task))) ≡ normalBytes (w .task)
-  unfolding normaliseOut outputAfter overwrite
-  normalise-leaves = rw normalise-writes (take-append-seam (normalBytes (w .task)) (drop (length (normalBytes (w .task))) spare))
-
 -- decide's and plan's answers where the layers are built to the end
 module _ (w n : Table) (bs : List ℕ) (layers : List ℤ) (out : List ℕ) (ready-is : prepared paper (normalBytes (w .task)) bs ≡ ready (relaxedTask w) (layerZero w bs)) (built : build paper (relaxedTask w) (layerZero w bs) (length layers) ≡ answered (endOf w bs)) where
   pub decide-answers : decideAnswer paper (normalBytes (w .task)) bs layers ≡ decided (answered (endOf w bs))
@@ -158,7 +153,7 @@ module _ (w n : Table) (bs : List ℕ) (layers : List ℤ) (out : List ℕ) (rea
 
   module _ (fits : 10 * length planned-records ≤ length out) where
     records-fit : length (recordBytes planned-records) ≤ length out
-    records-fit = omega (arith, record-length planned-records)
+    records-fit = omega (arith, length-recordBytes planned-records)
 
     pub plan-answers : planAnswer paper (normalBytes (w .task)) bs layers out ≡ planned planned-records (answered (endOf w bs))
     unfolding planAnswer planOf planFitted

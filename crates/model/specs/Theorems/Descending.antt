@@ -3,7 +3,7 @@
 use Prim.Native.Nat.{ℕ, _<_}
 use native.Mathlib.Omega.{arith}
 use mathlib.Core.Path.{_≡_, refl, sym, subst}
-use mathlib.Core.Bool.{Bool, true, false}
+use mathlib.Core.Bool.{Bool, true, false, not, _&&_}
 use lib.Dec.{T}
 use lib.IntN.{ℤ, _-ℤ_}
 use lib.ListN.{length}
@@ -12,17 +12,17 @@ use Rattle.model.specs.Lists.{foldBelow}
 use Rattle.model.specs.Task.{normal, Block, Task, effectOn}
 use Rattle.model.specs.Move.{State, moveAt}
 use Rattle.model.specs.Layer.{Value, Layer, reaches, usable, layerValue, gained, raised, next, layerOf}
-use Rattle.model.specs.Plan.{Target, free, least, Wants, wantBlock, Descent, adder, takeAdder, demand, achieves, achiever, runs, takeEffect, takeAchiever, carryProp, carryValue, descendProp, descendValue, descend}
+use Rattle.model.specs.Plan.{Target, free, least, Wants, wantBlock, Descent, adder, takeAdder, demand, achieves, achiever, runs, takeEffect, takeAchiever, carriedTarget, carried, carriedDown, takeProp, takeTarget, takeValue, descend}
 use Rattle.model.specs.Theorems.WellFormed.{ItemOk, TaskOk}
-use Rattle.model.specs.Theorems.Booleans.{or-cases}
+use Rattle.model.specs.Theorems.Booleans.{T-cases, and-left, and-right, and-both, or-cases, cond-cases}
 use Rattle.model.specs.Theorems.Searching.{below-suc, foldBelow-induction}
 use Rattle.model.specs.Theorems.Order.{finite-⊑, ⊑-reaches, reaches-mono}
 use Rattle.model.specs.Theorems.Layers.{effectOn-cases, move-ok}
-use Rattle.model.specs.Theorems.Targets.{EachTarget, Reached, noWants-each, wantProp-each, wantValue-each, Sat, wantProp-old, wantProp-new, wantValue-old, wantValue-new}
+use Rattle.model.specs.Theorems.Targets.{EachTarget, Reached, noWants-each, carried-each, Sat, sat-mono}
 use Rattle.model.specs.Theorems.Wanting.{wantSum-old}
 use Rattle.model.specs.Theorems.Conditions.{Had, wantSum-had, wantEffect-enough}
 use Rattle.model.specs.Theorems.Supporting.{adder-found, achiever-found, repeated, relaxed-adds, runs-reach}
-use Rattle.model.specs.Theorems.Taking.{grows-trans, Good, leads-grows, Step, nothing, taken, block-had, unwanted, carried}
+use Rattle.model.specs.Theorems.Taking.{grows-trans, Good, leads-grows, Step, nothing, taken, block-had, unwanted, carried as carried-wants}
 
 -- a test passes or fails
 pub elim-cases :
@@ -42,7 +42,46 @@ in-range :
 in-range v vars x y free had f = tt
 in-range v vars x y (least z) had f = f (had .0)
 
+not-both : (b : Bool) → T (not b) → T b → ⊥
+not-both true t u = t
+not-both false t u = u
+
+not-neither : (b : Bool) → (T b → ⊥) → T (not b)
+not-neither true f = f tt
+not-neither false f = tt
+
+-- what leads to Q leads to what follows from it
+step-map : {k : Task} {l : Layer} {s : State} {d e : Descent} {Q R : State → Type 0} → ((z : State) → Q z → R z) → Step k l s d e Q → Step k l s d e R
+step-map f st =
+    record {
+      good = st .good;
+      grows = st .grows;
+      leads = record { leads = λ y z above sat ran. f z (st .leads .leads y z above sat ran) };
+    }
+
 module _ {L : Limits} {k : Task} (ok : TaskOk L normal k) (l : Layer) (s : State) where
+  -- a target that the layer does not reach is reached in x
+  abbrev Raised : ℕ → Layer → Target → Type 0
+  Raised v x = EachTarget (λ (z : ℤ). (T (reaches (l .val v) z) → ⊥) → T (reaches (x .val v) z))
+
+  -- what is carried and what is taken make up what is wanted
+  prop-met :
+      (w : Wants) {x : Layer} → Sat (carried l w) x → (p : ℕ) → T (w .props p)
+      → (T (w .props p && not (l .has p)) → T (x .has p))
+      → T (x .has p)
+  unfolding carried
+  prop-met w {x} kept p t taken =
+      T-cases (l .has p) (λ has. kept .each .props p (and-both (w .props p) (l .has p) t has))
+      (λ lacks. taken (and-both (w .props p) (not (l .has p)) t (not-neither (l .has p) lacks)))
+
+  target-met :
+      (x : Layer) (v : ℕ) (t : Target) → Reached (x .val v) (carriedTarget (l .val v) t) → Raised v x t → Reached (x .val v) t
+  unfolding carriedTarget
+  target-met x v free kept taken = tt
+  target-met x v (least z) kept taken =
+      cond-cases (λ t. Reached (x .val v) t → T (reaches (x .val v) z)) (reaches (l .val v) z) (least z) free
+      (λ has r. r) (λ low r. taken low) kept
+
   -- the effect of a move that achieves the target z on v
   effect-step :
       (d : Descent) (v : ℕ) (z : ℤ) (b : ℕ)
@@ -79,72 +118,68 @@ module _ {L : Limits} {k : Task} (ok : TaskOk L normal k) (l : Layer) (s : State
       wish y = T (reaches ((layerOf y) .val v) z)
 
   module _ {w : Wants} (had-next : Had (k .props) (k .vars) (next (k .moves) l) w) where
+    -- what the layer has
+    carry-step : Step k l s nothing (carriedDown l w) (λ z. Sat (carried l w) (layerOf z))
+    carry-step =
+        carried-wants k l s (λ z. Sat (carried l w) (layerOf z))
+        (record {
+          had = record { each = noWants-each };
+          move = λ b h. absurd (omega arith);
+          enabled = λ b h. absurd (omega arith);
+        })
+        (record { each = carried-each l (λ p h t. (h .0, t)) (λ v z h t. (h .0, t)) (had-next .each) })
+        (λ x sat. record { each = noWants-each })
+        (λ y z above sat. sat-mono sat (above .order))
+
     prop-step :
         (p : ℕ) (d : Descent)
         → Good k l s d
-        → Step k l s d (descendProp k l s w p d) (λ z. T (w .props p) → T (z .has p))
-    unfolding descendProp carryProp takeAdder next layerOf repeated
+        → Step k l s d (takeProp k l s w p d) (λ z. T (w .props p && not (l .has p)) → T (z .has p))
+    unfolding takeProp takeAdder next layerOf repeated
     prop-step p d good =
-        elim-cases goal (w .props p) (elim (l .has p) [ true ↦ carryProp d p | false ↦ takeAdder k l s d (adder k l p) ]) d
-        (λ wanted. elim-cases goal (l .has p) (carryProp d p) (takeAdder k l s d (adder k l p)) (has-it wanted) (lacks-it wanted))
-        (λ not-wanted. unwanted k l s d good (λ z t. absurd (not-wanted t)))
+        elim-cases goal (w .props p && not (l .has p)) (takeAdder k l s d (adder k l p)) d lacks-it
+        (λ had. unwanted k l s d good (λ z t. absurd (had t)))
       where
         wish : State → Type 0
-        wish z = T (w .props p) → T (z .has p)
+        wish z = T (w .props p && not (l .has p)) → T (z .has p)
 
         goal : Descent → Type 0
         goal e = Step k l s d e wish
 
-        has-it : T (w .props p) → T (l .has p) → goal (carryProp d p)
-        has-it wanted has =
-            carried k l s wish good
-            (record { each = wantProp-each (good .had .each) (had-next .each .props p wanted .0, has) })
-            (λ x. wantProp-old (d .wants) p)
-            (λ y z above sat t. above .order .has p (wantProp-new (d .wants) p sat))
+        gained-it : T (w .props p && not (l .has p)) → T (gained l p (k .moves))
+        gained-it t =
+            or-cases (l .has p) (gained l p (k .moves)) (had-next .each .props p (and-left (w .props p) (not (l .has p)) t) .1)
+            (λ has. absurd (not-both (l .has p) (and-right (w .props p) (not (l .has p)) t) has)) (λ u. u)
 
-        gained-it : T (w .props p) → (T (l .has p) → ⊥) → T (gained l p (k .moves))
-        gained-it wanted lacks =
-            or-cases (l .has p) (gained l p (k .moves)) (had-next .each .props p wanted .1) (λ t. absurd (lacks t)) (λ t. t)
-
-        lacks-it : T (w .props p) → (T (l .has p) → ⊥) → goal (takeAdder k l s d (adder k l p))
-        lacks-it wanted lacks =
-            adder-found k l (λ o. goal (takeAdder k l s d o)) p (gained-it wanted lacks)
+        lacks-it : T (w .props p && not (l .has p)) → goal (takeAdder k l s d (adder k l p))
+        lacks-it t =
+            adder-found k l (λ o. goal (takeAdder k l s d o)) p (gained-it t)
             (λ b lt enabled new. taken ok l s b 1 wish good lt enabled
             (block-had ok l s b lt enabled (good .had))
-            (λ x t. t)
-            (λ y above sat t. relaxed-adds p (moveAt k b) y new)
-            (λ y z above q t. above .order .has p (q t)))
+            (λ x u. u)
+            (λ y above sat u. relaxed-adds p (moveAt k b) y new)
+            (λ y z above q u. above .order .has p (q u)))
 
     value-step :
         (v : ℕ) (d : Descent)
         → Good k l s d
-        → Step k l s d (descendValue k l s w v d) (λ y. Reached ((layerOf y) .val v) (w .target v))
-    unfolding descendValue carryValue takeAchiever next
+        → Step k l s d (takeValue k l s w v d) (λ y. Raised v (layerOf y) (w .target v))
+    unfolding takeValue takeTarget takeAchiever next
     value-step v d good = go (w .target v) (had-next .each .targets v)
       where
-        result : ℤ → Descent
-        result z =
-            elim (reaches (l .val v) z) [ true ↦ carryValue d v z | false ↦ takeAchiever k l s d v z (achiever k l v z) ]
-
         go :
             (t : Target)
             → EachTarget (λ q. (v < k .vars) × T (reaches (raised l v (k .moves)) q)) t
-            → Step k l s d (elim t [ free ↦ d | least z ↦ result z ]) (λ y. Reached ((layerOf y) .val v) t)
+            → Step k l s d (takeTarget k l s v t d) (λ y. Raised v (layerOf y) t)
         go free had = unwanted k l s d good (λ z. tt)
         go (least z) had =
-            elim-cases goal (reaches (l .val v) z) (carryValue d v z) (takeAchiever k l s d v z (achiever k l v z))
-            (λ reached. carried k l s wish good
-            (record { each = wantValue-each (good .had .each) (had .0, reached) })
-            (λ x. wantValue-old (d .wants) v z)
-            (λ y x above sat. reaches-mono z (above .order .val v) (wantValue-new (d .wants) v z sat)))
+            elim-cases goal (reaches (l .val v) z) d (takeAchiever k l s d v z (achiever k l v z))
+            (λ reached. unwanted k l s d good (λ y low. absurd (low reached)))
             (λ low. achiever-found k l (λ o. goal (takeAchiever k l s d v z o)) v z low (had .1)
-            (λ b lt enabled achieved. effect-step d v z b good lt enabled achieved))
+            (λ b lt enabled achieved. step-map (λ y t u. t) (effect-step d v z b good lt enabled achieved)))
           where
-            wish : State → Type 0
-            wish y = T (reaches ((layerOf y) .val v) z)
-
             goal : Descent → Type 0
-            goal e = Step k l s d e wish
+            goal e = Step k l s d e (λ y. (T (reaches (l .val v) z) → ⊥) → T (reaches ((layerOf y) .val v) z))
 
     -- ---- the layer as a whole
 
@@ -171,38 +206,39 @@ module _ {L : Limits} {k : Task} (ok : TaskOk L normal k) (l : Layer) (s : State
 
     -- the wants of the next layer, met after the moves counted in this one
     pub descend-step : Step k l s nothing (descend k l s w) (λ z. Sat w (layerOf z))
-    unfolding descend layerOf
+    unfolding descend carried layerOf
     descend-step =
         record {
           good = values .good;
-          grows = grows-trans (props .grows) (values .grows);
+          grows = grows-trans (carry-step .grows) (grows-trans (props .grows) (values .grows));
           leads = record {
-            leads = λ y z above sat ran. record {
-              each = record {
-                props = λ p t.
-                    leads-grows k l s (values .grows) (props .leads) .leads y z above sat ran p (had-next .each .props p t .0) t;
-                targets = λ v.
-                    in-range v (k .vars) (next (k .moves) l .val v) ((layerOf z) .val v) (w .target v)
-                    (had-next .each .targets v) (values .leads .leads y z above sat ran v);
-              };
-            };
+            leads = λ y z above sat ran.
+                let kept : Sat (carried l w) (layerOf z) =
+                leads-grows k l s (grows-trans (props .grows) (values .grows)) (carry-step .leads) .leads y z above sat ran in
+                record {
+                  each = record {
+                    props = λ p t.
+                        prop-met w kept p t
+                        (leads-grows k l s (values .grows) (props .leads) .leads y z above sat ran p (had-next .each .props p t .0));
+                    targets = λ v.
+                        in-range v (k .vars) (next (k .moves) l .val v) ((layerOf z) .val v) (w .target v)
+                        (had-next .each .targets v)
+                        (λ lt. target-met (layerOf z) v (w .target v) (kept .each .targets v) (values .leads .leads y z above sat ran v lt));
+                  };
+                };
           };
         }
       where
         props :
-            Step k l s nothing (foldBelow (descendProp k l s w) (k .props) nothing)
-            (λ z. (p : ℕ) → p < k .props → T (w .props p) → T (z .has p))
+            Step k l s (carriedDown l w) (foldBelow (takeProp k l s w) (k .props) (carriedDown l w))
+            (λ z. (p : ℕ) → p < k .props → T (w .props p && not (l .has p)) → T (z .has p))
         props =
-            all-steps (descendProp k l s w) (λ p z. T (w .props p) → T (z .has p)) prop-step (k .props) nothing
-            (record {
-              had = record { each = noWants-each };
-              move = λ b h. absurd (omega arith);
-              enabled = λ b h. absurd (omega arith);
-            })
+            all-steps (takeProp k l s w) (λ p z. T (w .props p && not (l .has p)) → T (z .has p)) prop-step (k .props)
+            (carriedDown l w) (carry-step .good)
 
         values :
-            Step k l s (foldBelow (descendProp k l s w) (k .props) nothing) (descend k l s w)
-            (λ z. (v : ℕ) → v < k .vars → Reached ((layerOf z) .val v) (w .target v))
+            Step k l s (foldBelow (takeProp k l s w) (k .props) (carriedDown l w)) (descend k l s w)
+            (λ z. (v : ℕ) → v < k .vars → Raised v (layerOf z) (w .target v))
         values =
-            all-steps (descendValue k l s w) (λ v z. Reached ((layerOf z) .val v) (w .target v)) value-step (k .vars)
-            (foldBelow (descendProp k l s w) (k .props) nothing) (props .good)
+            all-steps (takeValue k l s w) (λ v z. Raised v (layerOf z) (w .target v)) value-step (k .vars)
+            (foldBelow (takeProp k l s w) (k .props) (carriedDown l w)) (props .good)

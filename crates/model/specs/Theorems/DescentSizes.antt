@@ -2,7 +2,7 @@
 -- b + 8,001,000,000 and the counts at most b + 1,000,000, after each step of the way (document 01, "Plan"). Assumes nothing.
 use Prim.Native.Nat.{ℕ, _+_, _≤_, _<_, max}
 use native.Mathlib.Omega.{arith}
-use mathlib.Core.Bool.{true, false, _&&_}
+use mathlib.Core.Bool.{not, _&&_}
 use mathlib.Core.Option.{some}
 use lib.Dec.{T, eqb}
 use lib.IntN.{ℤ}
@@ -12,18 +12,17 @@ use Rattle.model.specs.Lists.{foldBelow}
 use Rattle.model.specs.Task.{normal, Effect, Task, adds, effectOn}
 use Rattle.model.specs.Move.{State, moveAt}
 use Rattle.model.specs.Layer.{Layer, reaches, usable, layerValue}
-use Rattle.model.specs.Plan.{Target, free, least, Wants, Descent, counted, adder, takeAdder, achieves, achiever, takeEffect, takeAchiever, carryProp, carryValue, descendProp, descendValue, descend}
+use Rattle.model.specs.Plan.{Target, free, least, Wants, Descent, counted, adder, takeAdder, achieves, achiever, takeEffect, takeAchiever, carriedDown, takeProp, takeTarget, takeValue, descend}
 use Rattle.model.specs.Theorems.WellFormed.{EffectOk, ItemOk, TaskOk}
 use Rattle.model.specs.Theorems.Booleans.{and-right, cond-cases}
 use Rattle.model.specs.Theorems.Searching.{firstFrom-cases, foldBelow-induction}
 use Rattle.model.specs.Theorems.Layers.{effectOn-cases, move-ok}
-use Rattle.model.specs.Theorems.Targets.{EachTarget}
-use Rattle.model.specs.Theorems.Taking.{nothing}
+use Rattle.model.specs.Theorems.Targets.{EachTarget, carried-each}
 use Rattle.model.specs.Theorems.Descending.{elim-cases}
 use Rattle.model.specs.Theorems.Sizes.{Between, between-wider, sum-few}
 use Rattle.model.specs.Theorems.StateSizes.{SmallState}
 use Rattle.model.specs.Theorems.LayerSizes.{SmallLayer}
-use Rattle.model.specs.Theorems.TargetSizes.{SmallWants, noWants-small, wantProp-small, wantValue-small, wantSum-small, wantBlock-small}
+use Rattle.model.specs.Theorems.TargetSizes.{SmallWants, wantSum-small, wantBlock-small}
 use Rattle.model.specs.Theorems.CountSizes.{unreached-between, wanted-between, runs-most}
 
 -- the wants and counts of one layer while they are made; b bounds the targets of the layer above
@@ -36,24 +35,13 @@ unfolding counted
 counted-most {f} {n} {most} b h k c =
     cond-cases (λ m. m ≤ most) (eqb c b) (max (f c) n) (f c) (λ e. omega (arith, h c)) (λ e. h c)
 
-module _ {b : ℕ} where
-  -- at the start
-  pub nothing-small : SmallDescent b nothing
-  nothing-small = record { wants = noWants-small; count = λ c. omega arith }
-
-  -- "what layer t−1 already has is carried down"
-  pub carryProp-small : {d : Descent} (p : ℕ) → SmallDescent b d → SmallDescent b (carryProp d p)
-  unfolding carryProp
-  carryProp-small p h = record { wants = wantProp-small p (h .wants); count = h .count }
-
-  pub carryValue-small :
-      {d : Descent} {z : ℤ} (v : ℕ)
-      → Between 9_000_000_000_000_000 b z
-      → SmallDescent b d
-      → SmallDescent b (carryValue d v z)
-  unfolding carryValue
-  carryValue-small v i h =
-      record { wants = wantValue-small v (between-wider (omega arith) (omega arith) i) (h .wants); count = h .count }
+-- "what layer t−1 already has is carried down": the targets are those of the layer above
+carried-small : {b : ℕ} {w : Wants} (l : Layer) → SmallWants b w → SmallDescent b (carriedDown l w)
+carried-small l h =
+    record {
+      wants = record { each = carried-each l (λ p u t. tt) (λ v z i t. between-wider (omega arith) (omega arith) i) (h .each) };
+      count = λ c. omega arith;
+    }
 
 module _
     {k : Task} {l : Layer} {s : State} {b : ℕ} (ok : TaskOk paper normal k)
@@ -107,42 +95,32 @@ module _
       (λ e at-v e-ok achieved. takeEffect-small v m v-lt m-lt e-ok near achieved h)
       t
 
-  -- one proposition that is wanted in the layer above, or not
-  pub descendProp-small : (w : Wants) {d : Descent} (p : ℕ) → SmallDescent b d → SmallDescent b (descendProp k l s w p d)
-  unfolding descendProp takeAdder adder
-  descendProp-small w {d} p h =
-      elim-cases (SmallDescent b) (w .props p)
-      (elim (l .has p) [ true ↦ carryProp d p | false ↦ takeAdder k l s d (adder k l p) ]) d
-      (λ wanted. elim-cases (SmallDescent b) (l .has p) (carryProp d p) (takeAdder k l s d (adder k l p))
-      (λ has. carryProp-small p h)
+  -- one proposition
+  takeProp-small : (w : Wants) {d : Descent} (p : ℕ) → SmallDescent b d → SmallDescent b (takeProp k l s w p d)
+  unfolding takeProp takeAdder adder
+  takeProp-small w {d} p h =
+      elim-cases (SmallDescent b) (w .props p && not (l .has p)) (takeAdder k l s d (adder k l p)) d
       (λ lacks. firstFrom-cases (λ m. usable l (moveAt k m) && adds p (moveAt k m))
       (λ o. SmallDescent b (takeAdder k l s d o)) 0 (length (k .moves))
       (λ m low high passes before. takeAdder-small m (omega arith) h)
-      (λ nobody. h)))
-      (λ unwanted. h)
+      (λ nobody. h))
+      (λ has. h)
 
   -- one target of the layer above
-  pub descendValue-small :
+  takeValue-small :
       {w : Wants} {d : Descent} (v : ℕ)
       → v < k .vars
       → SmallWants b w
       → SmallDescent b d
-      → SmallDescent b (descendValue k l s w v d)
-  unfolding descendValue takeAchiever achiever
-  descendValue-small {w} {d} v lt wanted h = go (w .target v) (wanted .each .targets v)
+      → SmallDescent b (takeValue k l s w v d)
+  unfolding takeValue takeTarget takeAchiever achiever
+  takeValue-small {w} {d} v lt wanted h = go (w .target v) (wanted .each .targets v)
     where
-      go :
-          (t : Target)
-          → EachTarget (Between 9_000_000_000_000_000 b) t
-          → SmallDescent b (elim t [
-            | free ↦ d
-            | least z ↦
-                elim (reaches (l .val v) z) [ true ↦ carryValue d v z | false ↦ takeAchiever k l s d v z (achiever k l v z) ]
-          ])
+      go : (t : Target) → EachTarget (Between 9_000_000_000_000_000 b) t → SmallDescent b (takeTarget k l s v t d)
       go free i = h
       go (least z) i =
-          elim-cases (SmallDescent b) (reaches (l .val v) z) (carryValue d v z) (takeAchiever k l s d v z (achiever k l v z))
-          (λ reached. carryValue-small v i h)
+          elim-cases (SmallDescent b) (reaches (l .val v) z) d (takeAchiever k l s d v z (achiever k l v z))
+          (λ reached. h)
           (λ low. firstFrom-cases (λ m. usable l (moveAt k m) && achieves l z (effectOn v (moveAt k m)))
           (λ o. SmallDescent b (takeAchiever k l s d v z o)) 0 (length (k .moves))
           (λ m from to passes before.
@@ -150,23 +128,12 @@ module _
           (and-right (usable l (moveAt k m)) (achieves l z (effectOn v (moveAt k m))) passes) h)
           (λ nobody. h))
 
-  -- after the propositions below n, and after the variables below n
-  pub descendProps-small : (w : Wants) (n : ℕ) → SmallDescent b (foldBelow (descendProp k l s w) n nothing)
-  descendProps-small w n =
-      foldBelow-induction (descendProp k l s w) (λ i d. SmallDescent b d) n nothing nothing-small
-      (λ i d lt h. descendProp-small w i h)
-
-  pub descendValues-small :
-      {w : Wants} {d : Descent} (n : ℕ)
-      → n ≤ k .vars
-      → SmallWants b w
-      → SmallDescent b d
-      → SmallDescent b (foldBelow (descendValue k l s w) n d)
-  descendValues-small {w} {d} n most wanted h =
-      foldBelow-induction (descendValue k l s w) (λ i e. SmallDescent b e) n d h
-      (λ i e lt j. descendValue-small i (omega arith) wanted j)
-
   -- one layer down
   pub descend-small : {w : Wants} → SmallWants b w → SmallDescent b (descend k l s w)
   unfolding descend
-  descend-small {w} wanted = descendValues-small (k .vars) (omega arith) wanted (descendProps-small w (k .props))
+  descend-small {w} wanted =
+      foldBelow-induction (takeValue k l s w) (λ i e. SmallDescent b e) (k .vars)
+      (foldBelow (takeProp k l s w) (k .props) (carriedDown l w))
+      (foldBelow-induction (takeProp k l s w) (λ i d. SmallDescent b d) (k .props) (carriedDown l w)
+      (carried-small l wanted) (λ i d lt h. takeProp-small w i h))
+      (λ i e lt j. takeValue-small i lt wanted j)

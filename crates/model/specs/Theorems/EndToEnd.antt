@@ -3,37 +3,40 @@
 use Prim.Native.Nat.{ℕ, _/_, _≤_}
 use mathlib.Core.Path.{_≡_, refl, sym, ap, subst, _∙_}
 use mathlib.Core.Bool.{Bool, true, false}
-use mathlib.Core.List.{List}
+use mathlib.Core.List.{List, map}
 use mathlib.Core.Option.{Option, none, some}
 use native.Mathlib.Omega.{arith}
 use lib.Dec.{ltb}
 use lib.IntN.{ℤ}
-use lib.ListN.{length}
+use lib.ListN.{length, drop}
 use Rattle.model.specs.Limits.{paper}
-use Rattle.model.specs.Task.{Form, written, normal}
+use Rattle.model.specs.Task.{written, normal}
 use Rattle.model.specs.Move.{State, Solves, relaxed}
-use Rattle.model.specs.NormalForm.{normalState}
+use Rattle.model.specs.NormalForm.{normalTask, normalState}
 use Rattle.model.specs.StateTable.{stateOf, stateRefusal}
 use Rattle.model.specs.declared.Refusal.{Refusal}
 use Rattle.model.specs.Layer.{Outcome, reached, exhausted, reported, bound}
-use Rattle.model.specs.Command.{taskBytes}
-use Rattle.model.specs.Reading.{Table, accepted, refused, Verdict, only, reading, lengthLimit}
-use Rattle.model.specs.Memory.{Built, answered, stopped, build, overwrite}
-use Rattle.model.specs.Plan.{Record, records, firstMoves, planList}
-use Rattle.model.specs.Calls.{Ready, ready, unready, readyWith, readyOf, prepared, decideOf, planOf, planFitted, normalBytes, decided, planned, planRecords, decideAnswer, planAnswer, planOut, recordBytes}
+use Rattle.model.specs.Reading.{Table, accepted, refused, Verdict, only, reading}
+use Rattle.model.specs.Memory.{Built, answered, stopped, wrong15, build, overwrite}
+use Rattle.model.specs.Plan.{Record, firstMoves, moveAndCount, planList}
+use Rattle.model.specs.Calls.{Ready, ready, unready, readyWith, readyOf, prepared, decideOf, planOf, planFitted, normalBytes, decided, planned, planRecords, decideAnswer, planAnswer, planOut, recordBytes, recordsRead}
 use Rattle.model.specs.declared.DecideAnswer.the-variants as decide
 use Rattle.model.specs.declared.PlanAnswer.the-variants as plan
 use Rattle.model.specs.Theorems.WellFormed.{TaskOk}
 use Rattle.model.specs.Theorems.Booleans.{true-T}
 use Rattle.model.specs.Theorems.Relaxation.{real-solves-relaxed}
-use Rattle.model.specs.Theorems.Answer.{Answered, answered as search-answered, exhausted-no-plan, reported-bound}
+use Rattle.model.specs.Theorems.Answer.{Answered, answered as search-answered, exhausted-first, exhausted-no-plan, reported-bound}
 use Rattle.model.specs.Theorems.Building.{build-answers, built-outcome}
-use Rattle.model.specs.Theorems.Accepted.{reading-ok, reading-head, reading-length, reading-limit, reading-form}
+use Rattle.model.specs.Theorems.Accepted.{reading-head, reading-task}
 use Rattle.model.specs.Theorems.NormalPrint.{normalTable, normal-accepted}
 use Rattle.model.specs.Theorems.NormalMoves.{written-normal}
 use Rattle.model.specs.Theorems.NormalTask.{normal-ok}
 use Rattle.model.specs.Theorems.Plans.{plan-solves}
-use Rattle.model.specs.Theorems.Demand3.{relaxedTask, startState, layerZero, endOf, Given, normalPart, decideLayers, planLayers, Answers, ready-normal, normalise-answers, normalise-leaves, decide-answers, plan-answers, plan-writes}
+use Rattle.model.specs.Theorems.StateSizes.{SmallState, accepted-small, normalState-small}
+use Rattle.model.specs.Theorems.PlanSizes.{reported-most}
+use Rattle.model.specs.Theorems.ReadBack.{plan-read, plan-bytes}
+use Rattle.model.specs.Theorems.Demand2.{normalPart, normalise-answers, normalise-leaves}
+use Rattle.model.specs.Theorems.Demand3.{relaxedTask, startState, layerZero, endOf, Given, recordsOf, decideLayers, planLayers, Answers, ready-normal, decide-answers, plan-answers, plan-writes}
 
 -- different answers
 decide-differs : (m n r : ℕ) → decide.Plan m n ≡ decide.NoPlan r → ⊥
@@ -54,6 +57,10 @@ module _ (t bs spare : List ℕ) (layers : List ℤ) (out : List ℕ) (g : Given
 
   built : build paper (relaxedTask (g .table)) (layerZero (g .table) bs) (length layers) ≡ answered (endOf (g .table) bs)
   built = build-answers paper (relaxedTask (g .table)) (layerZero (g .table) bs) (length layers) (g .small) (g .layerRoom)
+
+  start : SmallState (relaxedTask (g .table) .vars) (layerZero (g .table) bs)
+  unfolding normalTask
+  start = normalState-small (omega arith) (accepted-small (g .table .task .props) (g .table .task .vars) bs (g .state))
 
   abbrev Goal : List ℕ → Type 0
   Goal nb =
@@ -80,25 +87,26 @@ module _ (t bs spare : List ℕ) (layers : List ℤ) (out : List ℕ) (g : Given
 
   -- by how the search ends
   by-outcome : (o : Outcome) → endOf (g .table) bs ≡ o → Answered (relaxedTask (g .table)) (layerZero (g .table) bs) o → Goal (normalBytes (g .table .task))
-  unfolding decided planned planRecords decideLayers planLayers reported
+  unfolding decided planned planRecords decideLayers planLayers reported overwrite recordBytes
   by-outcome (reached m) e a =
       record {
         normalise = normalise-answers t spare (g .table) (g .read) (g .normalRoom);
         normalForm = refl;
         decideNoPlan = (
           λ no-plan. absurd (decide-differs m m (no-plan .layers) (sym (decides-as (reached m) e) ∙ no-plan .is)),
-          λ none. absurd (none (planList rs) solves),
+          λ none. absurd (none list solves),
         );
         planNoPlan = (
           λ no-plan.
               absurd
               (plan-differs m m (length rs) (firstMoves rs) (no-plan .layers)
               (sym (plans-as (reached m) e) ∙ no-plan .is)),
-          λ none. absurd (none (planList rs) solves),
+          λ none. absurd (none list solves),
         );
         written = λ no-plan. absurd (decide-differs m m (no-plan .layers) (sym (decides-as (reached m) e) ∙ no-plan .is));
         decideReports = ap decideLayers (decides-as (reached m) e) ∙ ap (λ (x : Outcome). some (reported x)) (sym e);
         planReports = ap planLayers (plans-as (reached m) e) ∙ ap (λ (x : Outcome). some (reported x)) (sym e);
+        notFound = λ no-plan. absurd (decide-differs m m (no-plan .layers) (sym (decides-as (reached m) e) ∙ no-plan .is));
         found =
             λ some-plan.
             record {
@@ -107,14 +115,27 @@ module _ (t bs spare : List ℕ) (layers : List ℤ) (out : List ℕ) (g : Given
               decides = decides-as (reached m) e;
               plans = plans-as (reached m) e;
               written = writes-as (reached m) e;
+              bytes = plan-bytes okNormal start m small most;
+              read =
+                  ap (recordsRead (length rs)) (writes-as (reached m) e)
+                  ∙ plan-read okNormal start m small most (drop (length (recordBytes rs)) out);
               solves = solves;
             };
       }
     where
       rs : List Record
-      rs = records (relaxedTask (g .table)) (layerZero (g .table) bs) m
+      rs = recordsOf (g .table) bs m
 
-      solves : Solves relaxed (relaxedTask (g .table)) (layerZero (g .table) bs) (planList rs)
+      small : (u : ℕ) → u ≤ m → wrong15 paper (relaxedTask (g .table)) (layerZero (g .table) bs) u ≡ false
+      small u h = g .small u (rw e h)
+
+      most : m ≤ 3201
+      most = rw e at (reported-most okNormal (layerZero (g .table) bs))
+
+      list : List ℕ
+      list = planList (map moveAndCount rs)
+
+      solves : Solves relaxed (relaxedTask (g .table)) (layerZero (g .table) bs) list
       solves = plan-solves okNormal (layerZero (g .table) bs) m (true-T (a .met))
   by-outcome (exhausted m) e a =
       record {
@@ -129,6 +150,16 @@ module _ (t bs spare : List ℕ) (layers : List ℤ) (out : List ℕ) (g : Given
             (written-normal (g .table .task) list (startState (g .table) bs) .0 real-list));
         decideReports = ap decideLayers (decides-as (exhausted m) e) ∙ ap (λ (x : Outcome). some (reported x)) (sym e);
         planReports = ap planLayers (plans-as (exhausted m) e) ∙ ap (λ (x : Outcome). some (reported x)) (sym e);
+        notFound =
+            λ no-plan.
+            record {
+              layers = m;
+              lastLayer = exhausted-first okNormal (layerZero (g .table) bs) m a;
+              exhausted = a;
+              decides = decides-as (exhausted m) e;
+              plans = plans-as (exhausted m) e;
+              kept = writes-as (exhausted m) e;
+            };
         found = λ some-plan. absurd (some-plan (record { layers = m; is = decides-as (exhausted m) e }));
       }
     where
@@ -140,23 +171,11 @@ module _ (t bs spare : List ℕ) (layers : List ℤ) (out : List ℕ) (g : Given
       subst Goal (sym (normalise-leaves t spare (g .table) (g .read) (g .normalRoom)))
       (by-outcome (endOf (g .table) bs) refl (search-answered okNormal (layerZero (g .table) bs)))
 
--- the written table's task is within every limit, and the bytes of its normal form are read as its normal task
-accepted-written : (t : List ℕ) (w : Table) → reading paper (only written) t ≡ accepted w → TaskOk paper written (w .task)
-accepted-written t w e = subst (λ (f : Form). TaskOk paper f (w .task)) (reading-form paper written t e) (reading-ok paper (only written) t e)
-
-written-short : (t : List ℕ) (w : Table) → reading paper (only written) t ≡ accepted w → length (taskBytes written (w .task)) ≤ 32_000
-unfolding paper lengthLimit
-written-short t w e =
-    let limit : length t ≤ 32_000 = reading-limit paper (only written) t e in
-    let long : length t ≡ length (taskBytes (w .header .form) (w .task)) = reading-length paper (only written) t e in
-    let same : length (taskBytes (w .header .form) (w .task)) ≡ length (taskBytes written (w .task)) =
-    ap (λ (f : Form). length (taskBytes f (w .task))) (reading-form paper written t e) in
-    omega arith
-
 -- DEMAND 3. For a written table and a state that are accepted, with room in every memory and no finite layer value past
 -- 1,000,000,000,000: normalise writes the normal form, and on exactly those bytes decide and plan answer "no plan" exactly when
 -- no list of any length solves the relaxed task, and then none solves the table as written; otherwise they give the answer layer
--- and the records, whose list solves the relaxed task; both give the reported layers.
+-- and the records, which are read back from the bytes that plan writes and whose list solves the relaxed task; both give the
+-- reported layers.
 pub demand3 :
     (t bs spare : List ℕ) (layers : List ℤ) (out : List ℕ) (g : Given t bs spare layers out)
     → Answers (g .table) t bs spare layers out (normalPart t spare (length (normalBytes (g .table .task))))
@@ -164,9 +183,8 @@ pub demand3 :
     (planAnswer paper (normalPart t spare (length (normalBytes (g .table .task)))) bs layers out)
 unfolding normalTable
 demand3 t bs spare layers out g =
-    whole t bs spare layers out g (accepted-written t (g .table) (g .read)) (normalTable (g .table .task))
-    (normal-accepted (g .table .task) (accepted-written t (g .table) (g .read)) (written-short t (g .table) (g .read)))
-    refl
+    whole t bs spare layers out g (reading-task paper written t (g .read)) (normalTable (g .table .task))
+    (normal-accepted t (g .read)) refl
 
 -- Apart from it, for all inputs whatever: the layers of an answer are within (A + N + 1) × (N + 1), with the counts of the head.
 pub record Within (t : List ℕ) (r : ℕ) : Type 0 where
@@ -185,10 +203,8 @@ module _ (t : List ℕ) (w : Table) (e : reading paper (only normal) t ≡ accep
         table = w;
         read = e;
         bounded =
-            let ok : TaskOk paper normal (w .task) =
-            subst (λ (f : Form). TaskOk paper f (w .task)) (reading-form paper normal t e) (reading-ok paper (only normal) t e) in
             rw (reading-head paper (only normal) t e .1, reading-head paper (only normal) t e .2, built-outcome paper (w .task) s size o h)
-            (reported-bound ok s);
+            (reported-bound (reading-task paper normal t e) s);
       }
 
   within-decided : (b : Built) → build paper (w .task) s size ≡ b → LayersWithin t (decideLayers (decided b))

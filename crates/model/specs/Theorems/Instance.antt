@@ -1,8 +1,10 @@
--- Demand 3 at M1: its premises can be met, with the memories that document 01 names and no more.
+-- Demands 2 and 3 at M1: their premises can be met, with the memories that document 01 names and no more.
 -- Assumes nothing.
 use Prim.Native.Nat.{ℕ, zero, suc, _≤_}
 use mathlib.Core.Path.{_≡_, refl}
 use mathlib.Core.Bool.{false}
+use mathlib.Core.List.{[], _∷_}
+use mathlib.Core.Option.{some}
 use native.Mathlib.Omega.{arith}
 use lib.Dec.{lit≤}
 use lib.IntN.{pos}
@@ -12,10 +14,11 @@ use Rattle.model.specs.Task.{written}
 use Rattle.model.specs.Reading.{Table, Verdict, accepted, refused, nothingSeen, tableOf, only, reading}
 use Rattle.model.specs.Layer.{reported}
 use Rattle.model.specs.Memory.{wrong15}
-use Rattle.model.specs.Calls.{normalBytes, decideAnswer, planAnswer}
+use Rattle.model.specs.Calls.{normalBytes, decideAnswer, planAnswer, planOut, recordsRead}
 use Rattle.model.specs.Theorems.Campaigns.{zeros, m1}
 use Rattle.model.specs.Theorems.Computing.{computing}
-use Rattle.model.specs.Theorems.Demand3.{relaxedTask, layerZero, endOf, Given, normalPart, Answers}
+use Rattle.model.specs.Theorems.Demand2.{normalPart, SameSolutions, demand2}
+use Rattle.model.specs.Theorems.Demand3.{relaxedTask, layerZero, endOf, Given, Answers}
 use Rattle.model.specs.Theorems.EndToEnd.{demand3}
 
 -- the table that was read
@@ -46,6 +49,10 @@ m1-given =
       small = m1-small;
     }
 
+-- what demand 2 says of M1: the same lists solve it and its 85 bytes
+pub m1-demand2 : SameSolutions m1 (zeros 85) (m1-given .table)
+m1-demand2 = demand2 m1 (zeros 85) (m1-given .table) (m1-given .read) (m1-given .normalRoom)
+
 -- what demand 3 says of M1
 pub m1-demand3 :
     let n = length (normalBytes (m1-given .table .task)) in
@@ -53,3 +60,10 @@ pub m1-demand3 :
     (decideAnswer paper (normalPart m1 (zeros 85) n) (zeros 9) (replicate 16 (pos 7)))
     (planAnswer paper (normalPart m1 (zeros 85) n) (zeros 9) (replicate 16 (pos 7)) (zeros 30))
 m1-demand3 = demand3 m1 (zeros 9) (zeros 85) (replicate 16 (pos 7)) (zeros 30) m1-given
+
+-- "0 2", "1 4", "2 1": its records, read back from the output
+m1-read :
+    recordsRead 3 (planOut paper (normalPart m1 (zeros 85) 85) (zeros 9) (replicate 16 (pos 7)) (zeros 30))
+    ≡ some ((0, 2) ∷ (1, 4) ∷ (2, 1) ∷ [])
+unfolding computing m1
+m1-read = refl

@@ -14,6 +14,7 @@ use Rattle.model.specs.Reading.{Table, accepted, only, lengthLimit, read
 use Rattle.model.specs.Calls.{normalBytes}
 use Rattle.model.specs.StateTable.{stateRefusal}
 use Rattle.model.specs.Theorems.WellFormed.{TaskOk}
+use Rattle.model.specs.Theorems.Accepted.{reading-length, reading-limit, reading-form, reading-task}
 use Rattle.model.specs.Theorems.SignedSums.{negative, negated-map}
 use Rattle.model.specs.Theorems.NormalTask.{normal-ok}
 use Rattle.model.specs.Theorems.Passing.{SmallLimits, paper-small}
@@ -157,15 +158,24 @@ normal-read {L} k small room ok short =
     print-read-only normal (normalTask k) small (normal-ok L k ok) (omega (arith, normal-length k))
     ∙ ap accepted (normal-table k)
 
--- The normal form of every task that meets the checks of a written table of at most 32,000 bytes is a table that decide and
--- plan accept: head 4E with the same propositions, twice the variables and as many moves, and the normal task.
+-- "written 32,000 .. bytes at most"
+pub written-short : (t : List ℕ) {w : Table} → reading paper (only written) t ≡ accepted w → length (taskBytes written (w .task)) ≤ 32_000
+unfolding paper lengthLimit
+written-short t {w} e =
+    let limit : length t ≤ 32_000 = reading-limit paper (only written) t e in
+    let long : length t ≡ length (taskBytes (w .header .form) (w .task)) = reading-length paper (only written) t e in
+    let same : length (taskBytes (w .header .form) (w .task)) ≡ length (taskBytes written (w .task)) =
+    ap (λ (f : Form). length (taskBytes f (w .task))) (reading-form paper written t e) in
+    omega arith
+
+-- The normal form of every accepted written table is a table that decide and plan accept: head 4E with the same propositions,
+-- twice the variables and as many moves, and the normal task.
 pub normal-accepted :
-    (k : Task)
-    → TaskOk paper written k
-    → length (taskBytes written k) ≤ 32_000
-    → reading paper (only normal) (normalBytes k) ≡ accepted (normalTable k)
+    (t : List ℕ) {w : Table}
+    → reading paper (only written) t ≡ accepted w
+    → reading paper (only normal) (normalBytes (w .task)) ≡ accepted (normalTable (w .task))
 unfolding paper
-normal-accepted k ok short = normal-read k paper-small (omega arith) ok short
+normal-accepted t {w} e = normal-read (w .task) paper-small (omega arith) (reading-task paper written t e) (written-short t e)
 
 -- ---- the state
 

@@ -1,16 +1,19 @@
 -- The bytes of one block of an accepted table (document 01: "its bytes run from its 41 or 47 up to the next 41, 47 or 45
 -- command, that one left out"): they are the bytes of the block's items behind its command. Assumes nothing.
-use Prim.Native.Nat.{ℕ, suc, _+_, _≤_, _<_}
+use Prim.Native.Nat.{ℕ, zero, suc, _+_, _≤_, _<_}
 use native.Mathlib.Omega.{arith}
-use mathlib.Core.Path.{_≡_, sym, ap, _∙_, subst}
+use mathlib.Core.Path.{_≡_, refl, sym, ap, _∙_, subst}
+use mathlib.Core.Bool.{Bool, true, false}
 use mathlib.Core.List.{List, [], _∷_, _++_, append-assoc}
+use lib.Dec.{leb}
 use lib.ListN.{length, getD, take, drop, length-append}
 use lib.Seq.{slice, split-at, take-append-add, take-append-seam, take-append-le, take-length, take-all, take-suc, drop-append-seam}
 use Rattle.integer.specs.BigEndian.{AllBytes}
 use Rattle.model.specs.Limits.{Limits}
 use Rattle.model.specs.Task.{Form, Block, Task}
 use Rattle.model.specs.Command.{head, openMove, openGoal, endTable, codeOf, itemsBytes, movesBytes, taskBytes}
-use Rattle.model.specs.Reading.{Wanted, Table}
+use Rattle.model.specs.Reading.{Wanted, Table, Verdict, accepted, refused, both, reading}
+use Rattle.model.specs.Calls.{partOf, startOf, blockPart, blockStart}
 use Rattle.model.specs.Theorems.Appending.{movesBytes-append, movesBytes-snoc}
 use Rattle.model.specs.Theorems.Marks.{starts-at}
 use Rattle.model.specs.Theorems.Accepted.{Accepted}
@@ -83,3 +86,26 @@ module _ {L : Limits} {w : Wanted} {t : List ℕ} {k : Table} (a : Accepted L w 
       ∙ slice-middle (frontBytes f (k .task) ++ movesBytes ms) part (codeOf endTable ∷ []) (getD (k .marks) (length ms) 0) (getD (k .marks) (suc (length ms)) 0)
       (omega (arith, block-mark (length ms) (omega arith), ap (λ (l : List Block). length (movesBytes l)) (take-length ms)))
       (omega (arith, end-mark))
+
+-- ---- where the part lies
+
+slice-lies : (f e : ℕ) (l : List ℕ) → take (length (slice f e l)) (drop f l) ≡ slice f e l
+slice-lies zero zero l = refl
+slice-lies zero (suc e) [] = refl
+slice-lies zero (suc e) (x ∷ l) = ap (λ (xs : List ℕ). x ∷ xs) (slice-lies zero e l)
+slice-lies (suc f) zero l = refl
+slice-lies (suc f) (suc e) [] = refl
+slice-lies (suc f) (suc e) (x ∷ l) = slice-lies f e l
+
+-- "as a part of the caller's table": the bytes of the part stand in the table where it starts
+pub part-lies : (L : Limits) (t : List ℕ) (b : ℕ) → take (length (blockPart L t b)) (drop (blockStart L t b) t) ≡ blockPart L t b
+unfolding blockPart blockStart partOf startOf
+part-lies L t b = go (reading L both t)
+  where
+    go : (v : Verdict) → take (length (partOf t b v)) (drop (startOf b v) t) ≡ partOf t b v
+    go (accepted k) = by (leb b (k .header .moves)) refl
+      where
+        by : (x : Bool) → leb b (k .header .moves) ≡ x → take (length (partOf t b (accepted k))) (drop (startOf b (accepted k)) t) ≡ partOf t b (accepted k)
+        by true e = rw (e, partOf, startOf) (slice-lies (getD (k .marks) b 0) (getD (k .marks) (suc b) 0) t)
+        by false e = rw (e, partOf, startOf) refl
+    go (refused r) = refl

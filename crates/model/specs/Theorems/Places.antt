@@ -1,11 +1,11 @@
 -- The numbers and places of refusals are small: a number is 1 to 15, and a place of a table stands at most three bytes behind
--- its end. Assumes nothing.
+-- the longest one. Assumes nothing.
 use Prim.Native.Nat.{ℕ, zero, suc, _+_, _*_, _≤_, _<_}
 use mathlib.Core.Bool.{Bool, true, false, not}
 use mathlib.Core.List.{List, [], _∷_}
 use mathlib.Core.Option.{Option, none, some}
 use native.Mathlib.Omega.{arith}
-use lib.Dec.{T, eqb, leb, ltb, ltb→lt, lit≤}
+use lib.Dec.{T, eqb, leb, ltb, ltb→lt, nltb→le, lit≤}
 use lib.ListN.{length, getD}
 use Rattle.model.specs.declared.Refusal.{Refusal}
 use Rattle.model.specs.Limits.{Limits}
@@ -146,13 +146,22 @@ readFrom-small L w t (suc n) s = go (ltb (s .at) (length t)) (ltb→lt (s .at) (
     go true inside rest = stepped (refusal L w t s c) (within (inside tt)) rest
     go false inside rest = end-small t s (s .place)
 
-pub reading-refused : (L : Limits) (w : Wanted) (t : List ℕ) → IfRefused (Small (length t + 3)) (reading L w t)
+pub refused-wider : {m n : ℕ} (v : Verdict) → m ≤ n → IfRefused (Small m) v → IfRefused (Small n) v
+refused-wider (accepted k) h s = tt
+refused-wider (refused r) h s = small-wider h s
+
+-- a table that is longer than its limit is refused at place 0
+pub reading-refused : (L : Limits) (w : Wanted) (t : List ℕ) → IfRefused (Small (lengthLimit L w t + 3)) (reading L w t)
 unfolding reading
-reading-refused L w t = go (ltb (lengthLimit L w t) (length t))
+reading-refused L w t = go (ltb (lengthLimit L w t) (length t)) (nltb→le (lengthLimit L w t) (length t))
   where
-    go : (b : Bool) → IfRefused (Small (length t + 3)) (elim b [ true ↦ refused (record { number = 1; place = 0 }) | false ↦ readFrom L w t (suc (length t)) nothingSeen ])
-    go true = record { positive = lit≤ tt; number = lit≤ tt; place = omega arith }
-    go false = readFrom-small L w t (suc (length t)) nothingSeen
+    go :
+        (b : Bool) → (T (not b) → length t ≤ lengthLimit L w t)
+        → IfRefused (Small (lengthLimit L w t + 3)) (elim b [ true ↦ refused (record { number = 1; place = 0 }) | false ↦ readFrom L w t (suc (length t)) nothingSeen ])
+    go true short = record { positive = lit≤ tt; number = lit≤ tt; place = omega arith }
+    go false short =
+        let fits : length t ≤ lengthLimit L w t = short tt in
+        refused-wider (readFrom L w t (suc (length t)) nothingSeen) (omega arith) (readFrom-small L w t (suc (length t)) nothingSeen)
 
 -- ---- a state
 

@@ -4,12 +4,10 @@
 use Prim.Native.Nat.{ℕ, zero, suc, _+_, _-_, _*_, _^_, _≤_, _<_}
 use native.Mathlib.Nat.{mul-le-mul, mul-le-mul-right, pow-le-pow-right}
 use native.Mathlib.Omega.{arith}
-use mathlib.Core.Path.{_≡_, refl, sym, ap, _∙_, subst}
+use mathlib.Core.Path.{_≡_, sym, ap, _∙_, subst}
 use mathlib.Core.Bool.{Bool, false, _||_}
 use mathlib.Core.List.{_++_}
-use lib.IntN.{pos}
 use lib.ListN.{length}
-use Rattle.integer.specs.BigEndian.{unsigned, bytes, signed, half, twos-cases, unsigned-bytes, length-bytes}
 use Rattle.model.specs.Limits.{paper}
 use Rattle.model.specs.Task.{normal, Task}
 use Rattle.model.specs.Move.{State}
@@ -155,13 +153,6 @@ module _
     -- every count of a plan's records
     pub records-counts : All (λ (r : Record). r .count ≤ 30_000_001_000_000) (records k s m)
     records-counts = rw (records-answer k s m) (from-counts m (omega arith))
-
--- "count (8 bytes)": none is lost, signed or not
-pub count-bytes : {n : ℕ} → n ≤ 30_000_001_000_000 → (unsigned (bytes 8 n) ≡ n) × (signed (bytes 8 n) ≡ pos n)
-unfolding signed half
-count-bytes {n} h =
-    let whole : unsigned (bytes 8 n) ≡ n = unsigned-bytes 8 n (omega arith) in
-    (whole, rw (length-bytes 8 n, whole) (twos-cases (2 ^ 63) n (λ z. z ≡ pos n) (λ below. refl) (λ above. absurd (omega arith))))
 
 -- ---- the answer layer, the records, the places in layer memory
 

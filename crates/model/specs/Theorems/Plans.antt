@@ -3,7 +3,7 @@ use Prim.Native.Nat.{ℕ, zero, suc, _+_, _≤_, _<_}
 use native.Mathlib.Omega.{arith}
 use mathlib.Core.Path.{_≡_, refl, sym, subst}
 use mathlib.Core.Option.{Option, none, some}
-use mathlib.Core.List.{List, [], _∷_, _++_, append-nil, append-assoc}
+use mathlib.Core.List.{List, [], _∷_, _++_, map, append-nil, append-assoc}
 use lib.Dec.{T, eqb, eqb→eq}
 use lib.IntN.{ℤ}
 use lib.ListN.{length, replicate}
@@ -11,7 +11,7 @@ use Rattle.model.specs.Limits.{Limits}
 use Rattle.model.specs.Task.{Effect, effectOn, normal, Task}
 use Rattle.model.specs.Move.{State, applicable, relaxed, moveAt, Solves}
 use Rattle.model.specs.Layer.{reaches, layerValue, Layer, layerOf, layer, layerAt, meetsGoal}
-use Rattle.model.specs.Plan.{achieves, runs, takeEffect, takeAchiever, Wants, noWants, wantBlock, Descent, descend, Record, layerRecords, recordsFrom, records, planList}
+use Rattle.model.specs.Plan.{achieves, runs, takeEffect, takeAchiever, Wants, noWants, wantBlock, Descent, descend, Record, layerRecords, recordsFrom, records, moveAndCount, planList}
 use Rattle.model.specs.Theorems.WellFormed.{TaskOk}
 use Rattle.model.specs.Theorems.Searching.{below-suc}
 use Rattle.model.specs.Theorems.Order.{usable-state}
@@ -44,22 +44,26 @@ module _ (k : Task) (s : State) (t : ℕ) where
 
 -- ---- the list of one layer
 
+-- the list of a plan's records
+abbrev listOf : List Record → List ℕ
+listOf rs = planList (map moveAndCount rs)
+
 -- a layer's list: each move as often as its count, and those that are not counted not at all
 layer-list :
     (t : ℕ) (count : ℕ → ℕ) (b n : ℕ)
-    → planList (layerRecords t count b (suc n)) ≡ replicate (count b) b ++ planList (layerRecords t count (suc b) n)
+    → listOf (layerRecords t count b (suc n)) ≡ replicate (count b) b ++ listOf (layerRecords t count (suc b) n)
 unfolding layerRecords planList
 layer-list t count b n =
-    elim-cases (λ rs. planList rs ≡ replicate (count b) b ++ planList (layerRecords t count (suc b) n)) (eqb (count b) 0)
+    elim-cases (λ rs. listOf rs ≡ replicate (count b) b ++ listOf (layerRecords t count (suc b) n)) (eqb (count b) 0)
     (layerRecords t count (suc b) n) (record { layer = t; move = b; count = count b } ∷ layerRecords t count (suc b) n)
     (λ e. rw (eqb→eq (count b) 0 e))
     (λ e. refl)
 
-planList-append : (rs qs : List Record) → planList (rs ++ qs) ≡ planList rs ++ planList qs
+list-append : (rs qs : List Record) → listOf (rs ++ qs) ≡ listOf rs ++ listOf qs
 unfolding planList
-planList-append [] qs = refl
-planList-append (r ∷ rs) qs =
-    rw (planList-append rs qs) (sym (append-assoc (replicate (r .count) (r .move)) (planList rs) (planList qs)))
+list-append [] qs = refl
+list-append (r ∷ rs) qs =
+    rw (list-append rs qs) (sym (append-assoc (replicate (r .count) (r .move)) (listOf rs) (listOf qs)))
 
 module _ (k : Task) where
   -- a move whose conditions hold in y and above is run n times in a row
@@ -85,7 +89,7 @@ module _ (k : Task) where
       → ((c : ℕ) → 1 ≤ count c → c < length (k .moves))
       → ((c : ℕ) → 1 ≤ count c → (z : State) → Above y z → T (applicable z (moveAt k c)))
       → ((z : State) → Ran k count b n y z → Solves relaxed k z rest)
-      → Solves relaxed k y (planList (layerRecords t count b n) ++ rest)
+      → Solves relaxed k y (listOf (layerRecords t count b n) ++ rest)
   unfolding layerRecords planList
   layer-solves t count b zero y rest lt enabled after =
       after y (record { above = above-refl y; each = λ c low high. absurd (omega arith) })
@@ -96,7 +100,7 @@ module _ (k : Task) where
       (λ z ran. after z (record { above = above-trans y-x (ran .above); each = ran-each z ran }))))
     where
       later : List ℕ
-      later = planList (layerRecords t count (suc b) n)
+      later = listOf (layerRecords t count (suc b) n)
 
       x : State
       x = repeated (count b) (moveAt k b) y
@@ -122,12 +126,12 @@ module _ {L : Limits} {k : Task} (ok : TaskOk L normal k) (s : State) where
       (t : ℕ) (w : Wants) (rest : List ℕ)
       → Had (k .props) (k .vars) (layerAt k s t) w
       → ((y : State) → Above s y → Sat w (layerOf y) → Solves relaxed k y rest)
-      → Solves relaxed k s (planList (recordsFrom k s t w) ++ rest)
+      → Solves relaxed k s (listOf (recordsFrom k s t w) ++ rest)
   unfolding recordsFrom planList layerAt layer moveAt
   layers-solve zero w rest had after = after s (above-refl s) (had-sat had)
   layers-solve (suc t) w rest had after =
-      rw (planList-append below here, append-assoc (planList below) (planList here) rest)
-      (layers-solve t (d .wants) (planList here ++ rest) (step .good .had)
+      rw (list-append below here, append-assoc (listOf below) (listOf here) rest)
+      (layers-solve t (d .wants) (listOf here ++ rest) (step .good .had)
       (λ y above sat. layer-solves k t (d .count) 0 (length (k .moves)) y rest (step .good .move)
       (λ c h z up.
       let enabled = step .good .enabled c h z (above-trans above up) (sat-mono sat (up .order)) in
@@ -148,7 +152,7 @@ module _ {L : Limits} {k : Task} (ok : TaskOk L normal k) (s : State) where
 
   -- "A plan's list is its records in order, each move written as many times in a row as its count." If layer m meets the goal,
   -- the plan's list solves the relaxed task: "each move's conditions hold when it runs and the goal holds at the end"
-  pub plan-solves : (m : ℕ) → T (meetsGoal k s m) → Solves relaxed k s (planList (records k s m))
+  pub plan-solves : (m : ℕ) → T (meetsGoal k s m) → Solves relaxed k s (planList (map moveAndCount (records k s m)))
   unfolding records meetsGoal
   plan-solves m met =
       rw append-nil at (layers-solve m goal []

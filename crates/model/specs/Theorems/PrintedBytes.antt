@@ -11,7 +11,7 @@ use Rattle.model.specs.Theorems.WellFormed.{All, TermOk, ItemOk, BlockOk
 use Rattle.model.specs.Theorems.Passing.{SmallLimits}
 use Rattle.model.specs.Theorems.PrintedItems.{itemTerms, itemCommand, itemOperands, item-parts, item-sum}
 
-all-append : (xs ys : List ℕ) → AllBytes xs → AllBytes ys → AllBytes (xs ++ ys)
+pub all-append : (xs ys : List ℕ) → AllBytes xs → AllBytes ys → AllBytes (xs ++ ys)
 all-append [] ys a b = b
 all-append (x ∷ xs) ys a b = all-cons (a .each 0) (all-append xs ys (all-tail a) b)
 

@@ -7,7 +7,7 @@ use mathlib.Core.Path.{_≡_, refl}
 use mathlib.Core.List.{List, [], _∷_, _++_}
 use lib.Dec.{T, eqb}
 use lib.ListN.{length, length-append}
-use Rattle.integer.specs.BigEndian.{bytes, length-bytes}
+use Rattle.integer.specs.BigEndian.{length-bytes}
 use Rattle.model.specs.Task.{Task}
 use Rattle.model.specs.Move.{State}
 use Rattle.model.specs.Layer.{layerAt}
@@ -159,4 +159,4 @@ module _ (k : Task) (s : State) where
 pub length-recordBytes : (rs : List Record) → length (recordBytes rs) ≡ 10 * length rs
 unfolding recordBytes
 length-recordBytes [] = refl
-length-recordBytes (r ∷ rs) = omega (arith, length-append (bytes 8 (r .count)) (recordBytes rs), length-bytes 8 (r .count), length-recordBytes rs)
+length-recordBytes (r ∷ rs) = rw (length-append, length-bytes, length-recordBytes rs) (omega arith)

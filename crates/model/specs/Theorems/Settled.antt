@@ -2,6 +2,7 @@
 -- equal everywhere, for a move names no others. Assumes nothing.
 use Prim.Native.Nat.{ℕ, suc, _<_}
 use mathlib.Core.Path.{_≡_, refl, sym, ap, subst}
+use mathlib.Core.Logic.{_↔_}
 use mathlib.Core.Bool.{Bool, true, false, Bool·beq}
 use mathlib.Core.List.{List, [], _∷_}
 use lib.Dec.{T, eqb, eqb→eq}
@@ -95,6 +96,45 @@ module _ (L : Limits) (f : Form) (props vars : ℕ) where
   adds-below p (condition c ∷ b) ok t = adds-below p b (ok .1) t
   adds-below p (effect e ∷ b) ok t = adds-below p b (ok .1) t
 
+-- ---- what the comparison decides
+
+-- where a layer is not settled, the next one has a proposition more, or a value that is not below the old one
+pub unsettled-cases :
+    {X : Type 0} (k : Task) (s : State) (t : ℕ)
+    → settled k s t ≡ false
+    → ((p : ℕ) → p < k .props → (T (layerAt k s t .has p) → ⊥) → T (layerAt k s (suc t) .has p) → X)
+    → ((v : ℕ) → v < k .vars → (layerAt k s (suc t) .val v ⊑ layerAt k s t .val v → ⊥) → X)
+    → X
+unfolding settled layerAt
+unsettled-cases k s t e newProp newVal =
+    sameLayer-fails (k .props) (k .vars) (layerAt k s t) (layerAt k s (suc t)) (layer-rises (k .moves) s t) (false-not e)
+    newProp newVal
+
+-- the two layers have the same propositions and the same values, of those that the table has
+pub record Agree (k : Task) (l m : Layer) : Type 0 where
+  pub props : (p : ℕ) → p < k .props → l .has p ≡ m .has p
+  pub vars : (v : ℕ) → v < k .vars → l .val v ≡ m .val v
+
+-- `settled` holds exactly when layer t and its next one agree on every proposition and every variable of the table
+pub settled-agree : (k : Task) (s : State) (t : ℕ) → (settled k s t ≡ true) ↔ Agree k (layerAt k s t) (layerAt k s (suc t))
+unfolding settled layerAt
+settled-agree k s t = (
+  λ e.
+      let same = true-T e in
+      record { props = sameLayer-has (k .props) (k .vars) l m same; vars = sameLayer-val (k .props) (k .vars) l m same },
+  λ agree.
+      T-true (settled k s t) (T-stable (settled k s t) (λ differ.
+      unsettled-cases k s t (not-false (settled k s t) differ)
+      (λ p h fresh present. fresh (subst T (sym (agree .props p h)) present))
+      (λ v h higher. higher (≡-⊑ (sym (agree .vars v h)))))),
+)
+  where
+    l : Layer
+    l = layerAt k s t
+
+    m : Layer
+    m = layerAt k s (suc t)
+
 -- ---- a settled layer is closed: its next layer is not above it, anywhere
 
 module _ {L : Limits} {f : Form} {k : Task} (ok : TaskOk L f k) where
@@ -127,37 +167,19 @@ module _ {L : Limits} {f : Form} {k : Task} (ok : TaskOk L f k) where
           (raised-offer l v ms b h u)
 
   pub settled-closed : (s : State) (t : ℕ) → settled k s t ≡ true → next (k .moves) (layerAt k s t) ≼ layerAt k s t
-  unfolding settled layerAt layer
-  settled-closed s t e =
-      let l = layerAt k s t in
-      let l′ = layerAt k s (suc t) in
-      closed-within l
-      (λ p h. subst T (sym (sameLayer-has (k .props) (k .vars) l l′ (true-T e) p h)))
-      (λ v h. ≡-⊑ (sym (sameLayer-val (k .props) (k .vars) l l′ (true-T e) v h)))
-
-  -- a settled layer's next layer is the same layer
-  pub settled-equal : (s : State) (t : ℕ) → settled k s t ≡ true → layerAt k s (suc t) ≡ layerAt k s t
   unfolding layerAt layer
-  settled-equal s t e = ≼-antisym (settled-closed s t e) (next-above (k .moves) (layerAt k s t))
+  settled-closed s t e =
+      let agree = settled-agree k s t .0 e in
+      closed-within (layerAt k s t) (λ p h. subst T (sym (agree .props p h))) (λ v h. ≡-⊑ (sym (agree .vars v h)))
 
--- where a layer is not settled, the next one has a proposition more, or a value that is not below the old one
-pub unsettled-cases :
-    {X : Type 0} (k : Task) (s : State) (t : ℕ)
-    → settled k s t ≡ false
-    → ((p : ℕ) → p < k .props → (T (layerAt k s t .has p) → ⊥) → T (layerAt k s (suc t) .has p) → X)
-    → ((v : ℕ) → v < k .vars → (layerAt k s (suc t) .val v ⊑ layerAt k s t .val v → ⊥) → X)
-    → X
-unfolding settled layerAt
-unsettled-cases k s t e newProp newVal =
-    sameLayer-fails (k .props) (k .vars) (layerAt k s t) (layerAt k s (suc t)) (layer-rises (k .moves) s t) (false-not e)
-    newProp newVal
-
--- "A next layer equal to layer t" is settled: with `settled-equal` the comparison is the document's word
-pub equal-settled : (k : Task) (s : State) (t : ℕ) → layerAt k s (suc t) ≡ layerAt k s t → settled k s t ≡ true
-equal-settled k s t e = T-true (settled k s t) (T-stable (settled k s t) same)
-  where
-    same : (T (settled k s t) → ⊥) → ⊥
-    same differ =
-        unsettled-cases k s t (not-false (settled k s t) differ)
-        (λ p h fresh present. fresh (subst (λ (l : Layer). T (l .has p)) e present))
-        (λ v h higher. higher (≡-⊑ (ap (λ (l : Layer). l .val v) e)))
+  -- "A next layer equal to layer t": `settled` holds exactly when the two layers are equal
+  pub settled-equal : (s : State) (t : ℕ) → (settled k s t ≡ true) ↔ (layerAt k s (suc t) ≡ layerAt k s t)
+  unfolding layerAt layer
+  settled-equal s t = (
+    λ e. ≼-antisym (settled-closed s t e) (next-above (k .moves) (layerAt k s t)),
+    λ e.
+        settled-agree k s t .1 (record {
+          props = λ p h. ap (λ (l : Layer). l .has p) (sym e);
+          vars = λ v h. ap (λ (l : Layer). l .val v) (sym e);
+        }),
+  )

@@ -8,8 +8,8 @@ use lib.Signed.{_≤ℤ_}
 use Rattle.integer.specs.Linear.{zlin, sum, diff, ≤-refl, larger-cases, larger-left, larger-right}
 use Rattle.model.specs.Move.{State}
 use Rattle.model.specs.Layer.{Value, finite, unbounded, Layer, plus, reaches, layerOf}
-use Rattle.model.specs.Plan.{Target, free, least, Wants, noWants, raiseTarget, wantProp, wantValue, lowValue, low}
-use Rattle.model.specs.Theorems.Booleans.{or-left, or-right, or-cases, cond-cases}
+use Rattle.model.specs.Plan.{Target, free, least, Wants, noWants, raiseTarget, wantProp, wantValue, lowValue, low, carriedTarget, carried}
+use Rattle.model.specs.Theorems.Booleans.{and-left, and-right, or-left, or-right, or-cases, cond-cases}
 use Rattle.model.specs.Theorems.Order.{finite-⊑, ⊑-unbounded, ⊑-refl, ⊑-trans, reaches-⊑, ⊑-reaches, reaches-mono, _≼_, ≼-refl, ≼-trans}
 
 -- ---- each wanted proposition has P, each target on v has Q v
@@ -59,6 +59,24 @@ module _ {P : ℕ → Type 0} {Q : ℕ → ℤ → Type 0} where
             (λ e. raise-each (Q u) (w .target u) z (h .targets u) (rw (eqb→eq u v e) q))
             (λ e. h .targets u);
       }
+
+-- what is carried down is wanted above, and the layer has it
+pub carried-each :
+    {P R : ℕ → Type 0} {Q S : ℕ → ℤ → Type 0} {w : Wants} (l : Layer)
+    → ((p : ℕ) → P p → T (l .has p) → R p)
+    → ((v : ℕ) (z : ℤ) → Q v z → T (reaches (l .val v) z) → S v z)
+    → Each P Q w
+    → Each R S (carried l w)
+unfolding carried carriedTarget
+carried-each {Q = Q} {S = S} {w = w} l f g h =
+    record {
+      props = λ p t. f p (h .props p (and-left (w .props p) (l .has p) t)) (and-right (w .props p) (l .has p) t);
+      targets = λ v. go v (w .target v) (h .targets v);
+    }
+  where
+    go : (v : ℕ) (t : Target) → EachTarget (Q v) t → EachTarget (S v) (carriedTarget (l .val v) t)
+    go v free i = tt
+    go v (least z) i = cond-cases (EachTarget (S v)) (reaches (l .val v) z) (least z) free (g v z i) (λ low. tt)
 
 -- ---- a layer, or a state seen as one, meets what is wanted
 

@@ -5,8 +5,9 @@ use native.Mathlib.Omega.{arith}
 use mathlib.Core.Path.{_≡_}
 use mathlib.Core.List.{[]}
 use lib.ListN.{length, getD}
-use Rattle.normal.specs.Blocks.{blockPrint}
-use Rattle.normal.specs.Tables.{readTask, MovesCounting, move-remaining, block-ordered, block-within, source-small, normal-size, few-moves, moves-counted, moves-count, move-small, moves-total}
+use denote.Ref.{now}
+use Rattle.normal.specs.Blocks.{Remaining, blockPrint}
+use Rattle.normal.specs.Tables.{readTask, MovesCounting, move-remaining, block-in, source-small, normal-size, few-moves, moves-counted, moves-count, move-small, moves-total}
 use Rattle.normal.proofs.moves_length.Statement.{statement}
 use Rattle.normal.proofs.moves_length.Tie as tie
 
@@ -26,60 +27,42 @@ small c =
     let s = c .before .before .before .before .pre in
     omega (arith, move-small (c .before .loop .inv) (some c), source-small s, normal-size (readTask (c .before .before .before .before .args .table .now)))
 
+-- its part holds its items
+remains : (c : tie.After-part Inv-loop μ-loop) → Remaining (now (c .part .result)) 1 (getD (readTask (c .before .before .before .before .before .args .table .now) .moves) (c .before .before .loop .b) [])
+remains c = move-remaining (c .before .before .before .before .before .pre) (c .before .before .loop .b) (c .before .loop-test .taken) (c .part .ensures .0)
+
 loop-holds : tie.Need-loop-holds Inv-loop μ-loop
 loop-holds c = moves-counted (readTask (c .before .before .args .table .now) .moves)
 
-mul-from : tie.Need-mul-from Inv-loop μ-loop
-mul-from c = omega (arith, c .before .before .before .before .pre .long, few-moves (c .before .before .before .before .pre))
-
-shared-slice-read-from : tie.Need-shared-slice-read-from Inv-loop μ-loop
-shared-slice-read-from c = omega (arith, c .before .before .before .before .before .pre .long)
-
-add-end : tie.Need-add-end Inv-loop μ-loop
-add-end c = omega (arith, few-moves (c .before .before .before .before .before .pre))
-
-mul-end : tie.Need-mul-end Inv-loop μ-loop
-mul-end c = omega (arith, few-moves (c .before .before .before .before .before .pre))
-
-shared-slice-read-end : tie.Need-shared-slice-read-end Inv-loop μ-loop
-shared-slice-read-end c = omega (arith, c .before .before .before .before .before .before .pre .long)
-
-sub-items-length : tie.Need-sub-items-length Inv-loop μ-loop
-sub-items-length c = omega (arith, block-ordered (c .before .before .before .before .before .before .pre) (c .before .before .before .loop .b) (omega arith))
-
-part-items-length-start : tie.Need-part-items-length-start Inv-loop μ-loop
-part-items-length-start c = block-ordered (c .before .before .before .before .before .before .pre) (c .before .before .before .loop .b) (omega arith)
-
-part-items-length-end : tie.Need-part-items-length-end Inv-loop μ-loop
-part-items-length-end c = block-within (c .before .before .before .before .before .before .pre) (c .before .before .before .loop .b) (omega arith)
+part-requires : tie.Need-part-requires Inv-loop μ-loop
+part-requires c κs = block-in (c .before .before .before .before .pre) (c .before .loop .b) (omega arith)
 
 items-length-requires : tie.Need-items-length-requires Inv-loop μ-loop
 items-length-requires c κs =
-    let b = c .before .before .before .before .loop .b in
     record {
-      block = getD (readTask (c .before .before .before .before .before .before .before .args .table .now) .moves) b [];
-      remaining = move-remaining (c .before .before .before .before .before .before .before .pre) b (c .before .before .before .loop-test .taken);
-      fits = omega (arith, small (c .before .before .before));
+      block = getD (readTask (c .before .before .before .before .before .args .table .now) .moves) (c .before .before .loop .b) [];
+      remaining = remains c;
+      fits = omega (arith, small (c .before));
     }
 
 -- what is counted
-counted : (c : tie.After-items-length Inv-loop μ-loop) → c .items-length .result ≡ length (blockPrint (getD (readTask (c .before .before .before .before .before .before .before .before .args .table .now) .moves) (c .before .before .before .before .before .loop .b) []))
-counted c = c .items-length .ensures _ (move-remaining (c .before .before .before .before .before .before .before .before .pre) (c .before .before .before .before .before .loop .b) (c .before .before .before .before .loop-test .taken))
+counted : (c : tie.After-items-length Inv-loop μ-loop) → c .items-length .result ≡ length (blockPrint (getD (readTask (c .before .before .before .before .before .before .args .table .now) .moves) (c .before .before .before .loop .b) []))
+counted c = c .items-length .ensures _ (remains (c .before))
 
 add-size : tie.Need-add-size Inv-loop μ-loop
-add-size c = omega (arith, counted c, small (c .before .before .before .before))
+add-size c = omega (arith, counted c, small (c .before .before))
 
 add-size-2 : tie.Need-add-size-2 Inv-loop μ-loop
-add-size-2 c = omega (arith, counted c, small (c .before .before .before .before))
+add-size-2 c = omega (arith, counted c, small (c .before .before))
 
 add-b : tie.Need-add-b Inv-loop μ-loop
-add-b c = omega (arith, few-moves (c .before .before .before .before .before .before .before .before .pre))
+add-b c = omega (arith, few-moves (c .before .before .before .before .before .before .pre))
 
 loop-less : tie.Need-loop-less Inv-loop μ-loop
 loop-less c = omega arith
 
 loop-again : tie.Need-loop-again Inv-loop μ-loop
-loop-again c = moves-count (c .before .before .before .before .before .loop .inv) (some (c .before .before .before .before)) (counted c)
+loop-again c = moves-count (c .before .before .before .loop .inv) (some (c .before .before)) (counted c)
 
 returns : tie.Need-returns Inv-loop μ-loop
 returns c = moves-total (c .before .loop .inv) (omega (arith, c .loop-test .left, c .before .before .before .before .pre .count))
@@ -91,14 +74,7 @@ moves-length-spec =
     Inv-loop
     μ-loop
     loop-holds
-    mul-from
-    shared-slice-read-from
-    add-end
-    mul-end
-    shared-slice-read-end
-    sub-items-length
-    part-items-length-start
-    part-items-length-end
+    part-requires
     items-length-requires
     add-size
     add-size-2

@@ -4,9 +4,11 @@ use Prim.Native.Nat.{_-_, _<_}
 use native.Mathlib.Omega.{arith}
 use mathlib.Core.List.{[]}
 use lib.ListN.{length, getD}
+use denote.Ref.{now}
 use Rattle.model.specs.Command.{codeOf}
+use Rattle.normal.specs.Blocks.{Remaining}
 use Rattle.normal.specs.Printing.{printed-to}
-use Rattle.normal.specs.Tables.{readTask, MovesPrinting, move-remaining, block-ordered, block-within, few-moves, moves-start, moves-room, moves-step, moves-end}
+use Rattle.normal.specs.Tables.{readTask, MovesPrinting, move-remaining, block-in, few-moves, moves-start, moves-room, moves-step, moves-end}
 use Rattle.normal.proofs.put_moves.Statement.{statement}
 use Rattle.normal.proofs.put_moves.Tie as tie
 
@@ -20,47 +22,29 @@ abbrev μ-loop : tie.MeasureT-loop
 some : (c : tie.In-loop Inv-loop μ-loop) → c .before .loop .b < length (readTask (c .before .before .before .before .before .args .table .now) .moves)
 some c = omega (arith, c .loop-test .taken, c .before .before .before .before .before .pre .0 .count)
 
+-- its part holds its items
+remains : (c : tie.After-part Inv-loop μ-loop) → Remaining (now (c .part .result)) 1 (getD (readTask (c .before .before .before .before .before .before .args .table .now) .moves) (c .before .before .loop .b) [])
+remains c = move-remaining (c .before .before .before .before .before .before .pre .0) (c .before .before .loop .b) (c .before .loop-test .taken) (c .part .ensures .0)
+
 loop-holds : tie.Need-loop-holds Inv-loop μ-loop
 loop-holds c = let a = c .before .before .before .args in moves-start (readTask (a .table .now) .moves) (a .out .now) (a .start)
 
-mul-from : tie.Need-mul-from Inv-loop μ-loop
-mul-from c = omega (arith, few-moves (c .before .before .before .before .before .pre .0))
-
-shared-slice-read-from : tie.Need-shared-slice-read-from Inv-loop μ-loop
-shared-slice-read-from c = omega (arith, c .before .before .before .before .before .before .pre .0 .long)
-
-add-end : tie.Need-add-end Inv-loop μ-loop
-add-end c = omega (arith, few-moves (c .before .before .before .before .before .before .pre .0))
-
-mul-end : tie.Need-mul-end Inv-loop μ-loop
-mul-end c = omega (arith, few-moves (c .before .before .before .before .before .before .pre .0))
-
-shared-slice-read-end : tie.Need-shared-slice-read-end Inv-loop μ-loop
-shared-slice-read-end c = omega (arith, c .before .before .before .before .before .before .before .pre .0 .long)
-
-sub-put-block : tie.Need-sub-put-block Inv-loop μ-loop
-sub-put-block c = omega (arith, block-ordered (c .before .before .before .before .before .before .before .pre .0) (c .before .before .before .loop .b) (omega arith))
-
-part-put-block-start : tie.Need-part-put-block-start Inv-loop μ-loop
-part-put-block-start c = block-ordered (c .before .before .before .before .before .before .before .pre .0) (c .before .before .before .loop .b) (omega arith)
-
-part-put-block-end : tie.Need-part-put-block-end Inv-loop μ-loop
-part-put-block-end c = block-within (c .before .before .before .before .before .before .before .pre .0) (c .before .before .before .loop .b) (omega arith)
+part-requires : tie.Need-part-requires Inv-loop μ-loop
+part-requires c κs = block-in (c .before .before .before .before .before .pre .0) (c .before .loop .b) (omega arith)
 
 put-block-requires : tie.Need-put-block-requires Inv-loop μ-loop
 put-block-requires c κs =
-    let s = c .before .before .before .before .before .before .before .before .before in
-    let b = c .before .before .before .before .before .loop .b in (
+    let l = c .before .before in (
       record {
-        block = getD (readTask (s .args .table .now) .moves) b [];
-        remaining = move-remaining (s .pre .0) b (c .before .before .before .before .loop-test .taken);
-        fits = moves-room (c .before .before .before .before .before .loop .inv) (some (c .before .before .before .before)) (s .pre .1);
+        block = getD (readTask (c .before .before .before .before .before .before .before .args .table .now) .moves) (l .before .loop .b) [];
+        remaining = remains (c .before);
+        fits = moves-room (l .before .loop .inv) (some l) (c .before .before .before .before .before .before .before .pre .1);
       },
       omega arith,
     )
 
 add-b : tie.Need-add-b Inv-loop μ-loop
-add-b c = omega (arith, few-moves (c .before .before .before .before .before .before .before .before .before .before .before .before .pre .0))
+add-b c = omega (arith, few-moves (c .before .before .before .before .before .before .before .before .before .before .pre .0))
 
 loop-less : tie.Need-loop-less Inv-loop μ-loop
 loop-less c = omega arith
@@ -68,9 +52,7 @@ loop-less c = omega arith
 loop-again : tie.Need-loop-again Inv-loop μ-loop
 unfolding codeOf
 loop-again c =
-    let l = c .before .before .before .before .before .before .before .before in
-    moves-step (l .loop .inv) (some (c .before .before .before .before .before .before .before))
-    (c .before .before .put-block .ensures (getD (readTask (c .before .before .before .before .before .before .before .before .before .before .before .before .args .table .now) .moves) (l .loop .b) []) (move-remaining (c .before .before .before .before .before .before .before .before .before .before .before .before .pre .0) (l .loop .b) (c .before .before .before .before .before .before .before .loop-test .taken)))
+    moves-step (c .before .before .before .before .before .before .loop .inv) (some (c .before .before .before .before .before)) (c .before .before .put-block .ensures _ (remains (c .before .before .before .before)))
 
 same-length : tie.Need-same-length Inv-loop μ-loop
 same-length c = c .before .loop .inv .prints .size
@@ -88,14 +70,7 @@ put-moves-spec =
     Inv-loop
     μ-loop
     loop-holds
-    mul-from
-    shared-slice-read-from
-    add-end
-    mul-end
-    shared-slice-read-end
-    sub-put-block
-    part-put-block-start
-    part-put-block-end
+    part-requires
     put-block-requires
     add-b
     loop-less

@@ -1,28 +1,31 @@
-use Prim.Native.Nat.{ℕ, _<_}
+-- `block_at` meets its contract: a refusal of the table, 10, or the part of the block. Assumes nothing.
+use Prim.Native.Nat.{ℕ}
 use native.Mathlib.Omega.{arith}
-use mathlib.Core.Path.{_≡_, refl}
+use mathlib.Core.Path.{_≡_, refl, subst}
 use mathlib.Core.List.{List}
+use denote.Ref.{RefT, now}
 use Rattle.model.specs.Limits.{paper}
 use Rattle.model.specs.Reading.{reading, both}
-use Rattle.model.specs.Calls.{blockPart, blockRefusal, refusalNumber, refusalPlace}
+use Rattle.model.specs.Calls.{blockPart, blockStart, blockRefusal, refusalNumber, refusalPlace}
 use Rattle.table.specs.Names.{wantedOf}
 use Rattle.table.specs.Answer.{Outlined}
-use Rattle.table.specs.Part.{Handed, part-refused, part-beyond, part-marks}
-use Rattle.reader.specs.Blocks.{block-found}
+use Rattle.reader.specs.Parts.{LiesAt}
+use Rattle.reader.specs.Handed.{Handed, part-refused, part-beyond, part-in, part-found}
 use borrow.Author.Needs.{needs}
 use Rattle.reader.proofs.block_at.Statement.{statement}
 use Rattle.reader.proofs.block_at.Tie as tie
 
-handed : {t : List ℕ} {b : ℕ} {part : List ℕ} {number place : ℕ} → Handed t b (reading paper both t) part number place → (part ≡ blockPart paper t b) × (number ≡ refusalNumber (blockRefusal paper t b)) × (place ≡ refusalPlace (blockRefusal paper t b))
-unfolding blockPart blockRefusal
-handed h = (h .part-is, h .number-is, h .place-is)
+handed :
+    (table part : RefT (List ℕ)) (b : ℕ) {from number place : ℕ} → Handed (now table) b (reading paper both (now table)) (now part) from number place
+    → LiesAt table from part
+    → (now part ≡ blockPart paper (now table) b) × (number ≡ refusalNumber (blockRefusal paper (now table) b)) × (place ≡ refusalPlace (blockRefusal paper (now table) b)) × LiesAt table (blockStart paper (now table) b) part
+unfolding blockPart blockStart blockRefusal
+handed table part b h l =
+    (h .part-is, h .number-is, h .place-is, subst (λ (n : ℕ). LiesAt table n part) (h .from-is) l)
 
 outlined : (c : tie.After-outline) → Outlined (c .before .before .before .args .table .now) (reading paper both (c .before .before .before .args .table .now)) (c .outline .result) (c .outline .last .1 .1 .0)
 unfolding wantedOf
 outlined c = c .outline .ensures
-
-few : (c : tie.Else1) → c .before .before .before .before .before .before .before .args .b < 65
-few c = part-marks (c .before .before .before .before .before .before .before .args .b) (outlined (c .before .before .before .before)) _ _ _ _ (c .before .before .answer2 .given .1) (omega arith) .0
 
 outline-requires : tie.Need-outline-requires
 outline-requires c κs = search needs
@@ -52,22 +55,16 @@ part-result-end-2 : tie.Need-part-result-end-2
 part-result-end-2 c = search needs
 
 returns : tie.Need-returns
-returns c = handed (part-beyond (c .before .before .before .before .before .before .before .before .args .b) (outlined (c .before .before .before .before .before)) _ _ _ _ (c .before .before .before .answer2 .given .1) (omega arith) refl)
+returns c = handed _ _ (c .before .before .before .before .before .before .before .before .args .b) (part-beyond (c .before .before .before .before .before .before .before .before .args .b) (outlined (c .before .before .before .before .before)) _ _ _ _ (c .before .before .before .answer2 .given .1) (omega arith) refl) (record { memory = refl; offset = omega arith })
 
-mul-part-from : tie.Need-mul-part-from
-mul-part-from c = omega (arith, few c)
-
-array-read-part-from : tie.Need-array-read-part-from
-array-read-part-from c = omega (arith, few c)
-
-part-from-requires : tie.Need-part-from-requires
-part-from-requires c κs = search needs
+marked-requires : tie.Need-marked-requires
+marked-requires c κs = part-in _ (outlined (c .before .before .before .before .before)) _ _ _ _ (c .before .before .before .answer2 .given .1) (omega arith)
 
 returns-2 : tie.Need-returns-2
-returns-2 c = handed (part-refused (c .before .before .before .before .before .before .before .args .b) (outlined (c .before .before .before .before)) _ (c .before .before .answer .given .1) refl)
+returns-2 c = handed _ _ (c .before .before .before .before .before .before .before .args .b) (part-refused (c .before .before .before .before .before .before .before .args .b) (outlined (c .before .before .before .before)) _ (c .before .before .answer .given .1) refl) (record { memory = refl; offset = omega arith })
 
 returns-3 : tie.Need-returns-3
-returns-3 c = handed (block-found paper both (c .before .before .before .before .before .before .before .before .args .b) (outlined (c .before .before .before .before .before)) _ _ _ _ (c .before .before .before .answer2 .given .1) (omega arith) (c .part-from .ensures))
+returns-3 c = handed _ _ (c .before .before .before .before .before .before .before .before .before .args .b) (part-found (c .before .before .before .before .before .before .before .before .before .args .b) (outlined (c .before .before .before .before .before .before)) _ _ _ _ (c .before .before .before .before .answer2 .given .1) (omega arith) (c .marked .ensures .0)) (c .marked .ensures .1)
 
 pub block-at-spec : {M : Type 1} → statement M
 block-at-spec =
@@ -83,8 +80,6 @@ block-at-spec =
     part-result-start-2
     part-result-end-2
     returns
-    mul-part-from
-    array-read-part-from
-    part-from-requires
+    marked-requires
     returns-2
     returns-3)

@@ -56,8 +56,8 @@ moves-again c =
     let m = c .before .before .before .moves in
     (omega arith, λ x. from-next _ (m .inv .1 x) (c .before .before .if1 .left) (fails (x .search) _ (c .before .before .if1 .left) (not-true _ (c .if2 .taken))))
 
-part-of-requires : tie.Need-part-of-requires Inv-loop μ-loop Inv-moves μ-moves
-part-of-requires c κs = part-in (c .before .before .before .before .before .before .before .pre .search) (c .before .before .if1 .left)
+part-requires : tie.Need-part-requires Inv-loop μ-loop Inv-moves μ-moves
+part-requires c κs = part-in (c .before .before .before .before .before .before .before .pre .search) (c .before .before .if1 .left)
 
 loop-holds : tie.Need-loop-holds Inv-loop μ-loop Inv-moves μ-moves
 loop-holds c =
@@ -67,9 +67,9 @@ loop-holds c =
       refl,
       lt,
       not-false _ (e .if2 .left),
-      c .part-of .ensures,
-      achiever-start (x₀ .search) _ _ lt (e .before .before .before .moves .inv .1 x₀) (c .part-of .ensures) .reading .left .bytes .within,
-      λ x. achiever-start (x .search) _ _ lt (e .before .before .before .moves .inv .1 x) (c .part-of .ensures),
+      c .part .ensures .0,
+      achiever-start (x₀ .search) _ _ lt (e .before .before .before .moves .inv .1 x₀) (c .part .ensures .0) .reading .left .bytes .within,
+      λ x. achiever-start (x .search) _ _ lt (e .before .before .before .moves .inv .1 x) (c .part .ensures .0),
     )
 
 next-requires : tie.Need-next-requires Inv-loop μ-loop Inv-moves μ-moves
@@ -281,7 +281,7 @@ find-achiever-spec =
     add-b
     moves-less
     moves-again
-    part-of-requires
+    part-requires
     loop-holds
     next-requires
     enum-known-kind

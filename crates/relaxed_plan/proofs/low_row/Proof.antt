@@ -2,7 +2,7 @@
 -- Assumes nothing.
 use Prim.Native.Nat.{_-_, _≤_}
 use native.Mathlib.Omega.{arith}
-use mathlib.Core.Path.{refl, ap₂, _∙_}
+use mathlib.Core.Path.{ap₂, _∙_}
 use lib.IntN.{pos}
 use lib.ListN.{getD}
 use Rattle.integer.specs.Linear.{back}
@@ -17,7 +17,7 @@ abbrev μ-loop : tie.MeasureT-loop
 μ-loop row start n lows₀ v₀ lows v = n - v
 
 loop-holds : tie.Need-loop-holds Inv-loop μ-loop
-loop-holds c = (omega arith, filled-none refl)
+loop-holds c = (omega arith, filled-none (c .pre .3))
 
 mul-x : tie.Need-mul-x Inv-loop μ-loop
 mul-x c = omega arith
@@ -34,11 +34,11 @@ shared-slice-copy-out-y c = omega arith
 low-requires : tie.Need-low-requires Inv-loop μ-loop
 low-requires c κs = tt
 
-mul-lows : tie.Need-mul-lows Inv-loop μ-loop
-mul-lows c = omega arith
+mul-t9 : tie.Need-mul-t9 Inv-loop μ-loop
+mul-t9 c = omega arith
 
-array-set-from-lows : tie.Need-array-set-from-lows Inv-loop μ-loop
-array-set-from-lows c = omega arith
+element-set-from-lows : tie.Need-element-set-from-lows Inv-loop μ-loop
+element-set-from-lows c = omega arith
 
 add-v : tie.Need-add-v Inv-loop μ-loop
 add-v c = omega arith
@@ -70,8 +70,8 @@ low-row-spec =
     mul-y
     shared-slice-copy-out-y
     low-requires
-    mul-lows
-    array-set-from-lows
+    mul-t9
+    element-set-from-lows
     add-v
     loop-less
     loop-again

@@ -2,7 +2,7 @@
 use mathlib.Core.Path.{subst}
 use Rattle.layers.specs.Building.{IsBuilt}
 use Rattle.layers.specs.Preparing.{ReadyIn, IsPrepared, ready-buildable}
-use Rattle.relaxed_plan.specs.Answer.{built-stored, planned-refused, planned-exhausted, planned-stopped, planned-reached}
+use Rattle.relaxed_plan.specs.Answer.{built-stored, planned-refused, planned-exhausted, planned-stopped, planned-reached, planned-within}
 use borrow.Author.Needs.{needs}
 use Rattle.relaxed_plan.proofs.plan.Statement.{statement}
 use Rattle.relaxed_plan.proofs.plan.Tie as tie
@@ -50,7 +50,7 @@ returns c =
     let a = c .before .before .before .before .before .before .before .before .args in
     let d = planned-refused (a .table .now) (a .state .now) (a .layers .now) (a .out .now)
     (subst (IsPrepared (a .table .now) (a .state .now) (c .before .before .before .prepare .last .1 .1 .0)) (c .before .r .given .1) (c .before .before .before .prepare .ensures)) in
-    (d .answers, d .leaves, d .writes-is)
+    (d .answers, d .leaves, d .writes-is, planned-within d)
 
 same-length : tie.Need-same-length
 same-length c = search needs
@@ -65,7 +65,7 @@ returns-2 c =
     let r = accepted-both m in
     let b = subst (IsBuilt (r .task) _ (a .layers .now) _) (c .before .before .before .before .before .before .before .layer .given .1) (c .before .before .before .before .before .before .before .before .before .before .build .ensures .is (r .task) (r .outlined) (r .counts)) in
     let d = planned-reached (a .out .now) r b (c .before .before .extract .ensures (built-stored r b)) in
-    (d .answers, d .leaves, d .writes-is)
+    (d .answers, d .leaves, d .writes-is, planned-within d)
 
 same-length-3 : tie.Need-same-length-3
 same-length-3 c = search needs
@@ -77,7 +77,7 @@ returns-3 c =
     let r = accepted-both m in
     let b = subst (IsBuilt (r .task) _ (a .layers .now) _) (c .before .last .given .1) (c .before .before .before .before .build .ensures .is (r .task) (r .outlined) (r .counts)) in
     let d = planned-exhausted (a .table .now) (a .state .now) (a .layers .now) (c .before .before .before .before .build .last .1 .1 .1 .1 .1 .1 .0) (a .out .now) (r .is) b in
-    (d .answers, d .leaves, d .writes-is)
+    (d .answers, d .leaves, d .writes-is, planned-within d)
 
 same-length-4 : tie.Need-same-length-4
 same-length-4 c = search needs
@@ -89,7 +89,7 @@ returns-4 c =
     let r = accepted-both m in
     let b = subst (IsBuilt (r .task) _ (a .layers .now) _) (c .before .number .given .1) (c .before .before .before .before .build .ensures .is (r .task) (r .outlined) (r .counts)) in
     let d = planned-stopped (a .table .now) (a .state .now) (a .layers .now) (c .before .before .before .before .build .last .1 .1 .1 .1 .1 .1 .0) (a .out .now) (r .is) b in
-    (d .answers, d .leaves, d .writes-is)
+    (d .answers, d .leaves, d .writes-is, planned-within d)
 
 pub plan-spec : {M : Type 1} → statement M
 plan-spec =

@@ -1,5 +1,4 @@
 -- `put_record` meets its contract. Assumes nothing.
-use Prim.Native.Nat.{_-_}
 use native.Mathlib.Omega.{arith}
 use lib.ListN.{length-set}
 use Rattle.relaxed_plan.specs.Records.{put-one}

@@ -2,7 +2,7 @@
 -- left. Assumes nothing.
 use Prim.Native.Nat.{_+_, _-_, _≤_}
 use native.Mathlib.Omega.{arith}
-use mathlib.Core.Path.{refl, ap, _∙_}
+use mathlib.Core.Path.{ap, _∙_}
 use mathlib.Core.Bool.{false}
 use lib.IntN.{ℤ, pos}
 use lib.ListN.{getD}
@@ -18,7 +18,7 @@ abbrev μ-loop : tie.MeasureT-loop
 μ-loop layers from n t flags₀ i₀ flags i = n - i
 
 loop-holds : tie.Need-loop-holds Inv-loop μ-loop
-loop-holds c = (omega arith, filled-none refl)
+loop-holds c = (omega arith, filled-none (c .pre .3))
 
 add-e : tie.Need-add-e Inv-loop μ-loop
 add-e c = omega arith
@@ -32,8 +32,8 @@ shared-slice-copy-out-e c = omega arith
 held-requires : tie.Need-held-requires Inv-loop μ-loop
 held-requires c κs = omega arith
 
-array-write-flags : tie.Need-array-write-flags Inv-loop μ-loop
-array-write-flags c = omega arith
+element-write-flags : tie.Need-element-write-flags Inv-loop μ-loop
+element-write-flags c = omega arith
 
 add-i : tie.Need-add-i Inv-loop μ-loop
 add-i c = omega arith
@@ -63,7 +63,7 @@ read-entries-spec =
     mul-e
     shared-slice-copy-out-e
     held-requires
-    array-write-flags
+    element-write-flags
     add-i
     loop-less
     loop-again

@@ -2,7 +2,6 @@
 -- Assumes nothing.
 use Prim.Native.Nat.{_-_, _≤_}
 use native.Mathlib.Omega.{arith}
-use mathlib.Core.Path.{refl}
 use lib.IntN.{pos}
 use Rattle.integer.specs.Linear.{back}
 use Rattle.relaxed_plan.specs.View.{numberAt, Filled, filled-none, filled-step, filled-end}
@@ -16,7 +15,7 @@ abbrev μ-loop : tie.MeasureT-loop
 μ-loop layers from n row₀ i₀ row i = n - i
 
 loop-holds : tie.Need-loop-holds Inv-loop μ-loop
-loop-holds c = (omega arith, filled-none refl)
+loop-holds c = (omega arith, filled-none (c .pre .2))
 
 add-x : tie.Need-add-x Inv-loop μ-loop
 add-x c = omega arith
@@ -27,11 +26,11 @@ mul-x c = omega arith
 shared-slice-copy-out-x : tie.Need-shared-slice-copy-out-x Inv-loop μ-loop
 shared-slice-copy-out-x c = omega arith
 
-mul-row : tie.Need-mul-row Inv-loop μ-loop
-mul-row c = omega arith
+mul-x-2 : tie.Need-mul-x-2 Inv-loop μ-loop
+mul-x-2 c = omega arith
 
-array-set-from-row : tie.Need-array-set-from-row Inv-loop μ-loop
-array-set-from-row c = omega arith
+element-set-from-x : tie.Need-element-set-from-x Inv-loop μ-loop
+element-set-from-x c = omega arith
 
 add-i : tie.Need-add-i Inv-loop μ-loop
 add-i c = omega arith
@@ -58,8 +57,8 @@ read-row-spec =
     add-x
     mul-x
     shared-slice-copy-out-x
-    mul-row
-    array-set-from-row
+    mul-x-2
+    element-set-from-x
     add-i
     loop-less
     loop-again

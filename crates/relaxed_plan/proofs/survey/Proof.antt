@@ -5,33 +5,19 @@ use native.Mathlib.Omega.{arith}
 use mathlib.Core.Path.{_≡_, sym, ap, _∙_}
 use borrow.Author.Needs.{needs}
 use lib.ListN.{length, length-replicate}
-use Rattle.relaxed_plan.specs.Layers.{Stored, stored-vars, stored-moves, stored-room, stored-entries, stored-start}
-use Rattle.relaxed_plan.specs.Passes.{walk-goal, walk-start, walk-layer, walk-next, walk-long, walk-counted, Surveying, survey-start, survey-down, survey-next, survey-few, survey-end}
+use Rattle.relaxed_plan.specs.Layers.{stored-moves}
+use Rattle.relaxed_plan.specs.Passes.{Begun, walk-layer, walk-next, walk-long, walk-counted, Surveying, survey-start, survey-down, survey-next, survey-few, survey-end}
 use Rattle.relaxed_plan.proofs.survey.Statement.{statement}
 use Rattle.relaxed_plan.proofs.survey.Tie as tie
 
 abbrev Inv-loop : tie.InvT-loop
-Inv-loop table marks layers props vars moves m start wants₀ counts₀ records₀ t₀ wants counts records t =
+Inv-loop wants₀ table marks layers start props vars moves m counts₀ records₀ t₀ wants counts records t =
     (t ≤ m)
     × (length counts ≡ 64)
-    × ((x : Stored table marks layers props vars moves m) → Surveying x t wants counts records)
+    × ((x : Begun table marks layers start props vars moves m wants₀) → Surveying (x .stored) t wants counts records)
 
 abbrev μ-loop : tie.MeasureT-loop
-μ-loop table marks layers props vars moves m start wants₀ counts₀ records₀ t₀ wants counts records t = t
-
-add-read-row : tie.Need-add-read-row Inv-loop μ-loop
-add-read-row c = omega (arith, stored-entries (c .before .before .pre))
-
-read-row-requires : tie.Need-read-row-requires Inv-loop μ-loop
-read-row-requires c κs =
-    let x = c .before .before .pre in
-    (omega (arith, stored-room x {t = 0} (omega arith)), stored-vars x)
-
-slice-aggregate-want-goal : tie.Need-slice-aggregate-want-goal Inv-loop μ-loop
-slice-aggregate-want-goal c = search needs
-
-want-goal-requires : tie.Need-want-goal-requires Inv-loop μ-loop
-want-goal-requires c κs = walk-goal (c .before .before .before .before .pre) (stored-start (c .before .before .before .before .pre) (c .before .read-row .ensures))
+μ-loop wants₀ table marks layers start props vars moves m counts₀ records₀ t₀ wants counts records t = t
 
 no-counts-requires : tie.Need-no-counts-requires Inv-loop μ-loop
 no-counts-requires c κs = tt
@@ -40,71 +26,60 @@ loop-holds : tie.Need-loop-holds Inv-loop μ-loop
 loop-holds c = (
   omega arith,
   ap length (c .no-counts .ensures) ∙ length-replicate {A = ℕ} 64 0,
-  λ x.
-      let row = stored-start x (c .before .before .before .read-row .ensures) in
-      survey-start x (walk-start x row (c .before .want-goal .ensures (walk-goal x row))) (c .no-counts .ensures),
+  λ x. survey-start (x .stored) (x .walked) (c .no-counts .ensures),
 )
-
-sub-t : tie.Need-sub-t Inv-loop μ-loop
-sub-t c = omega arith
-
-slice-aggregate-descend : tie.Need-slice-aggregate-descend Inv-loop μ-loop
-slice-aggregate-descend c = search needs
 
 descend-requires : tie.Need-descend-requires Inv-loop μ-loop
 descend-requires c κs =
-    let x = c .before .before .before .before .before .before .before .before .before .before .pre in
-    let i = c .before .before in
-    let row = stored-start x (i .before .before .before .before .before .read-row .ensures) in
+    let i = c .before in
+    let x = i .before .before .before .before .before .pre in
     let s = survey-down (i .loop-test .taken) (i .before .loop .inv .2 x) in
-    let lt : i .before .loop .t - 1 < i .before .before .before .before .before .before .before .before .args .m = omega (arith, i .loop-test .taken, i .before .loop .inv .0) in
-    (walk-layer x row lt (s .walked), omega (arith, x .most, lt))
+    let lt : i .before .loop .t - 1 < i .before .before .before .before .before .args .m = omega (arith, i .loop-test .taken, i .before .loop .inv .0) in
+    (walk-layer (x .stored) (x .row) lt (s .walked), i .loop-test .taken, omega (arith, x .stored .most, lt))
+
+sub-t : tie.Need-sub-t Inv-loop μ-loop
+sub-t c = omega (arith, c .before .before .loop-test .taken)
 
 slice-aggregate-count-taken : tie.Need-slice-aggregate-count-taken Inv-loop μ-loop
 slice-aggregate-count-taken c =
-    let x = c .before .before .before .before .before .before .before .before .before .before .before .before .pre in
-    let i = c .before .before .before .before in
-    let row = stored-start x (i .before .before .before .before .before .read-row .ensures) in
+    let i = c .before .before .before in
+    let x = i .before .before .before .before .before .pre in
     let s = survey-down (i .loop-test .taken) (i .before .loop .inv .2 x) in
-    let lt : i .before .loop .t - 1 < i .before .before .before .before .before .before .before .before .args .m = omega (arith, i .loop-test .taken, i .before .loop .inv .0) in
-    sym (walk-long x row lt (s .walked) (c .before .descend .ensures (walk-layer x row lt (s .walked))))
+    let lt : i .before .loop .t - 1 < i .before .before .before .before .before .args .m = omega (arith, i .loop-test .taken, i .before .loop .inv .0) in
+    sym (walk-long (x .stored) (x .row) lt (s .walked) (c .before .descend .ensures (walk-layer (x .stored) (x .row) lt (s .walked))))
 
 count-taken-requires : tie.Need-count-taken-requires Inv-loop μ-loop
 count-taken-requires c κs =
-    let x = c .before .before .before .before .before .before .before .before .before .before .before .before .pre in
-    let i = c .before .before .before .before in
-    let row = stored-start x (i .before .before .before .before .before .read-row .ensures) in
+    let i = c .before .before .before in
+    let x = i .before .before .before .before .before .pre in
     let s = survey-down (i .loop-test .taken) (i .before .loop .inv .2 x) in
-    let lt : i .before .loop .t - 1 < i .before .before .before .before .before .before .before .before .args .m = omega (arith, i .loop-test .taken, i .before .loop .inv .0) in
-    omega (arith, walk-long x row lt (s .walked) (c .before .descend .ensures (walk-layer x row lt (s .walked))), stored-moves x)
+    let lt : i .before .loop .t - 1 < i .before .before .before .before .before .args .m = omega (arith, i .loop-test .taken, i .before .loop .inv .0) in
+    omega (arith, walk-long (x .stored) (x .row) lt (s .walked) (c .before .descend .ensures (walk-layer (x .stored) (x .row) lt (s .walked))), stored-moves (x .stored))
 
 add-records : tie.Need-add-records Inv-loop μ-loop
 add-records c =
-    let x = c .before .before .before .before .before .before .before .before .before .before .before .before .before .pre in
-    let i = c .before .before .before .before .before in
-    let row = stored-start x (i .before .before .before .before .before .read-row .ensures) in
+    let i = c .before .before .before .before in
+    let x = i .before .before .before .before .before .pre in
     let s = survey-down (i .loop-test .taken) (i .before .loop .inv .2 x) in
-    let lt : i .before .loop .t - 1 < i .before .before .before .before .before .before .before .before .args .m = omega (arith, i .loop-test .taken, i .before .loop .inv .0) in
-    let e = c .before .before .descend .ensures (walk-layer x row lt (s .walked)) in
-    omega (arith, survey-few x (survey-next x lt s (walk-next x row lt (s .walked) e) (walk-counted x row lt (s .walked) e) (c .count-taken .ensures .0)))
+    let lt : i .before .loop .t - 1 < i .before .before .before .before .before .args .m = omega (arith, i .loop-test .taken, i .before .loop .inv .0) in
+    let e = c .before .before .descend .ensures (walk-layer (x .stored) (x .row) lt (s .walked)) in
+    omega (arith, survey-few (x .stored) (survey-next (x .stored) lt s (walk-next (x .stored) (x .row) lt (s .walked) e) (walk-counted (x .stored) (x .row) lt (s .walked) e) (c .count-taken .ensures .0)))
 
 loop-less : tie.Need-loop-less Inv-loop μ-loop
 loop-less c = omega arith
 
 loop-again : tie.Need-loop-again Inv-loop μ-loop
 loop-again c =
-    let x₀ = c .before .before .before .before .before .before .before .before .before .before .before .before .before .pre in
-    let i = c .before .before .before .before .before in
-    let row₀ = stored-start x₀ (i .before .before .before .before .before .read-row .ensures) in
+    let i = c .before .before .before .before in
+    let x₀ = i .before .before .before .before .before .pre in
     let s₀ = survey-down (i .loop-test .taken) (i .before .loop .inv .2 x₀) in
-    let lt : i .before .loop .t - 1 < i .before .before .before .before .before .before .before .before .args .m = omega (arith, i .loop-test .taken, i .before .loop .inv .0) in (
+    let lt : i .before .loop .t - 1 < i .before .before .before .before .before .args .m = omega (arith, i .loop-test .taken, i .before .loop .inv .0) in (
       omega arith,
-      walk-long x₀ row₀ lt (s₀ .walked) (c .before .before .descend .ensures (walk-layer x₀ row₀ lt (s₀ .walked))),
+      walk-long (x₀ .stored) (x₀ .row) lt (s₀ .walked) (c .before .before .descend .ensures (walk-layer (x₀ .stored) (x₀ .row) lt (s₀ .walked))),
       λ x.
-          let row = stored-start x (i .before .before .before .before .before .read-row .ensures) in
           let s = survey-down (i .loop-test .taken) (i .before .loop .inv .2 x) in
-          let e = c .before .before .descend .ensures (walk-layer x row lt (s .walked)) in
-          survey-next x lt s (walk-next x row lt (s .walked) e) (walk-counted x row lt (s .walked) e) (c .count-taken .ensures .0),
+          let e = c .before .before .descend .ensures (walk-layer (x .stored) (x .row) lt (s .walked)) in
+          survey-next (x .stored) lt s (walk-next (x .stored) (x .row) lt (s .walked) e) (walk-counted (x .stored) (x .row) lt (s .walked) e) (c .count-taken .ensures .0),
     )
 
 slice-aggregate-first-set : tie.Need-slice-aggregate-first-set Inv-loop μ-loop
@@ -113,11 +88,11 @@ slice-aggregate-first-set c = search needs
 first-set-requires : tie.Need-first-set-requires Inv-loop μ-loop
 first-set-requires c κs =
     let l = c .before .before in
-    let few = stored-moves (l .before .before .before .before .before .before .before .pre) in
+    let few = stored-moves (l .before .before .before .before .pre .stored) in
     (omega (arith, l .loop .inv .1, few), few)
 
 returns : tie.Need-returns Inv-loop μ-loop
-returns c x = survey-end x _ (c .before .before .loop-test .left) (c .before .before .before .loop .inv .2 x) (c .first-set .ensures)
+returns c x = survey-end (x .stored) _ (c .before .before .loop-test .left) (c .before .before .before .loop .inv .2 x) (c .first-set .ensures)
 
 pub survey-spec : {M : Type 1} → statement M
 survey-spec =
@@ -125,15 +100,10 @@ survey-spec =
     (tie.spec
     Inv-loop
     μ-loop
-    add-read-row
-    read-row-requires
-    slice-aggregate-want-goal
-    want-goal-requires
     no-counts-requires
     loop-holds
-    sub-t
-    slice-aggregate-descend
     descend-requires
+    sub-t
     slice-aggregate-count-taken
     count-taken-requires
     add-records

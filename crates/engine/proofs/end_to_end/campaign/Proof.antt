@@ -6,7 +6,8 @@ use lib.Seq.{length-take-le}
 use Rattle.model.specs.declared.WriteAnswer.the-variants as write
 use Rattle.model.specs.Limits.{paper}
 use Rattle.model.specs.Calls.{normaliseAnswer}
-use Rattle.engine.specs.Campaign.{written-hands, done-written, done-refused}
+use Rattle.model.specs.Theorems.Demand2.{written-hands}
+use Rattle.engine.specs.Campaign.{done-written, done-refused}
 use borrow.Author.Needs.{needs}
 use Rattle.engine.proofs.end_to_end.campaign.Statement.{statement}
 use Rattle.engine.proofs.end_to_end.campaign.Tie as tie

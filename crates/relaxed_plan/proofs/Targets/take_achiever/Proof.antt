@@ -56,24 +56,18 @@ recount-requires c κs =
     let x = m .before .before .before .before .before .before .pre .0 in
     move-small x (achieved m x .lt)
 
-part-of-requires : tie.Need-part-of-requires
-part-of-requires c κs =
+part-requires : tie.Need-part-requires
+part-requires c κs =
     let m = c .before .before .before .before in
     let x = m .before .before .before .before .before .before .pre .0 in
     part-in (x .search) (achieved m x .lt)
-
-want-block-requires : tie.Need-want-block-requires
-want-block-requires c κs =
-    let m = c .before .before .before .before .before in
-    let x = m .before .before .before .before .before .before .pre .0 in
-    move-wantable x (achieved m x .lt) (c .part-of .ensures)
 
 demand-requires : tie.Need-demand-requires
 demand-requires c κs = search needs
 
 -- the effect of a later place
 abbrev found : tie.After-demand → tie.After-index
-found c = c .before .before .before .before .before .before .before
+found c = c .before .before .before .before .before .before
 
 -- what the effect's value has to reach, and its sum
 told : (c : tie.After-demand) → let m = found c in c .demand .result ≡ demandBy (m .index .given .0 .1 .0) (m .before .before .before .before .before .before .args .target)
@@ -103,26 +97,32 @@ sub-requires c κs =
     rw (back (c .demand .result) (c .demand .ok), back-small z (omega (arith, effect-base (h .effect))))
     (omega (arith, ap natAbs (told c), effect-base (h .effect), demand-size (m .index .given .0 .1 .0) (a .args .target), a .pre .1))
 
+want-block-requires : tie.Need-want-block-requires
+want-block-requires c κs =
+    let m = found (c .before) in
+    let x = m .before .before .before .before .before .before .pre .0 in
+    move-wantable x (achieved m x .lt) (c .before .before .part .ensures .0)
+
 want-sum-requires : tie.Need-want-sum-requires
 want-sum-requires c κs =
-    let m = found (c .before) in
+    let u = c .before in
+    let m = found (u .before) in
     let a = m .before .before .before .before .before .before in
     let x = a .pre .0 in
     let h = achieved m x in
-    let w = c .before .before in
-    let e = w .before .part-of .ensures in
-    (effect-wantable x h e (w .want-block .ensures (move-wantable x (h .lt) e)), rw (back (c .sub .result) (c .sub .ok)) (omega (arith, needed c .1, a .pre .1)))
+    let e = u .before .before .part .ensures .0 in
+    (effect-wantable x h e (c .want-block .ensures (move-wantable x (h .lt) e)), rw (back (u .sub .result) (u .sub .ok)) (omega (arith, needed u .1, a .pre .1)))
 
 returns-2 : tie.Need-returns-2
 returns-2 c x old =
-    let u = c .before in
-    let w = u .before .before in
-    let p = w .before in
+    let w = c .before in
+    let u = w .before in
+    let p = u .before .before in
     let k = p .before .before in
     let m = found (u .before) in
     let a = m .before .before .before .before .before .before in
     let h = achieved m x in
-    let e = p .part-of .ensures in
+    let e = p .part .ensures .0 in
     let wanted = w .want-block .ensures (move-wantable x (h .lt) e) in
     let value = m .index .given .0 .1 .1 .1 .1 .1 .0 in
     achiever-taken x h e wanted old (needed u .0)
@@ -140,9 +140,9 @@ take-achiever-spec =
     returns
     runs-requires
     recount-requires
-    part-of-requires
-    want-block-requires
+    part-requires
     demand-requires
     sub-requires
+    want-block-requires
     want-sum-requires
     returns-2)

@@ -28,8 +28,8 @@ recount-requires c κs =
     let h = subst (IsAdder (x .search .task) (x .search .over) _ _) (m .b .given .1) (f .find-adder .ensures (x .search)) in
     move-small x (h .lt)
 
-part-of-requires : tie.Need-part-of-requires
-part-of-requires c κs =
+part-requires : tie.Need-part-requires
+part-requires c κs =
     let m = c .before .before .before in
     let f = m .before .before in
     let x = f .before .before .before .before .pre in
@@ -42,7 +42,7 @@ want-block-requires c κs =
     let f = m .before .before in
     let x = f .before .before .before .before .pre in
     let h = subst (IsAdder (x .search .task) (x .search .over) _ _) (m .b .given .1) (f .find-adder .ensures (x .search)) in
-    move-wantable x (h .lt) (c .part-of .ensures)
+    move-wantable x (h .lt) (c .part .ensures .0)
 
 returns-2 : tie.Need-returns-2
 returns-2 c x =
@@ -50,7 +50,7 @@ returns-2 c x =
     let m = p .before .before .before .before in
     let f = m .before .before in
     let h = subst (IsAdder (x .search .task) (x .search .over) _ _) (m .b .given .1) (f .find-adder .ensures (x .search)) in
-    adder-taken x h (p .part-of .ensures) (c .want-block .ensures (move-wantable x (h .lt) (p .part-of .ensures))) (p .before .recount .ensures)
+    adder-taken x h (p .part .ensures .0) (c .want-block .ensures (move-wantable x (h .lt) (p .part .ensures .0))) (p .before .recount .ensures)
 
 pub take-adder-spec : {M : Type 1} → statement M
 take-adder-spec =
@@ -61,6 +61,6 @@ take-adder-spec =
     enum-told
     returns
     recount-requires
-    part-of-requires
+    part-requires
     want-block-requires
     returns-2)

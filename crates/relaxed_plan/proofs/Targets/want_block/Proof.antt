@@ -14,11 +14,11 @@ use Rattle.relaxed_plan.proofs.Targets.want_block.Statement.{statement}
 use Rattle.relaxed_plan.proofs.Targets.want_block.Tie as tie
 
 abbrev Inv-loop : tie.InvT-loop
-Inv-loop part row lows self₀ at₀ self at =
+Inv-loop self₀ part row lows at₀ self at =
     (at ≤ length part) × ((x : BlockWantable part row lows self₀) → BlockDone x at self)
 
 abbrev μ-loop : tie.MeasureT-loop
-μ-loop part row lows self₀ at₀ self at = length part - at
+μ-loop self₀ part row lows at₀ self at = length part - at
 
 loop-holds : tie.Need-loop-holds Inv-loop μ-loop
 loop-holds c = (c .before .pre .left .bytes .within, λ x. block-start x)
@@ -55,24 +55,24 @@ loop-again c =
 enum-known-bound : tie.Need-enum-known-bound Inv-loop μ-loop
 enum-known-bound c = search needs
 
-raise-sum-requires : tie.Need-raise-sum-requires Inv-loop μ-loop
-raise-sum-requires c κs =
-    let m = c .before .before in
+want-sum-requires : tie.Need-want-sum-requires Inv-loop μ-loop
+want-sum-requires c κs =
+    let m = c .before in
     let n = m .before .before in
     let x = n .before .before .before .pre in
     let d = n .before .loop .inv .1 x in
     let f = next-is (n .next .ensures) (m .bound .given .1) .found (x .ranges) (d .reading .rest) (d .reading .left) in
     let z = m .bound .given .0 .1 .0 in
-    (record { props = n .before .loop .self .props; it = condition-wantable x d f }, rw (back-small z (omega (arith, condition-size x d f))) (omega (arith, condition-size x d f)))
+    (condition-wantable x d f, rw (back-small z (omega (arith, condition-size x d f))) (omega (arith, condition-size x d f)))
 
 loop-less-2 : tie.Need-loop-less-2 Inv-loop μ-loop
 loop-less-2 c =
-    let m = c .before .before .before in
+    let m = c .before .before in
     omega (arith, next-is (m .before .before .next .ensures) (m .bound .given .1) .moves)
 
 loop-again-2 : tie.Need-loop-again-2 Inv-loop μ-loop
 loop-again-2 c =
-    let m = c .before .before .before in
+    let m = c .before .before in
     let n = m .before .before in
     let t = next-is (n .next .ensures) (m .bound .given .1) in (
       t .moves .1,
@@ -80,7 +80,7 @@ loop-again-2 c =
           let d = n .before .loop .inv .1 x in
           let f = t .found (x .ranges) (d .reading .rest) (d .reading .left) in
           let z = m .bound .given .0 .1 .0 in
-          block-condition x d f (rw (back-small z (omega (arith, condition-size x d f))) at (c .raise-sum .ensures (n .before .loop .self .props) (condition-wantable x d f))),
+          block-condition x d f (rw (back-small z (omega (arith, condition-size x d f))) at (c .want-sum .ensures (condition-wantable x d f))),
     )
 
 enum-known-after : tie.Need-enum-known-after Inv-loop μ-loop
@@ -165,7 +165,7 @@ want-block-spec =
     loop-less
     loop-again
     enum-known-bound
-    raise-sum-requires
+    want-sum-requires
     loop-less-2
     loop-again-2
     enum-known-after
