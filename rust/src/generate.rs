@@ -16,4 +16,4 @@ pub use damage::{
 pub use rng::Rng;
 pub use sizes::Sizes;
 pub use task::{state_for, task, task_of, Task};
-pub use tuned::{at_value_limit, dense, full_length, large_values, m1, steep, waves};
+pub use tuned::{at_value_limit, dense, full_length, large_values, m1, many_records, steep, waves};

@@ -5,7 +5,9 @@ mod common;
 use campaign::answer::Answer;
 use campaign::call::CallKind;
 use campaign::engine::{Calls, Engine};
-use campaign::generate::{m1, single_byte_changes, truncations, wrong_state, Rng, Sizes, Task};
+use campaign::generate::{
+    m1, many_records, single_byte_changes, truncations, wrong_state, Rng, Sizes, Task,
+};
 use campaign::harness::{check_lines, planned};
 use campaign::meaning::{check_meaning, solves};
 use campaign::proved;
@@ -83,6 +85,21 @@ fn hundreds_of_layers() {
     }
     tally.expect(400, &[0, 13, 14]);
     assert!(most > 1_000, "{most} records");
+}
+
+/// The engine keeps up to 64 records while it counts them, and goes down the layers again for more.
+#[test]
+fn records_around_those_that_are_kept() {
+    let mut rng = Rng::new(414);
+    let mut tally = Tally::new(ENGINE, 415);
+    for (adders, twice) in [(61, 1), (62, 1), (63, 1), (62, 2)] {
+        let task = many_records(adders, twice);
+        check_sizes(&mut tally, &mut rng, &task);
+        let planned = check_meaning(&task, planned(ENGINE, &task.table, &task.state))
+            .expect("all values are small");
+        assert_eq!(planned.records.len(), adders + 2 * twice);
+    }
+    tally.expect(40, &[0, 13, 14]);
 }
 
 #[test]

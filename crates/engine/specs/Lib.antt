@@ -1,3 +1,2 @@
 pub mod Campaign
-pub mod Copying
 pub mod Parts

@@ -1,20 +1,22 @@
 -- The block reader's answer from its part, number and place.
 -- Assumes nothing.
 use Prim.Native.Nat.{ℕ, _+_, _*_, _^_, _≤_}
-use mathlib.Core.Path.{_≡_, refl}
+use mathlib.Core.Path.{_≡_, refl, _∙_}
 use mathlib.Core.Bool.{true, false}
 use mathlib.Core.List.{List}
 use mathlib.Core.Option.{Option, none, some}
 use native.Mathlib.Omega.{arith}
 use lib.Dec.{eqb}
-use lib.ListN.{length}
+use lib.ListN.{length, take}
 use borrow.Author.Tests.{ne-eqb}
+use Rattle.integer.specs.Store.{put}
 use Rattle.model.specs.declared.Refusal.{Refusal}
 use Rattle.model.specs.Limits.{paper}
 use Rattle.model.specs.Calls.{refusalNumber, refusalPlace, blockPart, blockRefusal}
-use Rattle.model.specs.Exports.{refusalCode, writeCode, blockAnswer}
+use Rattle.model.specs.Exports.{refusalCode, writeCode, blockAnswer, blockCopy}
 use Rattle.model.specs.Theorems.Places.{Small, IfSome}
 use Rattle.model.specs.Theorems.AnswerSizes.{placeLimit, block-refused}
+use Rattle.relaxed_plan.specs.Records.{put-overwrite}
 
 -- number 0 is no refusal
 unfoldable pub partCode : ℕ → ℕ → ℕ → ℕ
@@ -40,3 +42,8 @@ module _ (t : List ℕ) (b n p : ℕ) (en : n ≡ refusalNumber (blockRefusal pa
       go : (r : Option Refusal) → IfSome (Small placeLimit) r → partCode (length whole) (refusalNumber r) (refusalPlace r) ≡ writeCode (blockAnswer whole r)
       go none small = refl
       go (some r) small = rw (ne-eqb (r .number) 0 (λ z. omega (arith, small .positive)), partCode) refl
+
+-- as much of the part as fits is copied
+pub block-copied : (t : List ℕ) (b : ℕ) (out : List ℕ) {part new : List ℕ} → part ≡ blockPart paper t b → new ≡ put out 0 (take (length out) part) → new ≡ blockCopy (blockPart paper t b) out
+unfolding blockCopy
+block-copied t b out e copied = rw e at copied ∙ put-overwrite out (take (length out) (blockPart paper t b))

@@ -1,5 +1,4 @@
 // The engine for its hosts: exported calls, each answered by one 64-bit number (crates/model/specs/Exports.antt).
-mod copy;
 mod end_to_end;
 
 pub use end_to_end::Answers;
@@ -128,7 +127,7 @@ pub extern "C" fn lapyndo_block(table: &[u8], block: u64, out: &mut [u8]) -> u64
     let mut number: u64 = 0;
     let mut place: u64 = 0;
     let part = reader::block_at(table, block, &mut number, &mut place);
-    copy::copied(part, out);
+    integer::copy(part, out);
     part_code(part.len() as u64, number, place)
 }
 

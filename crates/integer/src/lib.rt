@@ -1,5 +1,5 @@
 // Whole-number arithmetic with exact contracts: signed operations that never wrap, division that rounds up,
-// and big-endian numbers in slices of bytes.
+// big-endian numbers in slices of bytes, and bytes copied from one slice to another.
 ghost use mathlib.Core.Path.{_≡_};
 ghost use Prim.Native.Nat.{_+_, _*_, _^_, _<_, _≤_};
 ghost use lib.ListN.{length, take, drop};
@@ -188,4 +188,15 @@ pub fn put_u64(out: &mut [u8], at: usize, n: u64)
     ensures { λ r. ⌜ now (out .exit) ≡ put (now (out .entry)) at (bytes 8 n) ⌝ }
 {
     put_unsigned(out, at, n, 8);
+}
+
+// As many of `bytes` as fit stand at the start of `out`; what is behind them is kept.
+pub fn copy(bytes: &[u8], out: &mut [u8])
+    ensures { λ r. ⌜ now (out .exit) ≡ put (now (out .entry)) 0 (take (length (now (out .entry))) (now (bytes .entry))) ⌝ }
+{
+    let mut i = 0;
+    while i < out.len() && i < bytes.len() {
+        out[i] = bytes[i];
+        i += 1;
+    }
 }

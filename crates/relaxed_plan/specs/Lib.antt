@@ -11,4 +11,5 @@ pub mod Descending
 pub mod Layers
 pub mod Records
 pub mod Passes
+pub mod Keeping
 pub mod Answer

@@ -105,6 +105,16 @@ module _ {table marks : List ℕ} {layers : List ℤ} {props vars moves m : ℕ}
   pub below-next : {t : ℕ} {counts : List ℕ} → t < m → Counted x t counts → recordsBelow (suc t) ≡ recordsBelow t ++ layerRecords t (countAt counts) 0 moves
   below-next {t} h c = records-down (x .task) (x .start) m h ∙ ap (λ (rs : List Record). recordsBelow t ++ rs) (c .same t)
 
+  -- the records of the layers below t, and later ones
+  pub split-start : planRecords ≡ recordsBelow m ++ []
+  split-start = records-answer (x .task) (x .start) m ∙ sym (append-nil (recordsBelow m))
+
+  pub split-next :
+      {t : ℕ} {counts : List ℕ} (later : List Record) → t < m → Counted x t counts → planRecords ≡ recordsBelow (suc t) ++ later
+      → planRecords ≡ recordsBelow t ++ (layerRecords t (countAt counts) 0 moves ++ later)
+  split-next {t} {counts} later h c e =
+      e ∙ ap (λ (rs : List Record). rs ++ later) (below-next h c) ∙ append-assoc (recordsBelow t) (layerRecords t (countAt counts) 0 moves) later
+
 -- ---- first moves
 
 firstMoves-append : (rs qs : List Record) → firstMoves (rs ++ qs) ≡ firstMoves rs + firstMoves qs
@@ -201,7 +211,7 @@ module _ {table marks : List ℕ} {layers start : List ℤ} {props vars moves m 
       record {
         walked = x .begun .walked;
         later = [];
-        split = records-answer k s m ∙ sym (append-nil (recordsBelow (x .begun .stored) m));
+        split = split-start (x .begun .stored);
         here = omega (arith, x .total, ap length (records-answer k s m));
         new-is = sym (put-nil out (10 * n));
       }
@@ -241,9 +251,7 @@ module _ {table marks : List ℕ} {layers start : List ℤ} {props vars moves m 
         record {
           walked = walked;
           later = layer ++ s .later;
-          split =
-              s .split ∙ ap (λ (rs : List Record). rs ++ s .later) (below-next (x .begun .stored) h counted)
-              ∙ append-assoc (recordsBelow (x .begun .stored) t) layer (s .later);
+          split = split-next (x .begun .stored) (s .later) h counted (s .split);
           here = omega (arith, s .here, below-length);
           new-is =
               e
@@ -262,7 +270,7 @@ module _ {table marks : List ℕ} {layers start : List ℤ} {props vars moves m 
 
 -- ---- a turn starts from layer t, above 0
 
-abbrev down : (t : ℕ) → 0 < t → t ≡ suc (t - 1)
+abbrev pub down : (t : ℕ) → 0 < t → t ≡ suc (t - 1)
 down t h = omega arith
 
 pub survey-down :

@@ -30,6 +30,7 @@ ghost use Rattle.relaxed_plan.specs.View.{Filled, heldBy, heldAt, number
 ghost use Rattle.relaxed_plan.specs.Layers.{Stored, GoalWantable, GoalWanted, LayerDescendable, LayerDescended};
 ghost use Rattle.relaxed_plan.specs.Records.{countAt, oneBit, oneBytes};
 ghost use Rattle.relaxed_plan.specs.Passes.{Begun, Surveyed, Writable, planRecords};
+ghost use Rattle.relaxed_plan.specs.Keeping.{KeptBefore, KeptWhole};
 ghost use Rattle.relaxed_plan.specs.Answer.{Extracted};
 ghost use Rattle.relaxed_plan.specs.Encoding.{fresh, holding, raisedAt, Added, Encodes};
 
@@ -492,67 +493,6 @@ fn runs(kind: u8, target: i64, old: i64, value: i64) -> u64
 
 // From the wants of a layer to those of the layer below it. A move's count there is 0 if it is not taken.
 impl Targets {
-    // "take the first that adds the proposition": wants its conditions and counts it once.
-    fn take_adder(
-        mut self,
-        table: &[u8],
-        marks: &[usize],
-        used: &[bool],
-        row: &[i64],
-        lows: &[i64],
-        moves: usize,
-        p: usize,
-        counts: &mut [u64; 64],
-    ) -> Self
-        requires { ⌜ Takeable (now table) (now marks) (now used) (now row) (now lows) moves self (now counts) ⌝ }
-        ensures { λ r. ⌜ ((x : Takeable (now (table .entry)) (now (marks .entry)) (now (used .entry)) (now (row .entry)) (now (lows .entry)) moves self (now (counts .entry)))
-            → AdderTaken x p r (now (counts .exit))) ⌝ }
-    {
-        let Adder::Move(b) = find_adder(table, marks, used, moves, p) else {
-            return self;
-        };
-        recount(counts, b, 1);
-        self = self.want_block(reader::part(table, marks, b), row, lows);
-        self
-    }
-
-    // "or whose effect on v has value ≥ target T (:=) or > 0 (+=)": wants its conditions and that value, and counts its runs from
-    // the state's value `old`.
-    fn take_achiever(
-        mut self,
-        table: &[u8],
-        marks: &[usize],
-        used: &[bool],
-        row: &[i64],
-        lows: &[i64],
-        moves: usize,
-        v: usize,
-        target: i64,
-        old: i64,
-        counts: &mut [u64; 64],
-    ) -> Self
-        requires { ⌜ (Takeable (now table) (now marks) (now used) (now row) (now lows) moves self (now counts)) × (natAbs target ≤ 10000000000000000) × (natAbs old ≤ 1000000000000) ⌝ }
-        ensures { λ r. ⌜ ((x : Takeable (now (table .entry)) (now (marks .entry)) (now (used .entry)) (now (row .entry)) (now (lows .entry)) moves self (now (counts .entry)))
-            → old ≡ x .start .val v → AchieverTaken x v target r (now (counts .exit))) ⌝ }
-    {
-        let Achiever::Effect {
-            index,
-            kind,
-            base,
-            from,
-            terms,
-            value,
-        } = find_achiever(table, marks, used, row, moves, v, target)
-        else {
-            return self;
-        };
-        recount(counts, index, runs(kind, target, old, value));
-        let part = reader::part(table, marks, index);
-        let c = integer::sub(demand(kind, target), base);
-        self = self.want_block(part, row, lows);
-        self.want_sum(part, from, terms, c, row, lows)
-    }
-
     // "For any other, try the moves": the propositions wanted above that the layer lacks.
     fn take_props(
         mut self,
@@ -582,7 +522,11 @@ impl Targets {
             if has[p] {
                 continue;
             }
-            self = self.take_adder(table, marks, used, row, lows, moves, p, counts);
+            let Adder::Move(b) = find_adder(table, marks, used, moves, p) else {
+                continue;
+            };
+            recount(counts, b, 1);
+            self = self.want_block(reader::part(table, marks, b), row, lows);
         }
         self
     }
@@ -613,12 +557,27 @@ impl Targets {
             if is_free(target) {
                 continue;
             }
-            let value = row[v];
-            if block::reaches(value, target) {
+            let x = row[v];
+            if block::reaches(x, target) {
                 continue;
             }
             let old = start[v];
-            self = self.take_achiever(table, marks, used, row, lows, moves, v, target, old, counts);
+            let Achiever::Effect {
+                index,
+                kind,
+                base,
+                from,
+                terms,
+                value,
+            } = find_achiever(table, marks, used, row, moves, v, target)
+            else {
+                continue;
+            };
+            recount(counts, index, runs(kind, target, old, value));
+            let part = reader::part(table, marks, index);
+            let c = integer::sub(demand(kind, target), base);
+            self = self.want_block(part, row, lows);
+            self = self.want_sum(part, from, terms, c, row, lows);
         }
         self
     }
@@ -832,13 +791,26 @@ fn write_records(out: &mut [u8], from: usize, counts: &[u64], moves: usize)
     }
 }
 
+// The records of one layer before those of the later layers, which end with `kept`: 640 bytes, as long as 64 records and no more.
+// There are `records` of them now.
+fn keep_records(kept: &mut [u8], records: usize, counts: &[u64], moves: usize)
+    requires { ⌜ (640 ≡ length (now kept)) × (moves ≤ length (now counts)) × (moves ≤ 64) × (length (layerRecords 0 (countAt (now counts)) 0 moves) ≤ records) ⌝ }
+    ensures { λ r. ⌜ KeptBefore (now (kept .entry)) records (layerRecords 0 (countAt (now (counts .entry))) 0 moves) (now (kept .exit)) ⌝ }
+{
+    if records > 64 {
+        return;
+    }
+    write_records(kept, 640 - 10 * records, counts, moves);
+}
+
 // The number of records and the set of first moves.
 struct Summary {
     records: usize,
     first: u64,
 }
 
-// "From answer layer m down", whose wants are given: the number of records and the first moves, before a byte is written.
+// "From answer layer m down", whose wants are given: the number of records and the first moves, before a byte is written. Up to 64
+// records end with `kept`.
 fn survey(
     mut wants: Targets,
     table: &[u8],
@@ -849,9 +821,10 @@ fn survey(
     vars: usize,
     moves: usize,
     m: usize,
+    kept: &mut [u8],
 ) -> Summary
-    requires { ⌜ Begun (now table) (now marks) (now layers) (now start) props vars moves m wants ⌝ }
-    ensures { λ r. ⌜ ((x : Begun (now (table .entry)) (now (marks .entry)) (now (layers .entry)) (now (start .entry)) props vars moves m wants) → Surveyed (x .stored) (r .records) (r .first)) ⌝ }
+    requires { ⌜ (Begun (now table) (now marks) (now layers) (now start) props vars moves m wants) × (640 ≡ length (now kept)) ⌝ }
+    ensures { λ r. ⌜ ((x : Begun (now (table .entry)) (now (marks .entry)) (now (layers .entry)) (now (start .entry)) props vars moves m wants) → (Surveyed (x .stored) (r .records) (r .first)) × KeptWhole (x .stored) (r .records) (now (kept .exit))) ⌝ }
 {
     let mut counts = no_counts();
     let mut records = 0;
@@ -870,12 +843,14 @@ fn survey(
         );
         t -= 1;
         records += count_taken(&counts, moves);
+        keep_records(kept, records, &counts, moves);
     }
     let first = first_set(&counts, moves);
     Summary { records, first }
 }
 
-// The records, from the last layer's backwards, again from the wants of the answer layer; the output has room for all of them.
+// The records of a longer plan, from the last layer's backwards, again from the wants of the answer layer; the output has room for
+// all of them.
 fn write_plan(
     mut wants: Targets,
     table: &[u8],
@@ -932,16 +907,8 @@ fn extract(
     let mut start = [0; 32];
     read_row(layers, props + moves, vars, &mut start);
     let wants = want_goal(table, marks, layers, &start, props, vars, moves, m);
-    let summary = survey(wants, table, marks, layers, &start, props, vars, moves, m);
-    let records = summary.records;
-    let first = summary.first;
-    if out.len() < 10 * records {
-        return PlanAnswer::Refused(Refusal {
-            number: 13,
-            place: 0,
-        });
-    }
-    write_plan(
+    let mut kept = [0; 640];
+    let summary = survey(
         wants,
         table,
         marks,
@@ -951,9 +918,33 @@ fn extract(
         vars,
         moves,
         m,
-        records,
-        out,
+        &mut kept,
     );
+    let records = summary.records;
+    let first = summary.first;
+    if out.len() < 10 * records {
+        return PlanAnswer::Refused(Refusal {
+            number: 13,
+            place: 0,
+        });
+    }
+    if records <= 64 {
+        integer::copy(&kept[640 - 10 * records..], out);
+    } else {
+        write_plan(
+            wants,
+            table,
+            marks,
+            layers,
+            &start,
+            props,
+            vars,
+            moves,
+            m,
+            records,
+            out,
+        );
+    }
     PlanAnswer::Plan {
         layer: m as u64,
         layers: m as u64,

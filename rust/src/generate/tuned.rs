@@ -51,6 +51,42 @@ pub fn waves(rng: &mut Rng, kind: Kind, variables: usize, gates: usize) -> Task 
     task_at(table, &[])
 }
 
+/// A normal table whose plan has `adders` + 2 × `twice` records.
+///
+/// Each adder adds a proposition of the goal. Each of the other moves sets a variable and
+/// hands it on to the next, which the goal wants: it is taken in two layers.
+pub fn many_records(adders: usize, twice: usize) -> Task {
+    let mut moves = Vec::new();
+    let mut goal = Vec::new();
+    for p in 0..adders {
+        moves.push(Block {
+            items: vec![Item::Add(p)],
+        });
+        goal.push(Item::Require(p));
+    }
+    for v in (0..2 * twice).step_by(2) {
+        moves.push(Block {
+            items: vec![assign(v, &[], 1), assign(v + 1, &[(v, 1)], 0)],
+        });
+        goal.push(at_least(v + 1, 1));
+    }
+    let table = Table {
+        kind: Kind::Normal,
+        propositions: adders,
+        variables: 2 * twice,
+        moves,
+        goal: Block { items: goal },
+    };
+    let state = State {
+        propositions: vec![false; adders],
+        values: vec![0; table.state_values()],
+    };
+    Task {
+        table: table.encode(),
+        state: state.encode(),
+    }
+}
+
 /// The links of a chain, spread over at most `limit` moves.
 fn chain_moves(rng: &mut Rng, names: &[usize], limit: usize) -> Vec<Block> {
     let count = 1 + rng.below(limit.min(names.len()));

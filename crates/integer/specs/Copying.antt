@@ -1,13 +1,12 @@
 -- A copy of the first elements of one list over another: the steps of the loop that makes it.
 -- Assumes nothing.
-use Prim.Native.Nat.{ℕ, suc, _≤_, _<_}
+use Prim.Native.Nat.{ℕ, suc, _+_, _≤_, _<_}
 use mathlib.Core.Path.{_≡_, refl, sym, ap, _∙_}
 use mathlib.Core.List.{List, _++_}
 use native.Mathlib.Omega.{arith}
 use lib.ListN.{length, take, drop, set, getD, length-append, length-drop}
 use lib.Seq.{length-take-le, take-suc, drop-cons, append-snoc, set-at, take-all}
-use Rattle.model.specs.Memory.{overwrite}
-use Rattle.model.specs.Exports.{blockCopy}
+use Rattle.integer.specs.Store.{put}
 
 -- the first i elements are copied
 pub record Copied (part old : List ℕ) (i : ℕ) (new : List ℕ) : Type 0 where
@@ -38,18 +37,17 @@ copied-next {part} {old} {new} {i} c hp ho =
           ∙ ap (λ (l : List ℕ). l ++ drop (suc i) old) (sym (take-suc part i 0 hp));
     }
 
-copied-end : {part old new : List ℕ} {i : ℕ} → Copied part old i new → take (length old) part ≡ take i part → new ≡ blockCopy part old
-unfolding blockCopy overwrite
+copied-end : {part old new : List ℕ} {i : ℕ} → Copied part old i new → take (length old) part ≡ take i part → new ≡ put old 0 (take (length old) part)
+unfolding put
 copied-end {part} {old} {new} {i} c same =
-    c .is
-    ∙ sym
-    (rw same (ap (λ (n : ℕ). take i part ++ drop n old) (length-take-le i part (c .part-has))))
+    let n : i ≡ 0 + length (take i part) = omega (arith, length-take-le i part (c .part-has)) in
+    c .is ∙ ap (λ (k : ℕ). take i part ++ drop k old) n ∙ ap (put old 0) (sym same)
 
 -- the output is full, or the part is at its end
-pub copied-full : {part old new : List ℕ} {i : ℕ} → Copied part old i new → length old ≤ i → new ≡ blockCopy part old
+pub copied-full : {part old new : List ℕ} {i : ℕ} → Copied part old i new → length old ≤ i → new ≡ put old 0 (take (length old) part)
 copied-full {part} {old} {i = i} c h =
     let e : length old ≡ i = omega (arith, c .old-has) in copied-end c (ap (λ (n : ℕ). take n part) e)
 
-pub copied-whole : {part old new : List ℕ} {i : ℕ} → Copied part old i new → length part ≤ i → new ≡ blockCopy part old
+pub copied-whole : {part old new : List ℕ} {i : ℕ} → Copied part old i new → length part ≤ i → new ≡ put old 0 (take (length old) part)
 copied-whole {part} {old} {i = i} c h =
     copied-end c (take-all (length old) part (omega (arith, c .part-has, c .old-has)) ∙ sym (take-all i part h))
