@@ -75,7 +75,8 @@ enum {
  * out:      10 bytes a record suffice, none with "no plan". A record is 0x52, the move, and how often it is made:
  *           8 bytes, big-endian. Accepted, the records from the start, and the bytes behind them are kept; refused, all
  *           bytes are kept.
- * decision: always written: the answer that a longer out would get. After 13 it is 13 too if normal is too short.
+ * decision: always written: what decide answers, which is the result where out is long enough. After 13 it is 13 too if
+ *           normal is too short, and no refusal if out is.
  * records:  accepted, the number of records, 0 with "no plan"; refused, kept.
  * first:    accepted, the set of moves taken at layer 0, bit b for move b, 0 with "no plan"; refused, kept.
  */
@@ -116,10 +117,11 @@ static inline uint32_t lapyndo_refusal(uint64_t answer) { return (uint32_t)(answ
 /* Of a refusal: its place. */
 static inline uint32_t lapyndo_place(uint64_t answer) { return (uint32_t)answer; }
 
-/* Of an accepted lapyndo_campaign, and of its decision: 1 for "no plan", otherwise 0. */
+/* Of an accepted lapyndo_campaign, or of its decision, if that is no refusal: 1 for "no plan", otherwise 0. */
 static inline int lapyndo_no_plan(uint64_t answer) { return (int)(answer >> 31 & 1); }
 
-/* Of an accepted lapyndo_campaign, and of its decision: the reported layers, which are the number of the last layer. */
+/* Of an accepted lapyndo_campaign, or of its decision, if that is no refusal: the reported layers, which are the number of
+ * the last layer. */
 static inline uint32_t lapyndo_layers(uint64_t answer) { return (uint32_t)answer & 0x7FFFFFFF; }
 
 /* Of an accepted lapyndo_normalise or lapyndo_step: the number of bytes written. */

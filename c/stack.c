@@ -6,7 +6,8 @@
  * Measured on the campaign of each folder (task.bin, state.bin), on a deep one, and on each of them with a byte cut off its
  * tables. Prints one line a call: its name and the largest number of bytes. With PLANNING the calls that are exported for
  * tests are measured too.
- * Exit status: 0; 1 if the painted stack was too small; 2 if a file is missing or a campaign is refused.
+ * Exit status: 0; 1 if the painted stack was too small; 2 if a file is missing, a campaign is refused, or the deep one has
+ * too few records.
  */
 #define _XOPEN_SOURCE 700
 #include "common.h"
@@ -139,15 +140,19 @@ static void put(const uint8_t *bytes, size_t length) {
 }
 
 /* DEPTH moves, each of which needs what the one before it adds and raises a variable. The goal wants the last
- * proposition and a value above what one move gives. */
+ * proposition and a value above what one move gives. The first move also sets a variable and hands it on to another,
+ * which the goal wants too: it is taken in two layers, so that the plan has more records than moves. */
 static void make_deep(void) {
     const uint8_t head[] = {LAPYNDO_WRITTEN, DEPTH + 1, 16, DEPTH};
-    const uint8_t goal[] = {0x47, 0x50, DEPTH, 0x57, 0, 0, 1, 0x43, 0, 0, 0, 0, 100, 0x45};
+    const uint8_t handed[] = {0x46, 0, 14, 0, 0, 0, 1, 0x57, 14, 0, 1, 0x46, 0, 15, 0, 0, 0, 0};
+    const uint8_t goal[] = {0x47, 0x50, DEPTH, 0x57, 0, 0, 1, 0x43, 0, 0, 0, 0, 100,
+                            0x57, 15, 0, 1, 0x43, 0, 0, 0, 0, 1, 0x45};
     written_len = 0;
     put(head, sizeof head);
     for (uint8_t i = 0; i < DEPTH; i++) {
         const uint8_t move[] = {0x41, 0x50, i, 0x2B, i + 1, 0x46, 1, i % 16, 0, 0, 0, 1};
         put(move, sizeof move);
+        if (i == 0) put(handed, sizeof handed);
     }
     put(goal, sizeof goal);
     memset(state, 0, sizeof state);
@@ -177,6 +182,6 @@ int main(int argc, char **argv) {
                    load_from(argv[i], "state.bin", state, sizeof state, &state_len) && measure_whole_and_cut();
     }
     make_deep();
-    accepted = accepted && measure_whole_and_cut();
+    accepted = accepted && measure_whole_and_cut() && records > DEPTH;
     return accepted ? report() : 2;
 }

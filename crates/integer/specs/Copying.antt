@@ -43,7 +43,7 @@ copied-end {part} {old} {new} {i} c same =
     let n : i ≡ 0 + length (take i part) = omega (arith, length-take-le i part (c .part-has)) in
     c .is ∙ ap (λ (k : ℕ). take i part ++ drop k old) n ∙ ap (put old 0) (sym same)
 
--- the output is full, or the part is at its end
+-- the old list is full, or the part is at its end
 pub copied-full : {part old new : List ℕ} {i : ℕ} → Copied part old i new → length old ≤ i → new ≡ put old 0 (take (length old) part)
 copied-full {part} {old} {i = i} c h =
     let e : length old ≡ i = omega (arith, c .old-has) in copied-end c (ap (λ (n : ℕ). take n part) e)

@@ -46,10 +46,16 @@ module _ (l : List ℕ) (at : ℕ) (bs : List ℕ) (fits : at + length bs ≤ le
   unfolding put
   drop-put = drop-at (take at l ++ bs) (drop (at + length bs) l) (at + length bs) head-length
 
+  -- from the place on there is what was stored, and then what stood behind
+  pub drop-put-at : drop at (put l at bs) ≡ bs ++ drop (at + length bs) l
+  unfolding put
+  drop-put-at =
+      ap (drop at) (append-assoc (take at l) bs (drop (at + length bs) l))
+      ∙ drop-at (take at l) (bs ++ drop (at + length bs) l) at (length-take-le at l (omega arith))
+
   -- what was stored is read back
   pub read-put : take (length bs) (drop at (put l at bs)) ≡ bs
-  unfolding put
-  read-put = rw (append-assoc (take at l) bs (drop (at + length bs) l), drop-at (take at l) (bs ++ drop (at + length bs) l) at (length-take-le at l (omega arith))) (take-at bs (drop (at + length bs) l) (length bs) refl)
+  read-put = ap (take (length bs)) drop-put-at ∙ take-at bs (drop (at + length bs) l) (length bs) refl
 
   -- what lies before or after is kept
   pub take-put-before : (n : ℕ) → n ≤ at → take n (put l at bs) ≡ take n l

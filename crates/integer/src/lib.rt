@@ -190,13 +190,13 @@ pub fn put_u64(out: &mut [u8], at: usize, n: u64)
     put_unsigned(out, at, n, 8);
 }
 
-// As many of `bytes` as fit stand at the start of `out`; what is behind them is kept.
-pub fn copy(bytes: &[u8], out: &mut [u8])
-    ensures { λ r. ⌜ now (out .exit) ≡ put (now (out .entry)) 0 (take (length (now (out .entry))) (now (bytes .entry))) ⌝ }
+// As many of `from` as fit stand at the start of `out`; what is behind them is kept.
+pub fn copy(from: &[u8], out: &mut [u8])
+    ensures { λ r. ⌜ now (out .exit) ≡ put (now (out .entry)) 0 (take (length (now (out .entry))) (now (from .entry))) ⌝ }
 {
     let mut i = 0;
-    while i < out.len() && i < bytes.len() {
-        out[i] = bytes[i];
+    while i < out.len() && i < from.len() {
+        out[i] = from[i];
         i += 1;
     }
 }

@@ -9,4 +9,3 @@ pub mod Storing
 pub mod Building
 pub mod Starting
 pub mod Preparing
-pub mod Results

@@ -177,6 +177,7 @@ fn put_equal(part: &[u8], from: usize, n: usize, c: i64, out: &mut [u8], at: usi
     put_condition(part, from, n, false, c, out, at);
     put_condition(part, from, n, true, integer::neg(c), out, at + (4 * n + 6));
 }
+
 // "Sum S: ≥ c stays; > c is S ≥ c+1; ≤ c is −S ≥ −c; < c is −S ≥ 1−c; = c is S ≥ c, then −S ≥ −c."
 fn put_comparison(
     part: &[u8],

@@ -2,11 +2,11 @@
 use Prim.Native.Nat.{ℕ, zero, suc, _+_, _*_, _-_, _≤_, _<_}
 use native.Mathlib.Omega.{arith}
 use mathlib.Core.Path.{_≡_, refl, sym, ap, ap₂, _∙_, subst}
-use mathlib.Core.List.{List, [], _∷_, _++_, append-assoc}
+use mathlib.Core.List.{List, [], _++_}
 use lib.IntN.{ℤ}
-use lib.ListN.{length, take, drop, length-append, length-drop}
-use lib.Seq.{drop-at, length-take-le, take-all}
-use Rattle.integer.specs.Store.{put, length-put}
+use lib.ListN.{length, take, drop, length-append, drop-of-length-le}
+use lib.Seq.{take-all}
+use Rattle.integer.specs.Store.{put, drop-put-at}
 use Rattle.model.specs.Plan.{Record, layerRecords, recordsFrom}
 use Rattle.model.specs.Calls.{recordBytes}
 use Rattle.model.specs.Theorems.Records.{length-recordBytes}
@@ -14,11 +14,11 @@ use Rattle.relaxed_plan.specs.Layers.{Stored}
 use Rattle.relaxed_plan.specs.Records.{countAt, recordBytes-append, recordBytes-layer, records-layer-length}
 use Rattle.relaxed_plan.specs.Passes.{recordsBelow, planRecords, Counted, split-start, split-next, down}
 
--- the records rs are stored where n of them begin, if n fit
-pub record KeptBefore (kept : List ℕ) (n : ℕ) (rs : List Record) (more : List ℕ) : Type 0 where
-  pub is : n ≤ 64 → more ≡ put kept (640 - 10 * n) (recordBytes rs)
+-- rs are stored in front of the records at the end of the bytes, n in all with rs, if n fit
+pub record KeptBefore (kept : List ℕ) (n : ℕ) (rs : List Record) (after : List ℕ) : Type 0 where
+  pub is : n ≤ 64 → after ≡ put kept (640 - 10 * n) (recordBytes rs)
 
--- the n records of the layers from t on end with the bytes, if they fit
+-- the n records of the layers from t on stand at the end of the bytes, if they fit
 pub record Kept {table marks : List ℕ} {layers : List ℤ} {props vars moves m : ℕ} (x : Stored table marks layers props vars moves m) (t n : ℕ) (kept : List ℕ) : Type 0 where
   pub later : List Record
   pub split : planRecords x ≡ recordsBelow x t ++ later
@@ -29,26 +29,11 @@ pub record Kept {table marks : List ℕ} {layers : List ℤ} {props vars moves m
 pub record KeptWhole {table marks : List ℕ} {layers : List ℤ} {props vars moves m : ℕ} (x : Stored table marks layers props vars moves m) (n : ℕ) (kept : List ℕ) : Type 0 where
   pub bytes : n ≤ 64 → drop (640 - 10 * n) kept ≡ recordBytes (planRecords x)
 
--- from a place on there is what was stored there, and then what stood behind
-drop-at-put : (l : List ℕ) (at : ℕ) (bs : List ℕ) → at ≤ length l → drop at (put l at bs) ≡ bs ++ drop (at + length bs) l
-unfolding put
-drop-at-put l at bs h =
-    ap (drop at) (append-assoc (take at l) bs (drop (at + length bs) l))
-    ∙ drop-at (take at l) (bs ++ drop (at + length bs) l) at (length-take-le at l h)
-
--- nothing is left behind the end
-drop-end : (l : List ℕ) (n : ℕ) → length l ≤ n → drop n l ≡ []
-drop-end l n h = go (drop n l) (omega (arith, length-drop n l))
-  where
-    go : (r : List ℕ) → length r ≤ 0 → r ≡ []
-    go [] i = refl
-    go (b ∷ r) i = absurd (omega arith)
-
 module _ {table marks : List ℕ} {layers : List ℤ} {props vars moves m : ℕ} (x : Stored table marks layers props vars moves m) where
   pub kept-start : {kept : List ℕ} → 640 ≡ length kept → Kept x m 0 kept
   unfolding recordBytes
   kept-start {kept} e =
-      record { later = []; split = split-start x; many = refl; bytes = λ h. drop-end kept (640 - 10 * 0) (omega arith) }
+      record { later = []; split = split-start x; many = refl; bytes = λ h. drop-of-length-le kept {i = 640 - 10 * 0} (omega arith) }
 
   pub kept-next :
       {t n c : ℕ} {kept counts more : List ℕ} → t < m → 640 ≡ length kept → Kept x (suc t) n kept → Counted x t counts
@@ -67,7 +52,7 @@ module _ {table marks : List ℕ} {layers : List ℤ} {props vars moves m : ℕ}
             let at = 640 - 10 * (n + c) in
             let place : at + length bs ≡ 640 - 10 * n = omega (arith, length-recordBytes (layerRecords 0 (countAt counts) 0 moves), is) in
             ap (drop at) (e .is few)
-            ∙ drop-at-put kept at bs (omega arith)
+            ∙ drop-put-at kept at bs (omega (arith, place))
             ∙ ap (λ (i : ℕ). bs ++ drop i kept) place
             ∙ ap₂ _++_ (sym (recordBytes-layer t (countAt counts) 0 moves)) (s .bytes (omega arith))
             ∙ sym (recordBytes-append layer (s .later));

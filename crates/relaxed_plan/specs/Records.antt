@@ -10,9 +10,8 @@ use mathlib.Core.List.{List, [], _∷_, _++_, append-assoc, append-nil}
 use borrow.Author.Tests.{eq-eqb, ne-eqb}
 use lib.Dec.{eqb}
 use lib.ListN.{length, getD, set, take, drop, length-append}
-use lib.Seq.{drop-at, length-take-le}
 use Rattle.integer.specs.BigEndian.{bytes, length-bytes}
-use Rattle.integer.specs.Store.{put, put-nil, put-cons, put-append, take-put-before, length-put}
+use Rattle.integer.specs.Store.{put, put-nil, put-cons, put-append, take-put-before, drop-put-at, length-put}
 use Rattle.model.specs.Memory.{overwrite}
 use Rattle.model.specs.Plan.{Record, layerRecords, firstMoves}
 use Rattle.model.specs.Calls.{recordBytes}
@@ -180,8 +179,7 @@ put-before l at bs cs h =
     let q = at + length bs in
     let rest = drop (q + length cs) l in
     let front : take at (put l q cs) ≡ take at l = take-put-before l q cs h at (omega arith) in
-    let back : drop q (put l q cs) ≡ cs ++ rest =
-    ap (drop q) (append-assoc (take q l) cs rest) ∙ drop-at (take q l) (cs ++ rest) q (length-take-le q l (omega arith)) in
+    let back : drop q (put l q cs) ≡ cs ++ rest = drop-put-at l q cs h in
     let place : q + length cs ≡ at + length (bs ++ cs) = omega (arith, length-append bs cs) in
     ap₂ (λ (xs ys : List ℕ). xs ++ bs ++ ys) front back
     ∙ ap (λ (i : ℕ). take at l ++ bs ++ (cs ++ drop i l)) place

@@ -43,9 +43,6 @@ unfoldable pub countedAt : List ℕ → ℕ → ℕ → List ℕ
 countedAt counts b n = set counts b (max (getD counts b 0) n)
 
 module _ {k : Task} {t : Targets} {counts : List ℕ} {d : Descent} (e : EncodesTaken k t counts d) {r : Targets} {w : Wants} (wanted : Encodes (k .props) (k .vars) r w) where
-  pub taken-wants : EncodesTaken k r counts (record { wants = w; count = d .count })
-  taken-wants = record { wants = wanted; few = e .few; long = e .long; count = e .count }
-
   pub taken-counted : {b : ℕ} (n : ℕ) {more : List ℕ} → b < length (k .moves) → more ≡ countedAt counts b n → EncodesTaken k r more (record { wants = w; count = counted (d .count) b n })
   unfolding counted countedAt
   taken-counted {b} n lt same =

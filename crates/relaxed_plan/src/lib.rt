@@ -23,7 +23,7 @@ ghost use Rattle.integer.specs.Store.{put};
 ghost use Rattle.relaxed_plan.specs.Wanting.{Finitely, FinitelyIn, Wantable, WantableIn, Wanted, UnboundedIn, NormalTerm, IsDivisor};
 ghost use Rattle.relaxed_plan.specs.Blocks.{BlockWantable, BlockWanted};
 ghost use Rattle.relaxed_plan.specs.Search.{demandBy, Searchable, IsAdder, Achievable, IsAchiever};
-ghost use Rattle.relaxed_plan.specs.Taking.{countedAt, Above0, IsStep, IsRuns, Takeable, AdderTaken, AchieverTaken};
+ghost use Rattle.relaxed_plan.specs.Taking.{countedAt, Above0, IsStep, IsRuns};
 ghost use Rattle.relaxed_plan.specs.Carrying.{Mapped, heldIn, keptBy, keptAt, Carriable, Carried};
 ghost use Rattle.relaxed_plan.specs.Descending.{isFree, PropsTakeable, PropsTaken, ValuesTakeable, ValuesTaken};
 ghost use Rattle.relaxed_plan.specs.View.{Filled, heldBy, heldAt, numberAt, lowBy, lowAt};
@@ -493,7 +493,8 @@ fn runs(kind: u8, target: i64, old: i64, value: i64) -> u64
 
 // From the wants of a layer to those of the layer below it. A move's count there is 0 if it is not taken.
 impl Targets {
-    // "For any other, try the moves": the propositions wanted above that the layer lacks.
+    // "For any other, try the moves": for each proposition wanted above that the layer lacks, the first move that adds it is counted once,
+    // and its conditions are wanted. The counts begin anew.
     fn take_props(
         mut self,
         wanted: &[bool; 120],
@@ -531,7 +532,8 @@ impl Targets {
         self
     }
 
-    // The targets above that the layer does not reach, behind the propositions.
+    // For each target above that the layer does not reach, the first move whose effect reaches it is counted by its runs, and its
+    // conditions and that value are wanted. The counts are those of the propositions.
     fn take_values(
         mut self,
         targets: &[i64; 32],
@@ -791,8 +793,8 @@ fn write_records(out: &mut [u8], from: usize, counts: &[u64], moves: usize)
     }
 }
 
-// The records of one layer before those of the later layers, which end with `kept`: 640 bytes, as long as 64 records and no more.
-// There are `records` of them now.
+// Stores the records of one layer in front of those of the later layers, at the end of `kept`. There are `records` of them, these
+// counted; if that is more than 64, nothing is stored.
 fn keep_records(kept: &mut [u8], records: usize, counts: &[u64], moves: usize)
     requires { ⌜ (640 ≡ length (now kept)) × (moves ≤ length (now counts)) × (moves ≤ 64) × (length (layerRecords 0 (countAt (now counts)) 0 moves) ≤ records) ⌝ }
     ensures { λ r. ⌜ KeptBefore (now (kept .entry)) records (layerRecords 0 (countAt (now (counts .entry))) 0 moves) (now (kept .exit)) ⌝ }
@@ -809,8 +811,8 @@ struct Summary {
     first: u64,
 }
 
-// "From answer layer m down", whose wants are given: the number of records and the first moves, before a byte is written. Up to 64
-// records end with `kept`.
+// "From answer layer m down", whose wants are given: the number of records and the first moves, before a byte is written. If
+// there are at most 64 records, they stand at the end of `kept`.
 fn survey(
     mut wants: Targets,
     table: &[u8],
@@ -849,8 +851,8 @@ fn survey(
     Summary { records, first }
 }
 
-// The records of a longer plan, from the last layer's backwards, again from the wants of the answer layer; the output has room for
-// all of them.
+// The records of a plan of more than 64, from the last layer's backwards, again from the wants of the answer layer; the output has room
+// for all of them.
 fn write_plan(
     mut wants: Targets,
     table: &[u8],
@@ -889,7 +891,8 @@ fn write_plan(
     }
 }
 
-// The plan of a stored answer layer `m`: "13 | output shorter than the result" is known before a byte is written.
+// The plan of a stored answer layer `m`: "13 | output shorter than the result" is known before a byte is written. Up to 64 records are
+// copied from where they were kept; more are worked out again.
 fn extract(
     table: &[u8],
     marks: &[usize; 66],
@@ -953,7 +956,7 @@ fn extract(
     }
 }
 
-// "plan adds the number of records and the first moves".
+// "plan adds the number of records and the first moves"; the reported layers are at most (A + N + 1) × (N + 1).
 pub fn plan(table: &[u8], state: &[u8], layers: &mut [i64], out: &mut [u8]) -> PlanAnswer
     ensures { λ r. ⌜ (r ≡ planAnswer paper (now (table .entry)) (now (state .entry)) (now (layers .entry)) (now (out .entry)))
         × (now (layers .exit) ≡ planMemory paper (now (table .entry)) (now (state .entry)) (now (layers .entry)))

@@ -8,7 +8,6 @@ use borrow.Author.Tests.{lt-ltb, le-ltb}
 use lib.ListN.{length, getD}
 use Rattle.model.specs.declared.Refusal.{Refusal}
 use Rattle.model.specs.declared.WriteAnswer.{WriteAnswer}
-use Rattle.model.specs.declared.WriteAnswer.the-variants as write
 use Rattle.model.specs.Limits.{paper}
 use Rattle.model.specs.Task.{written}
 use Rattle.model.specs.Move.{moveAt}

@@ -1,4 +1,4 @@
-//! Tasks at the edges: many layers, large values, full length; and M1.
+//! Tasks at the edges: many layers, many records, large values, full length; and M1.
 
 use super::rng::Rng;
 use super::task::Task;
@@ -54,7 +54,7 @@ pub fn waves(rng: &mut Rng, kind: Kind, variables: usize, gates: usize) -> Task 
 /// A normal table whose plan has `adders` + 2 × `twice` records.
 ///
 /// Each adder adds a proposition of the goal. Each of the other moves sets a variable and
-/// hands it on to the next, which the goal wants: it is taken in two layers.
+/// hands its value on to the next variable, which the goal wants: it is taken in two layers.
 pub fn many_records(adders: usize, twice: usize) -> Task {
     let mut moves = Vec::new();
     let mut goal = Vec::new();

@@ -1,3 +1,4 @@
+-- `decide_code` meets its contract. Assumes nothing.
 use borrow.Author.Needs.{needs}
 use mathlib.Core.Path.{sym, ap, subst, _∙_}
 use native.Mathlib.Omega.{arith}
@@ -6,44 +7,33 @@ use Rattle.model.specs.Theorems.Places.{Small}
 use Rattle.model.specs.Theorems.AnswerSizes.{placeLimit, DecideSmall}
 use Rattle.engine.proofs.decide_code.Statement.{statement}
 use Rattle.engine.proofs.decide_code.Tie as tie
-use Rattle.engine.proofs.decide_code.Reads as reads
-use Rattle.engine.proofs.decide_code.Lts as lts
-use Rattle.engine.proofs.refusal_code.Reads as refusal-code-reads
 
--- src/lib.rt:53:40
 enum-known-a : tie.Need-enum-known-a
 enum-known-a c = search needs
 
--- src/lib.rt:54:32
 enum-known-a-2 : tie.Need-enum-known-a-2
 enum-known-a-2 c = search needs
 
--- src/lib.rt:54:44
 add-result : tie.Need-add-result
 add-result c = record { fits = omega (arith, subst DecideSmall (c .before .a2 .given .1) (c .before .before .before .pre)) }
 
--- src/lib.rt:55:31
 enum-known-a-3 : tie.Need-enum-known-a-3
 enum-known-a-3 c = search needs
 
--- src/lib.rt:55:37
 refusal-code-requires : tie.Need-refusal-code-requires
 refusal-code-requires c κs =
     let small : Small placeLimit (c .before .a3 .given .0 .0) =
     subst DecideSmall (c .before .a3 .given .1) (c .before .before .before .pre) in
     (small .number, small .place)
 
--- src/lib.rt:48:1
 returns : tie.Need-returns
 unfolding decideCode
 returns c = ap decideCode (sym (c .before .a .given .1))
 
--- src/lib.rt:48:1
 returns-2 : tie.Need-returns-2
 unfolding decideCode
 returns-2 c = ap decideCode (sym (c .before .a2 .given .1))
 
--- src/lib.rt:48:1
 returns-3 : tie.Need-returns-3
 unfolding decideCode
 returns-3 c = c .refusal-code .ensures ∙ ap decideCode (sym (c .before .before .a3 .given .1))

@@ -1,36 +1,28 @@
+-- `head_code` meets its contract. Assumes nothing.
 use borrow.Author.Needs.{needs}
 use mathlib.Core.Path.{refl}
 use Rattle.model.specs.Exports.{readCode}
 use Rattle.engine.proofs.head_code.Statement.{statement}
 use Rattle.engine.proofs.head_code.Tie as tie
-use Rattle.engine.proofs.head_code.Reads as reads
-use Rattle.engine.proofs.head_code.Lts as lts
 
--- src/lib.rt:20:5
 mul-result : tie.Need-mul-result
 mul-result c = search needs
 
--- src/lib.rt:20:23
 mul-result-2 : tie.Need-mul-result-2
 mul-result-2 c = search needs
 
--- src/lib.rt:20:5
 add-result : tie.Need-add-result
 add-result c = search needs
 
--- src/lib.rt:20:39
 mul-result-3 : tie.Need-mul-result-3
 mul-result-3 c = search needs
 
--- src/lib.rt:20:5
 add-result-2 : tie.Need-add-result-2
 add-result-2 c = search needs
 
--- src/lib.rt:20:5
 add-result-3 : tie.Need-add-result-3
 add-result-3 c = search needs
 
--- src/lib.rt:16:1
 returns : tie.Need-returns
 unfolding readCode
 returns c = refl

@@ -1,3 +1,4 @@
+-- `lapyndo_plan` meets its contract. Assumes nothing.
 use mathlib.Core.Path.{ap, _∙_}
 use Rattle.model.specs.declared.PlanAnswer.{PlanAnswer}
 use Rattle.model.specs.Exports.{planCode, planRecordCount, planFirstMoves}
@@ -5,28 +6,19 @@ use Rattle.model.specs.Theorems.AnswerSizes.{plan-small}
 use borrow.Author.Needs.{needs}
 use Rattle.engine.proofs.lapyndo_plan.Statement.{statement}
 use Rattle.engine.proofs.lapyndo_plan.Tie as tie
-use Rattle.engine.proofs.lapyndo_plan.Reads as reads
-use Rattle.engine.proofs.lapyndo_plan.Lts as lts
-use Rattle.engine.proofs.plan_code.Reads as plan-code-reads
-use Rattle.relaxed_plan.proofs.plan.Reads as plan-reads
 
--- src/lib.rt:181:9
 plan-requires : tie.Need-plan-requires
 plan-requires c κs = search needs
 
--- src/lib.rt:180:5
 plan-code-requires : tie.Need-plan-code-requires
 plan-code-requires c κs = rw (c .before .before .before .before .before .plan .ensures .0) (plan-small _ _ _ _)
 
--- src/lib.rt:165:1
 same-length : tie.Need-same-length
 same-length c = search needs
 
--- src/lib.rt:165:1
 same-length-2 : tie.Need-same-length-2
 same-length-2 c = search needs
 
--- src/lib.rt:165:1
 returns : tie.Need-returns
 returns c = (
   c .plan-code .ensures .0 ∙ ap planCode (c .before .before .before .before .before .before .plan .ensures .0),

@@ -1,26 +1,21 @@
+-- `part_code` meets its contract. Assumes nothing.
 use mathlib.Core.Path.{refl}
 use borrow.Author.Tests.{eq-eqb, ne-eqb}
 use Rattle.engine.specs.Parts.{partCode}
 use borrow.Author.Needs.{needs}
 use Rattle.engine.proofs.part_code.Statement.{statement}
 use Rattle.engine.proofs.part_code.Tie as tie
-use Rattle.engine.proofs.part_code.Reads as reads
-use Rattle.engine.proofs.part_code.Lts as lts
 
--- src/lib.rt:109:9
 mul-result : tie.Need-mul-result
 mul-result c = search needs
 
--- src/lib.rt:109:9
 add-result : tie.Need-add-result
 add-result c = search needs
 
--- src/lib.rt:102:1
 returns : tie.Need-returns
 unfolding partCode
 returns c = rw (eq-eqb (c .before .args .number) 0 (c .if1 .taken), partCode) refl
 
--- src/lib.rt:102:1
 returns-2 : tie.Need-returns-2
 unfolding partCode
 returns-2 c = rw (ne-eqb (c .before .args .number) 0 (c .if1 .left), partCode) refl

@@ -1,3 +1,4 @@
+-- `plan_code` meets its contract. Assumes nothing.
 use borrow.Author.Needs.{needs}
 use mathlib.Core.Path.{refl, subst}
 use native.Mathlib.Omega.{arith}
@@ -6,44 +7,33 @@ use Rattle.model.specs.Theorems.Places.{Small}
 use Rattle.model.specs.Theorems.AnswerSizes.{placeLimit, PlanSmall}
 use Rattle.engine.proofs.plan_code.Statement.{statement}
 use Rattle.engine.proofs.plan_code.Tie as tie
-use Rattle.engine.proofs.plan_code.Reads as reads
-use Rattle.engine.proofs.plan_code.Lts as lts
-use Rattle.engine.proofs.refusal_code.Reads as refusal-code-reads
 
--- src/lib.rt:67:13
 enum-known-a : tie.Need-enum-known-a
 enum-known-a c = search needs
 
--- src/lib.rt:76:13
 enum-known-a-2 : tie.Need-enum-known-a-2
 enum-known-a-2 c = search needs
 
--- src/lib.rt:82:13
 add-result : tie.Need-add-result
 add-result c = record { fits = omega (arith, subst PlanSmall (c .before .a2 .given .1) (c .before .before .before .pre) .0) }
 
--- src/lib.rt:84:29
 enum-known-a-3 : tie.Need-enum-known-a-3
 enum-known-a-3 c = search needs
 
--- src/lib.rt:84:35
 refusal-code-requires : tie.Need-refusal-code-requires
 refusal-code-requires c κs =
     let small : Small placeLimit (c .before .a3 .given .0 .0) =
     subst PlanSmall (c .before .a3 .given .1) (c .before .before .before .pre) in
     (small .number, small .place)
 
--- src/lib.rt:59:1
 returns : tie.Need-returns
 unfolding planCode planRecordCount planFirstMoves
 returns c = rw (c .before .a .given .1) (refl, refl, refl)
 
--- src/lib.rt:59:1
 returns-2 : tie.Need-returns-2
 unfolding planCode planRecordCount planFirstMoves
 returns-2 c = rw (c .before .a2 .given .1) (refl, refl, refl)
 
--- src/lib.rt:59:1
 returns-3 : tie.Need-returns-3
 unfolding planCode planRecordCount planFirstMoves
 returns-3 c = rw (c .before .before .a3 .given .1) (c .refusal-code .ensures, refl, refl)

@@ -1,3 +1,4 @@
+-- `read_code` meets its contract. Assumes nothing.
 use borrow.Author.Needs.{needs}
 use mathlib.Core.Path.{sym, ap, subst, _∙_}
 use Rattle.model.specs.Exports.{readCode}
@@ -5,35 +6,25 @@ use Rattle.model.specs.Theorems.Places.{Small}
 use Rattle.model.specs.Theorems.AnswerSizes.{placeLimit, ReadSmall}
 use Rattle.engine.proofs.read_code.Statement.{statement}
 use Rattle.engine.proofs.read_code.Tie as tie
-use Rattle.engine.proofs.read_code.Reads as reads
-use Rattle.engine.proofs.read_code.Lts as lts
-use Rattle.engine.proofs.head_code.Reads as head-code-reads
-use Rattle.engine.proofs.refusal_code.Reads as refusal-code-reads
 
--- src/lib.rt:29:13
 enum-known-a : tie.Need-enum-known-a
 enum-known-a c = search needs
 
--- src/lib.rt:33:14
 head-code-requires : tie.Need-head-code-requires
 head-code-requires c κs = subst ReadSmall (c .before .a .given .1) (c .before .before .before .pre)
 
--- src/lib.rt:34:29
 enum-known-a-2 : tie.Need-enum-known-a-2
 enum-known-a-2 c = search needs
 
--- src/lib.rt:34:35
 refusal-code-requires : tie.Need-refusal-code-requires
 refusal-code-requires c κs =
     let small : Small placeLimit (c .before .a2 .given .0 .0) =
     subst ReadSmall (c .before .a2 .given .1) (c .before .before .before .pre) in
     (small .number, small .place)
 
--- src/lib.rt:23:1
 returns : tie.Need-returns
 returns c = c .head-code .ensures ∙ ap readCode (sym (c .before .before .a .given .1))
 
--- src/lib.rt:23:1
 returns-2 : tie.Need-returns-2
 unfolding readCode
 returns-2 c = c .refusal-code .ensures ∙ ap readCode (sym (c .before .before .a2 .given .1))

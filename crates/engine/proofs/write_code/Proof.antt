@@ -1,3 +1,4 @@
+-- `write_code` meets its contract. Assumes nothing.
 use borrow.Author.Needs.{needs}
 use mathlib.Core.Path.{sym, ap, subst, _∙_}
 use Rattle.model.specs.Exports.{writeCode}
@@ -5,31 +6,23 @@ use Rattle.model.specs.Theorems.Places.{Small}
 use Rattle.model.specs.Theorems.AnswerSizes.{placeLimit, WriteSmall}
 use Rattle.engine.proofs.write_code.Statement.{statement}
 use Rattle.engine.proofs.write_code.Tie as tie
-use Rattle.engine.proofs.write_code.Reads as reads
-use Rattle.engine.proofs.write_code.Lts as lts
-use Rattle.engine.proofs.refusal_code.Reads as refusal-code-reads
 
--- src/lib.rt:43:30
 enum-known-a : tie.Need-enum-known-a
 enum-known-a c = search needs
 
--- src/lib.rt:44:30
 enum-known-a-2 : tie.Need-enum-known-a-2
 enum-known-a-2 c = search needs
 
--- src/lib.rt:44:36
 refusal-code-requires : tie.Need-refusal-code-requires
 refusal-code-requires c κs =
     let small : Small placeLimit (c .before .a2 .given .0 .0) =
     subst (WriteSmall 64_000) (c .before .a2 .given .1) (c .before .before .before .pre) in
     (small .number, small .place)
 
--- src/lib.rt:38:1
 returns : tie.Need-returns
 unfolding writeCode
 returns c = ap writeCode (sym (c .before .a .given .1))
 
--- src/lib.rt:38:1
 returns-2 : tie.Need-returns-2
 unfolding writeCode
 returns-2 c = c .refusal-code .ensures ∙ ap writeCode (sym (c .before .before .a2 .given .1))

@@ -10,10 +10,10 @@ use Rattle.integer.proofs.copy.Statement.{statement}
 use Rattle.integer.proofs.copy.Tie as tie
 
 abbrev Inv-loop : tie.InvT-loop
-Inv-loop bytes out₀ i₀ out i = Copied bytes out₀ i out
+Inv-loop from out₀ i₀ out i = Copied from out₀ i out
 
 abbrev μ-loop : tie.MeasureT-loop
-μ-loop bytes out₀ i₀ out i = length bytes - i
+μ-loop from out₀ i₀ out i = length from - i
 
 loop-holds : tie.Need-loop-holds Inv-loop μ-loop
 loop-holds c = copied-none _ _

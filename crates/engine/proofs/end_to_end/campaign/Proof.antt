@@ -1,3 +1,4 @@
+-- `end_to_end::campaign` meets its contract. Assumes nothing.
 use Prim.Native.Nat.{ℕ, _≤_}
 use mathlib.Core.Path.{_≡_, refl, sym, subst, _∙_}
 use mathlib.Core.List.{List}
@@ -16,11 +17,9 @@ use Rattle.engine.proofs.end_to_end.campaign.Lts as lts
 use Rattle.engine.proofs.end_to_end.decided_and_planned.Reads as decided-and-planned-reads
 use Rattle.normal.proofs.normalise.Reads as normalise-reads
 
--- src/end_to_end.rt:37:11
 normalise-requires : tie.Need-normalise-requires
 normalise-requires c κs = search needs
 
--- src/end_to_end.rt:38:30
 enum-known-n : tie.Need-enum-known-n
 enum-known-n c = search needs
 
@@ -35,45 +34,35 @@ inside :
     → c .before .n .given .0 .0 ≤ length (c .before .before .before .before .before .normalise .last .1 .0)
 inside c = subst (λ (l : List ℕ). c .before .n .given .0 .0 ≤ length l) (sym (c .before .before .before .before .before .normalise .ensures .1)) (written-hands _ _ _ (written-answer c) .inside)
 
--- src/end_to_end.rt:40:33
 slice-reshare-prefix-decided-and-planned : tie.Need-slice-reshare-prefix-decided-and-planned
 slice-reshare-prefix-decided-and-planned c = inside c
 
--- src/end_to_end.rt:40:33
 slice-aggregate-decided-and-planned : tie.Need-slice-aggregate-decided-and-planned
 slice-aggregate-decided-and-planned c = sym (length-take-le (c .before .before .n .given .0 .0) (c .before .before .before .before .before .before .normalise .last .1 .0) (inside (c .before)))
 
--- src/end_to_end.rt:40:13
 decided-and-planned-requires : tie.Need-decided-and-planned-requires
 decided-and-planned-requires c κs = search needs
 
--- src/end_to_end.rt:42:30
 enum-known-r : tie.Need-enum-known-r
 enum-known-r c = search needs
 
--- src/end_to_end.rt:27:1
 same-length : tie.Need-same-length
 same-length c = search needs
 
--- src/end_to_end.rt:27:1
 same-length-2 : tie.Need-same-length-2
 same-length-2 c = search needs
 
--- src/end_to_end.rt:27:1
 same-length-3 : tie.Need-same-length-3
 same-length-3 c = search needs
 
--- src/end_to_end.rt:27:1
 returns : tie.Need-returns
 returns c =
     done-written _ _ _ _ _ _ _ _ _ _ _ _ (sym (c .before .before .before .before .before .before .before .before .before .before .before .before .normalise .ensures .0) ∙ c .before .before .before .before .before .before .before .before .n .given .1) (c .before .before .before .before .before .before .before .before .before .before .before .before .normalise .ensures .1) refl
     (c .before .before .before .decided-and-planned .ensures .0) (c .before .before .before .decided-and-planned .ensures .1) (c .before .before .before .decided-and-planned .ensures .2) (c .before .before .before .decided-and-planned .ensures .3)
 
--- src/end_to_end.rt:27:1
 same-length-4 : tie.Need-same-length-4
 same-length-4 c = search needs
 
--- src/end_to_end.rt:27:1
 returns-2 : tie.Need-returns-2
 returns-2 c =
     done-refused _ _ _ _ _ _ _ (sym (c .before .before .before .before .before .normalise .ensures .0) ∙ c .before .r .given .1) (c .before .before .before .before .before .normalise .ensures .1)

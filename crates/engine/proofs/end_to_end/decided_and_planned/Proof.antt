@@ -1,30 +1,22 @@
+-- `end_to_end::decided_and_planned` meets its contract. Assumes nothing.
 use mathlib.Core.Path.{_∙_}
 use Rattle.engine.specs.Campaign.{plan-after, memory-after, out-after}
 use borrow.Author.Needs.{needs}
 use Rattle.engine.proofs.end_to_end.decided_and_planned.Statement.{statement}
 use Rattle.engine.proofs.end_to_end.decided_and_planned.Tie as tie
-use Rattle.engine.proofs.end_to_end.decided_and_planned.Reads as reads
-use Rattle.engine.proofs.end_to_end.decided_and_planned.Lts as lts
-use Rattle.layers.proofs.decide.Reads as decide-reads
-use Rattle.relaxed_plan.proofs.plan.Reads as plan-reads
 
--- src/end_to_end.rt:21:9
 decide-requires : tie.Need-decide-requires
 decide-requires c κs = search needs
 
--- src/end_to_end.rt:22:9
 plan-requires : tie.Need-plan-requires
 plan-requires c κs = search needs
 
--- src/end_to_end.rt:15:1
 same-length : tie.Need-same-length
 same-length c = search needs
 
--- src/end_to_end.rt:15:1
 same-length-2 : tie.Need-same-length-2
 same-length-2 c = search needs
 
--- src/end_to_end.rt:15:1
 returns : tie.Need-returns
 returns c = (
   c .before .before .before .before .before .before .before .decide .ensures .0,
