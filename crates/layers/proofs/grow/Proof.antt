@@ -1,6 +1,6 @@
 -- `grow` meets its contract. The invariant: layer `t` is the last one stored, and stands in the two arrays; the moves marked as used are
 -- usable in it. The measure is what is left of the bound on layers. Assumes nothing.
-use Prim.Native.Nat.{_+_, _-_, _≤_}
+use Prim.Native.Nat.{_+_, _-_, _^_, _<_, _≤_}
 use mathlib.Core.Path.{_≡_, refl, sym, _∙_}
 use borrow.Rule.Slice.PartMut.{putMid, same-len-mid, mid-len}
 use lib.ListN.{length}
@@ -103,6 +103,18 @@ flags-long c = c .step .ensures .same-flags ∙ c .before .before .before .befor
 used-long : (c : tie.After-step Inv-loop μ-loop) → length (c .step .last .1 .1 .1 .1 .1 .1 .0) ≡ 64
 used-long c = c .step .ensures .same-used ∙ c .before .before .before .before .before .before .before .before .before .before .loop .inv .2
 
+-- the moves' entries may be written after the step
+notable :
+    (c : tie.After-step Inv-loop μ-loop)
+    → let l = c .before .before .before .before .before .before .before .before .before .before in
+    let n = l .before .before .before .before .before .args .n in
+    (n .props + n .moves ≤ length (putMid (l .loop .end) (length (l .loop .layers) - l .loop .end) (l .loop .layers) (c .step .last .1 .1 .1 .1 .1 .1 .1 .0)))
+    × (n .moves ≤ length (c .step .last .1 .1 .1 .1 .1 .1 .0))
+    × (l .loop .t < 2 ^ 63)
+notable c =
+    let l = c .before .before .before .before .before .before .before .before .before .before in
+    (omega (arith, within l, after-long c), omega (arith, used-long c, moves-small l), omega (arith, t-small l))
+
 enum-told : tie.Need-enum-told Inv-loop μ-loop
 enum-told c = c .match .keys1
 
@@ -110,11 +122,7 @@ slice-aggregate-note-moves : tie.Need-slice-aggregate-note-moves Inv-loop μ-loo
 slice-aggregate-note-moves c = sym (used-long (c .before .before .before .before .before))
 
 note-moves-requires : tie.Need-note-moves-requires Inv-loop μ-loop
-note-moves-requires c κs = (
-  omega (arith, within (c .before .before .before .before .before .before .before .before .before .before .before .before .before .before .before), after-long (c .before .before .before .before .before)),
-  omega (arith, used-long (c .before .before .before .before .before), moves-small (c .before .before .before .before .before .before .before .before .before .before .before .before .before .before .before)),
-  omega (arith, t-small (c .before .before .before .before .before .before .before .before .before .before .before .before .before .before .before)),
-)
+note-moves-requires c κs = notable (c .before .before .before .before .before)
 
 same-length-2 : tie.Need-same-length-2 Inv-loop μ-loop
 same-length-2 c = c .before .note-moves .kept .0 ∙ after-long (c .before .before .before .before .before .before .before) ∙ c .before .before .before .before .before .before .before .before .before .before .before .before .before .before .before .before .before .loop .inv .3 .same-length
@@ -168,11 +176,7 @@ slice-aggregate-note-moves-2 : tie.Need-slice-aggregate-note-moves-2 Inv-loop μ
 slice-aggregate-note-moves-2 c = sym (used-long (c .before .before .before .before .before))
 
 note-moves-requires-2 : tie.Need-note-moves-requires-2 Inv-loop μ-loop
-note-moves-requires-2 c κs = (
-  omega (arith, within (c .before .before .before .before .before .before .before .before .before .before .before .before .before .before .before), after-long (c .before .before .before .before .before)),
-  omega (arith, used-long (c .before .before .before .before .before), moves-small (c .before .before .before .before .before .before .before .before .before .before .before .before .before .before .before)),
-  omega (arith, t-small (c .before .before .before .before .before .before .before .before .before .before .before .before .before .before .before)),
-)
+note-moves-requires-2 c κs = notable (c .before .before .before .before .before)
 
 -- the memory keeps its length while the moves' entries are written
 noted-long : (c : tie.After-note-moves2 Inv-loop μ-loop) → length (c .note-moves2 .last .0) ≡ length (c .before .before .before .before .before .before .before .before .before .before .before .before .before .before .before .before .loop .layers)
