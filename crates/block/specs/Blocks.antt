@@ -15,7 +15,7 @@ use Rattle.model.specs.Task.{Term, Comparison, Condition, Effect, Item, need, a
 use Rattle.model.specs.Command.{comparisonCode}
 use Rattle.model.specs.Move.{State, sum, compares, holds, applicable, value}
 use Rattle.model.specs.Layer.{Value, finite, Layer, plus, layerSum, reaches, holdsIn, usable, layerValue}
-use Rattle.block.specs.Items.{Ranges, Left, Terms, Followed, ConditionIs, EffectIs, Found, Moves, Next, bound-small, base-small}
+use Rattle.block.specs.Items.{Ranges, Left, left-end, Terms, Followed, ConditionIs, EffectIs, Found, behind, Moves, Next, next-ahead, bound-small, base-small}
 use Rattle.block.specs.Sums.{Row, Summable, LayerRow, Encoded, LayerSummable, IsValue, IsLayerValue}
 use Rattle.block.specs.declared.ItemAt.{ItemAt}
 use Rattle.block.specs.declared.ItemAt.the-variants.{Need, Add, Delete, Condition as ConditionAt, Effect as EffectAt, End}
@@ -61,7 +61,7 @@ Passing {I} part over g (Add p after) = (k : Ranges) (s : I) → over k s → p 
 Passing {I} part over g (Delete p after) = (k : Ranges) (s : I) → over k s → p < k .props → (o : Block) → g s (delete p ∷ o) ≡ g s o
 Passing {I} part over g (ConditionAt q z from n after) = (k : Ranges) (s : I) (c : Condition) → over k s → ConditionIs k part q z from n c → (o : Block) → g s (condition c ∷ o) ≡ g s o
 Passing {I} part over g (EffectAt kd v z from n after) = (k : Ranges) (s : I) (e : Effect) → over k s → e .var ≡ v → EffectIs k part kd z from n e → (o : Block) → g s (effect e ∷ o) ≡ g s o
-Passing part over g End = ⊥
+Passing part over g End = Unit {0}
 
 -- it decides the answer
 abbrev pub Deciding : {I X : Type 0} → List ℕ → (Ranges → I → Type 0) → (I → Block → X) → X → ItemAt → Type 0
@@ -71,15 +71,6 @@ Deciding {I} part over g x (Delete p after) = (k : Ranges) (s : I) → over k s 
 Deciding {I} part over g x (ConditionAt q z from n after) = (k : Ranges) (s : I) (c : Condition) → over k s → ConditionIs k part q z from n c → (o : Block) → g s (condition c ∷ o) ≡ x
 Deciding {I} part over g x (EffectAt kd v z from n after) = (k : Ranges) (s : I) (e : Effect) → over k s → e .var ≡ v → EffectIs k part kd z from n e → (o : Block) → g s (effect e ∷ o) ≡ x
 Deciding {I} part over g x End = (s : I) → g s [] ≡ x
-
--- the offset behind an item
-abbrev pub behind : ItemAt → ℕ
-behind (Need p after) = after
-behind (Add p after) = after
-behind (Delete p after) = after
-behind (ConditionAt o z from n after) = after
-behind (EffectAt kd v z from n after) = after
-behind End = 0
 
 module _ {I X : Type 0} {part : List ℕ} (over : Ranges → I → Type 0) (g : I → Block → X) where
   pub walk-start : 1 ≤ length part → Walk part over g 1
@@ -92,31 +83,37 @@ module _ {I X : Type 0} {part : List ℕ} (over : Ranges → I → Type 0) (g : 
         → Found k part (w .reading k b s l o .rest) x
     walk-found k b s l o t = let r = w .reading k b s l o in t .found k (r .rest) (r .left)
 
-    pub walk-next : {x : ItemAt} → Next part at x → Passing part over g x → Walk part over g (behind x)
-    walk-next {x} t q = record { within = ahead x (t .moves) q; reading = λ k b s l o. go x q k b s l o (walk-found k b s l o t) }
+    pub walk-next : {x : ItemAt} → at < length part → Next part at x → Passing part over g x → Walk part over g (behind x)
+    unfolding behind
+    walk-next {x} lt t q =
+        record { within = next-ahead lt t .1; reading = λ k b s l o. go x (t .moves) q k b s l o (walk-found k b s l o t) }
       where
-        ahead : (y : ItemAt) → Moves at (length part) y → Passing part over g y → behind y ≤ length part
-        ahead (Need p after) m h = m .1
-        ahead (Add p after) m h = m .1
-        ahead (Delete p after) m h = m .1
-        ahead (ConditionAt c z from n after) m h = m .1
-        ahead (EffectAt kd v z from n after) m h = m .1
-        ahead End m h = absurd h
-
         go :
             (y : ItemAt)
+            → Moves at (length part) y
             → Passing part over g y
             → (k : Ranges) (b : Block) (s : I) (l : Left k part 1 b) (o : over k s)
             → Found k part (w .reading k b s l o .rest) y
             → Reading k part (g s b) (g s) (behind y)
-        go (Need p after) h k b s l o f = reading-next (w .reading k b s l o) (g s) f (h k s o (f .ok))
-        go (Add p after) h k b s l o f = reading-next (w .reading k b s l o) (g s) f (h k s o (f .ok))
-        go (Delete p after) h k b s l o f = reading-next (w .reading k b s l o) (g s) f (h k s o (f .ok))
-        go (ConditionAt c z from n after) h k b s l o f =
+        go (Need p after) m h k b s l o f = reading-next (w .reading k b s l o) (g s) f (h k s o (f .ok))
+        go (Add p after) m h k b s l o f = reading-next (w .reading k b s l o) (g s) f (h k s o (f .ok))
+        go (Delete p after) m h k b s l o f = reading-next (w .reading k b s l o) (g s) f (h k s o (f .ok))
+        go (ConditionAt c z from n after) m h k b s l o f =
             reading-next (w .reading k b s l o) (g s) (f .followed) (h k s (f .it) o (f .is))
-        go (EffectAt kd v z from n after) h k b s l o f =
+        go (EffectAt kd v z from n after) m h k b s l o f =
             reading-next (w .reading k b s l o) (g s) (f .followed) (h k s (f .it) o (f .var) (f .is))
-        go End h k b s l o f = absurd h
+        go End m h k b s l o f = absurd (omega arith)
+
+    -- at the part's end
+    pub walk-end :
+        {y : X}
+        → length part ≤ at
+        → ((s : I) → g s [] ≡ y)
+        → (k : Ranges) (b : Block) (s : I)
+        → Left k part 1 b
+        → over k s
+        → y ≡ g s b
+    walk-end h e k b s l o = let r = w .reading k b s l o in reading-end r (left-end h (r .left)) (e s)
 
     pub walk-stop :
         {x : ItemAt} {y : X}

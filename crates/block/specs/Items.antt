@@ -294,18 +294,40 @@ Found k part rest (ConditionAt o c from n next) = ConditionFound k part o c from
 Found k part rest (EffectAt kd v c from n next) = EffectFound k part kd v c from n next rest
 Found k part rest End = rest ≡ []
 
--- the next offset lies ahead
+-- the offset behind an item; 0 for none
+unfoldable pub behind : ItemAt → ℕ
+behind (Need p after) = after
+behind (Add p after) = after
+behind (Delete p after) = after
+behind (ConditionAt o z from n after) = after
+behind (EffectAt kd v z from n after) = after
+behind End = 0
+
+-- the offset behind an item lies ahead; the block ends at the part's end
 abbrev pub Moves : ℕ → ℕ → ItemAt → Type 0
 Moves at size (Need p next) = (at < next) × (next ≤ size)
 Moves at size (Add p next) = (at < next) × (next ≤ size)
 Moves at size (Delete p next) = (at < next) × (next ≤ size)
 Moves at size (ConditionAt o c from n next) = (at < next) × (next ≤ size)
 Moves at size (EffectAt kd v c from n next) = (at < next) × (next ≤ size)
-Moves at size End = Unit {0}
+Moves at size End = size ≤ at
 
 pub record Next (part : List ℕ) (at : ℕ) (r : ItemAt) : Type 0 where
   pub moves : Moves at (length part) r
   pub found : (k : Ranges) (rest : Block) → Left k part at rest → Found k part rest r
+
+-- before the part's end
+pub next-ahead : {part : List ℕ} {at : ℕ} {r : ItemAt} → at < length part → Next part at r → (at < behind r) × (behind r ≤ length part)
+unfolding behind
+next-ahead {part} {at} {r} h t = go r (t .moves)
+  where
+    go : (x : ItemAt) → Moves at (length part) x → (at < behind x) × (behind x ≤ length part)
+    go (Need p after) m = m
+    go (Add p after) m = m
+    go (Delete p after) m = m
+    go (ConditionAt o z from n after) m = m
+    go (EffectAt kd v z from n after) m = m
+    go End m = absurd (omega arith)
 
 -- ---- sizes
 

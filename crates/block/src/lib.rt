@@ -10,7 +10,7 @@ ghost use Rattle.model.specs.Command.{comparisonCode};
 ghost use Rattle.model.specs.Move.{compares};
 ghost use Rattle.model.specs.Layer.{Value, reaches};
 ghost use Rattle.model.specs.Memory.{encode};
-ghost use Rattle.block.specs.Items.{Ranges, Left, Readable, Closed, Closable, Next, Moves, Found, TermAt, IsVariable, IsWeight, IsScaled};
+ghost use Rattle.block.specs.Items.{Ranges, Left, Readable, Closed, Closable, behind, Next, Moves, Found, TermAt, IsVariable, IsWeight, IsScaled};
 ghost use Rattle.block.specs.Sums.{Summable, IsSum, IsValue, LayerSummable, IsLayerSum, IsLayerValue, isMark};
 ghost use Rattle.block.specs.Blocks.{Testable, IsTest, IsApplicable, LayerTestable, IsLayerTest, IsUsable};
 
@@ -111,6 +111,33 @@ pub fn next(part: &[u8], at: usize) -> ItemAt
         return ItemAt::End;
     }
     item_at(part, at, terms_at(part, at))
+}
+
+// The offset behind an item; 0 behind the block's end.
+pub fn behind(item: ItemAt) -> usize
+    ensures { λ r. ⌜ r ≡ behind item ⌝ }
+{
+    match item {
+        ItemAt::Need { prop: _, after } => after,
+        ItemAt::Add { prop: _, after } => after,
+        ItemAt::Delete { prop: _, after } => after,
+        ItemAt::Condition {
+            comparison: _,
+            bound: _,
+            from: _,
+            terms: _,
+            after,
+        } => after,
+        ItemAt::Effect {
+            kind: _,
+            var: _,
+            base: _,
+            from: _,
+            terms: _,
+            after,
+        } => after,
+        ItemAt::End => 0,
+    }
 }
 
 // The variable of the term at `at`.
@@ -250,47 +277,30 @@ pub fn applicable(part: &[u8], state: &[u8], values: &[i64]) -> bool
     ensures { λ r. ⌜ IsApplicable (now (part .entry)) (now (state .entry)) (now (values .entry)) r ⌝ }
 {
     let mut at = 1;
-    loop {
-        match next(part, at) {
-            ItemAt::Need { prop, after } => {
+    while at < part.len() {
+        let item = next(part, at);
+        match item {
+            ItemAt::Need { prop, after: _ } => {
                 if state[prop] != 1 {
                     return false;
                 }
-                at = after;
             }
             ItemAt::Condition {
                 comparison,
                 bound,
                 from,
                 terms,
-                after,
+                after: _,
             } => {
                 if !condition_holds(part, comparison, bound, from, terms, values) {
                     return false;
                 }
-                at = after;
             }
-            ItemAt::Add { prop: _, after } => {
-                at = after;
-            }
-            ItemAt::Delete { prop: _, after } => {
-                at = after;
-            }
-            ItemAt::Effect {
-                kind: _,
-                var: _,
-                base: _,
-                from: _,
-                terms: _,
-                after,
-            } => {
-                at = after;
-            }
-            ItemAt::End => {
-                return true;
-            }
+            _ => {}
         }
+        at = behind(item);
     }
+    true
 }
 
 // Do all conditions of the block, one of a normal table, hold in the layer of these propositions and values?
@@ -299,45 +309,28 @@ pub fn usable(part: &[u8], has: &[bool], layer: &[i64]) -> bool
     ensures { λ r. ⌜ IsUsable (now (part .entry)) (now (has .entry)) (now (layer .entry)) r ⌝ }
 {
     let mut at = 1;
-    loop {
-        match next(part, at) {
-            ItemAt::Need { prop, after } => {
+    while at < part.len() {
+        let item = next(part, at);
+        match item {
+            ItemAt::Need { prop, after: _ } => {
                 if !has[prop] {
                     return false;
                 }
-                at = after;
             }
             ItemAt::Condition {
                 comparison: _,
                 bound,
                 from,
                 terms,
-                after,
+                after: _,
             } => {
                 if !condition_reached(part, bound, from, terms, layer) {
                     return false;
                 }
-                at = after;
             }
-            ItemAt::Add { prop: _, after } => {
-                at = after;
-            }
-            ItemAt::Delete { prop: _, after } => {
-                at = after;
-            }
-            ItemAt::Effect {
-                kind: _,
-                var: _,
-                base: _,
-                from: _,
-                terms: _,
-                after,
-            } => {
-                at = after;
-            }
-            ItemAt::End => {
-                return true;
-            }
+            _ => {}
         }
+        at = behind(item);
     }
+    true
 }

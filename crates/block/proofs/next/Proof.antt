@@ -5,7 +5,7 @@ use Rattle.block.proofs.next.Statement.{statement}
 use Rattle.block.proofs.next.Tie as tie
 
 returns : tie.Need-returns
-returns c = record { moves = tt; found = λ k rest l. left-end (c .if1 .taken) l }
+returns c = record { moves = c .if1 .taken; found = λ k rest l. left-end (c .if1 .taken) l }
 
 terms-at-requires : tie.Need-terms-at-requires
 terms-at-requires c κs = (c .before .before .pre, c .if1 .left)

@@ -2,9 +2,10 @@
 -- Assumes nothing.
 use Prim.Native.Nat.{_-_}
 use native.Mathlib.Omega.{arith}
-use mathlib.Core.Path.{refl, _∙_}
+use mathlib.Core.Path.{_≡_, refl, sym, _∙_, subst}
 use mathlib.Core.Bool.{Bool}
 use mathlib.Core.List.{List}
+use mathlib.Core.Logic.{⊎-elim}
 use borrow.Author.Needs.{needs}
 use borrow.Author.Tests.{not-true, not-false}
 use lib.IntN.{ℤ}
@@ -12,8 +13,10 @@ use lib.ListN.{length}
 use Rattle.integer.specs.Linear.{back-small}
 use Rattle.model.specs.Lists.{all}
 use Rattle.model.specs.Layer.{Layer, holdsIn, usable}
-use Rattle.block.specs.Items.{Ranges, readable}
-use Rattle.block.specs.Blocks.{Walk, walk-start, walk-found, walk-next, walk-stop, next-is, all-true, all-false, LayerState, layer-need-room, layer-need, condition-bound, layer-summable, layer-condition-test}
+use Rattle.block.specs.Items.{Ranges, readable, next-ahead}
+use Rattle.block.specs.Blocks.{Walk, Passing, walk-start, walk-found, walk-next, walk-stop, walk-end, next-is, all-true, all-false, LayerState, layer-need-room, layer-need, condition-bound, layer-summable, layer-condition-test}
+use Rattle.block.specs.declared.ItemAt.{ItemAt}
+use Rattle.block.proofs.Passed.{no-condition}
 use Rattle.block.proofs.usable.Statement.{statement}
 use Rattle.block.proofs.usable.Tie as tie
 
@@ -32,19 +35,19 @@ loop-holds c = walk-start (Over _ _) (λ s. all (holdsIn s)) (c .before .before 
 
 next-requires : tie.Need-next-requires Inv-loop μ-loop
 next-requires c κs =
-    let p = c .before .before .before .pre in
-    readable (c .loop .inv .reading (p .ranges) (p .block) (p .over) (p .left) (p .row) .left)
+    let p = c .before .before .before .before .pre in
+    readable (c .before .loop .inv .reading (p .ranges) (p .block) (p .over) (p .left) (p .row) .left)
 
-enum-known-prop : tie.Need-enum-known-prop Inv-loop μ-loop
-enum-known-prop c = search needs
+enum-known-item : tie.Need-enum-known-item Inv-loop μ-loop
+enum-known-item c = search needs
 
 shared-slice-read-if1 : tie.Need-shared-slice-read-if1 Inv-loop μ-loop
 shared-slice-read-if1 c =
     let m = c .before .before in
     let n = m .before .before in
-    let p = n .before .before .before .before .pre in
+    let p = n .before .before .before .before .before .pre in
     layer-need-room (p .row)
-    (walk-found (Over _ _) (λ s. all (holdsIn s)) (n .before .loop .inv) (p .ranges) (p .block) (p .over) (p .left) (p .row) (next-is (n .next .ensures) (m .prop .given .1)) .ok)
+    (walk-found (Over _ _) (λ s. all (holdsIn s)) (n .before .before .loop .inv) (p .ranges) (p .block) (p .over) (p .left) (p .row) (next-is (n .next .ensures) (m .item .given .1)) .ok)
 
 returns : tie.Need-returns Inv-loop μ-loop
 unfolding usable
@@ -53,32 +56,20 @@ returns c =
     let n = m .before .before in
     record {
       is =
-          walk-stop (Over _ _) (λ s. all (holdsIn s)) (n .before .loop .inv) (next-is (n .next .ensures) (m .prop .given .1))
+          walk-stop (Over _ _) (λ s. all (holdsIn s)) (n .before .before .loop .inv) (next-is (n .next .ensures) (m .item .given .1))
           (λ k s w h. all-false (holdsIn s) (layer-need w h (not-true _ (c .if1 .taken))));
     }
 
-loop-less : tie.Need-loop-less Inv-loop μ-loop
-loop-less c =
-    let m = c .before .before .before in
-    omega (arith, next-is (m .before .before .next .ensures) (m .prop .given .1) .moves)
-
-loop-again : tie.Need-loop-again Inv-loop μ-loop
-loop-again c =
-    let m = c .before .before .before in
-    let n = m .before .before in
-    walk-next (Over _ _) (λ s. all (holdsIn s)) (n .before .loop .inv) (next-is (n .next .ensures) (m .prop .given .1))
-    (λ k s w h. all-true (holdsIn s) (layer-need w h (not-false _ (c .if1 .left))))
-
-enum-known-bound : tie.Need-enum-known-bound Inv-loop μ-loop
-enum-known-bound c = search needs
+enum-known-item-2 : tie.Need-enum-known-item-2 Inv-loop μ-loop
+enum-known-item-2 c = search needs
 
 condition-reached-requires : tie.Need-condition-reached-requires Inv-loop μ-loop
 condition-reached-requires c κs =
     let m = c .before in
     let n = m .before .before in
-    let p = n .before .before .before .before .pre in
+    let p = n .before .before .before .before .before .pre in
     layer-summable
-    (walk-found (Over _ _) (λ s. all (holdsIn s)) (n .before .loop .inv) (p .ranges) (p .block) (p .over) (p .left) (p .row) (next-is (n .next .ensures) (m .bound .given .1)) .is .terms)
+    (walk-found (Over _ _) (λ s. all (holdsIn s)) (n .before .before .loop .inv) (p .ranges) (p .block) (p .over) (p .left) (p .row) (next-is (n .next .ensures) (m .item2 .given .1)) .is .terms)
     (p .row .row)
 
 returns-2 : tie.Need-returns-2 Inv-loop μ-loop
@@ -88,87 +79,57 @@ returns-2 c =
     let n = m .before .before in
     record {
       is =
-          walk-stop (Over _ _) (λ s. all (holdsIn s)) (n .before .loop .inv) (next-is (n .next .ensures) (m .bound .given .1))
+          walk-stop (Over _ _) (λ s. all (holdsIn s)) (n .before .before .loop .inv) (next-is (n .next .ensures) (m .item2 .given .1))
           (λ k s q w h.
           all-false (holdsIn s)
-          (layer-condition-test s (w .row) h (rw (back-small (m .bound .given .0 .1 .0) (omega (arith, condition-bound h))) at (c .before .condition-reached .ensures))
+          (layer-condition-test s (w .row) h (rw (back-small (m .item2 .given .0 .1 .0) (omega (arith, condition-bound h))) at (c .before .condition-reached .ensures))
           ∙ not-true (c .before .condition-reached .result) (c .if2 .taken)));
     }
 
-loop-less-2 : tie.Need-loop-less-2 Inv-loop μ-loop
-loop-less-2 c =
-    let m = c .before .before .before in
-    omega (arith, next-is (m .before .before .next .ensures) (m .bound .given .1) .moves)
+behind-requires : tie.Need-behind-requires Inv-loop μ-loop
+behind-requires c κs = search needs
 
-loop-again-2 : tie.Need-loop-again-2 Inv-loop μ-loop
-loop-again-2 c =
-    let m = c .before .before .before in
-    let n = m .before .before in
-    walk-next (Over _ _) (λ s. all (holdsIn s)) (n .before .loop .inv) (next-is (n .next .ensures) (m .bound .given .1))
-    (λ k s q w h.
+-- the item that was passed
+same : (c : tie.At-match-came Inv-loop μ-loop) → c .before .next .result ≡ c .match .item
+same c = ⊎-elim (λ w. w .1 .given .1 ∙ sym (w .5)) (⊎-elim (λ w. w .1 .given .1 ∙ sym (w .5)) (λ w. sym (w .1))) (c .match .came)
+
+loop-less : tie.Need-loop-less Inv-loop μ-loop
+loop-less c =
+    let n = c .before .before in
+    omega (arith, next-ahead (n .before .loop-test .taken) (next-is (n .next .ensures) (same (c .before))), c .behind .ensures)
+
+-- it does not change the answer
+abbrev Passes : tie.Start Inv-loop μ-loop → ItemAt → Type 0
+Passes c x = Passing (c .args .part .now) (Over (c .args .has .now) (c .args .layer .now)) (λ s. all (holdsIn s)) x
+
+passes : (c : tie.At-match-came Inv-loop μ-loop) → Passes (c .before .before .before .before .before .before) (c .match .item)
+unfolding holdsIn
+passes c =
+    let start = c .before .before .before .before .before .before in
+    ⊎-elim
+    (λ w. subst (Passes start) (sym (w .5)) (λ k s v h. all-true (holdsIn s) (layer-need v h (not-false _ (w .4 .left)))))
+    (⊎-elim
+    (λ w.
+    subst (Passes start) (sym (w .5))
+    (λ k s q v h.
     all-true (holdsIn s)
-    (layer-condition-test s (w .row) h (rw (back-small (m .bound .given .0 .1 .0) (omega (arith, condition-bound h))) at (c .before .condition-reached .ensures))
-    ∙ not-false (c .before .condition-reached .result) (c .if2 .left)))
+    (layer-condition-test s (v .row) h (rw (back-small (w .1 .given .0 .1 .0) (omega (arith, condition-bound h))) at (w .3 .ensures))
+    ∙ not-false (w .3 .result) (w .4 .left))))
+    (λ w.
+    subst (Passes start) (sym (w .1))
+    (no-condition (start .args .part .now) (Over _ _) holdsIn (λ s p. refl) (λ s p. refl) (λ s e. refl) (c .before .next .result) (w .0 .keys3))))
+    (c .match .came)
 
-enum-known-after : tie.Need-enum-known-after Inv-loop μ-loop
-enum-known-after c = search needs
-
-loop-less-3 : tie.Need-loop-less-3 Inv-loop μ-loop
-loop-less-3 c =
-    let m = c .before in
-    omega (arith, next-is (m .before .before .next .ensures) (m .after .given .1) .moves)
-
-loop-again-3 : tie.Need-loop-again-3 Inv-loop μ-loop
-unfolding holdsIn
-loop-again-3 c =
-    let m = c .before in
-    let n = m .before .before in
-    walk-next (Over _ _) (λ s. all (holdsIn s)) (n .before .loop .inv) (next-is (n .next .ensures) (m .after .given .1))
-    (λ k s w h. all-true (holdsIn s) refl)
-
-enum-known-after-2 : tie.Need-enum-known-after-2 Inv-loop μ-loop
-enum-known-after-2 c = search needs
-
-loop-less-4 : tie.Need-loop-less-4 Inv-loop μ-loop
-loop-less-4 c =
-    let m = c .before in
-    omega (arith, next-is (m .before .before .next .ensures) (m .after2 .given .1) .moves)
-
-loop-again-4 : tie.Need-loop-again-4 Inv-loop μ-loop
-unfolding holdsIn
-loop-again-4 c =
-    let m = c .before in
-    let n = m .before .before in
-    walk-next (Over _ _) (λ s. all (holdsIn s)) (n .before .loop .inv) (next-is (n .next .ensures) (m .after2 .given .1))
-    (λ k s w h. all-true (holdsIn s) refl)
-
-enum-known-after-3 : tie.Need-enum-known-after-3 Inv-loop μ-loop
-enum-known-after-3 c = search needs
-
-loop-less-5 : tie.Need-loop-less-5 Inv-loop μ-loop
-loop-less-5 c =
-    let m = c .before in
-    omega (arith, next-is (m .before .before .next .ensures) (m .after3 .given .1) .moves)
-
-loop-again-5 : tie.Need-loop-again-5 Inv-loop μ-loop
-unfolding holdsIn
-loop-again-5 c =
-    let m = c .before in
-    let n = m .before .before in
-    walk-next (Over _ _) (λ s. all (holdsIn s)) (n .before .loop .inv) (next-is (n .next .ensures) (m .after3 .given .1))
-    (λ k s e w f h. all-true (holdsIn s) refl)
-
-enum-told : tie.Need-enum-told Inv-loop μ-loop
-enum-told c = search needs
+loop-again : tie.Need-loop-again Inv-loop μ-loop
+loop-again c =
+    let n = c .before .before in
+    subst (Walk _ (Over _ _) (λ s. all (holdsIn s))) (sym (c .behind .ensures))
+    (walk-next (Over _ _) (λ s. all (holdsIn s)) (n .before .before .loop .inv) (n .before .loop-test .taken)
+    (next-is (n .next .ensures) (same (c .before))) (passes (c .before)))
 
 returns-3 : tie.Need-returns-3 Inv-loop μ-loop
 unfolding usable all
-returns-3 c =
-    let n = c .before .before in
-    record {
-      is =
-          walk-stop (Over _ _) (λ s. all (holdsIn s)) (n .before .loop .inv) (next-is (n .next .ensures) (c .enum-told .given .1)) (λ s. refl);
-    }
+returns-3 c = record { is = walk-end (Over _ _) (λ s. all (holdsIn s)) (c .before .loop .inv) (c .loop-test .left) (λ s. refl) }
 
 pub usable-spec : {M : Type 1} → statement M
 usable-spec =
@@ -178,24 +139,13 @@ usable-spec =
     μ-loop
     loop-holds
     next-requires
-    enum-known-prop
+    enum-known-item
     shared-slice-read-if1
     returns
-    loop-less
-    loop-again
-    enum-known-bound
+    enum-known-item-2
     condition-reached-requires
     returns-2
-    loop-less-2
-    loop-again-2
-    enum-known-after
-    loop-less-3
-    loop-again-3
-    enum-known-after-2
-    loop-less-4
-    loop-again-4
-    enum-known-after-3
-    loop-less-5
-    loop-again-5
-    enum-told
+    behind-requires
+    loop-less
+    loop-again
     returns-3)
