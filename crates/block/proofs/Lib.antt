@@ -1,1 +1,1 @@
-mod Passed
+pub mod Passed

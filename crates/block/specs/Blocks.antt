@@ -15,7 +15,7 @@ use Rattle.model.specs.Task.{Term, Comparison, Condition, Effect, Item, need, a
 use Rattle.model.specs.Command.{comparisonCode}
 use Rattle.model.specs.Move.{State, sum, compares, holds, applicable, value}
 use Rattle.model.specs.Layer.{Value, finite, Layer, plus, layerSum, reaches, holdsIn, usable, layerValue}
-use Rattle.block.specs.Items.{Ranges, Left, left-end, Terms, Followed, ConditionIs, EffectIs, Found, behind, Moves, Next, next-ahead, bound-small, base-small}
+use Rattle.block.specs.Items.{Ranges, Left, Terms, Followed, ConditionIs, EffectIs, Found, behind, Moves, Next, next-ahead, bound-small, base-small}
 use Rattle.block.specs.Sums.{Row, Summable, LayerRow, Encoded, LayerSummable, IsValue, IsLayerValue}
 use Rattle.block.specs.declared.ItemAt.{ItemAt}
 use Rattle.block.specs.declared.ItemAt.the-variants.{Need, Add, Delete, Condition as ConditionAt, Effect as EffectAt, End}
@@ -103,17 +103,6 @@ module _ {I X : Type 0} {part : List ℕ} (over : Ranges → I → Type 0) (g : 
         go (EffectAt kd v z from n after) m h k b s l o f =
             reading-next (w .reading k b s l o) (g s) (f .followed) (h k s (f .it) o (f .var) (f .is))
         go End m h k b s l o f = absurd (omega arith)
-
-    -- at the part's end
-    pub walk-end :
-        {y : X}
-        → length part ≤ at
-        → ((s : I) → g s [] ≡ y)
-        → (k : Ranges) (b : Block) (s : I)
-        → Left k part 1 b
-        → over k s
-        → y ≡ g s b
-    walk-end h e k b s l o = let r = w .reading k b s l o in reading-end r (left-end h (r .left)) (e s)
 
     pub walk-stop :
         {x : ItemAt} {y : X}

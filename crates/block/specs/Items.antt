@@ -8,10 +8,11 @@ use lib.IntN.{ℤ, natAbs, _*ℤ_}
 use lib.ListN.{length, getD, take, drop, length-append}
 use Rattle.integer.specs.BigEndian.{half, signed, signedBytes, length-signedBytes}
 use Rattle.integer.specs.Linear.{zlin, natAbs-split}
-use Rattle.model.specs.Limits.{paper}
-use Rattle.model.specs.Task.{Form, written, normal, Term, Condition, Effect, Item, need, add, delete, condition, effect, Block}
-use Rattle.model.specs.Command.{needProp, addProp, deleteProp, term, closeCondition, closeEffect, codeOf, comparisonCode, kindCode, termBytes, itemBytes, itemsBytes}
-use Rattle.model.specs.Theorems.WellFormed.{All, WeightOk, SumOk, BoundOk, ConditionOk, EffectOk, ItemOk}
+use Rattle.model.specs.Limits.{paper, largestValue}
+use Rattle.model.specs.Task.{Form, written, normal, Term, Condition, Effect, Item, need, add, delete, condition, effect, Block, termsOf}
+use Rattle.model.specs.Command.{term, codeOf, comparisonCode, kindCode, termBytes, itemsBytes}
+use Rattle.model.specs.Theorems.Printing.Items.{itemCommand, itemOperands, item-parts}
+use Rattle.model.specs.Theorems.Reading.WellFormed.{All, WeightOk, SumOk, BoundOk, ConditionOk, EffectOk, ItemOk}
 use Rattle.block.specs.Bytes.{At, at-same, at-place, at-head, at-behind, at-tail, at-room, at-signed, at-length}
 use Rattle.block.specs.declared.ItemAt.{ItemAt}
 use Rattle.block.specs.declared.ItemAt.the-variants.{Need, Add, Delete, Condition as ConditionAt, Effect as EffectAt, End}
@@ -62,63 +63,12 @@ terms-place h e f = record { after = h .after; bytes = at-place (h .bytes) e; ma
 
 -- ---- an item is the terms of its sum and the command that closes it
 
-unfoldable pub termsOf : Item → List Term
-termsOf (need p) = []
-termsOf (add p) = []
-termsOf (delete p) = []
-termsOf (condition c) = c .terms
-termsOf (effect e) = e .terms
-
 unfoldable pub closing : Item → List ℕ
-closing (need p) = codeOf needProp ∷ p ∷ []
-closing (add p) = codeOf addProp ∷ p ∷ []
-closing (delete p) = codeOf deleteProp ∷ p ∷ []
-closing (condition c) = codeOf closeCondition ∷ comparisonCode (c .comparison) ∷ signedBytes 4 (c .bound)
-closing (effect e) = codeOf closeEffect ∷ kindCode (e .kind) ∷ e .var ∷ signedBytes 4 (e .base)
+closing i = codeOf (itemCommand i) ∷ itemOperands i
 
-itemBytes-parts : (i : Item) → itemBytes i ≡ termBytes (termsOf i) ++ closing i
-unfolding itemBytes termsOf closing termBytes
-itemBytes-parts (need p) = refl
-itemBytes-parts (add p) = refl
-itemBytes-parts (delete p) = refl
-itemBytes-parts (condition c) = refl
-itemBytes-parts (effect e) = refl
-
-first-parts : (i : Item) (b : Block) → itemsBytes (i ∷ b) ≡ termBytes (termsOf i) ++ (closing i ++ itemsBytes b)
-unfolding itemsBytes
-first-parts i b = rw (itemBytes-parts i, append-assoc (termBytes (termsOf i)) (closing i) (itemsBytes b)) refl
-
--- the item at `from`, of which n terms are passed and the terms `ts` are left
-pub record Passed (k : Ranges) (part : List ℕ) (from n : ℕ) (rest : Block) : Type 0 where
-  pub item : Item
-  pub others : Block
-  pub is : rest ≡ item ∷ others
-  pub ok : ItemOk paper (k .form) (k .props) (k .vars) item
-  pub oks : All (ItemOk paper (k .form) (k .props) (k .vars)) others
-  pub whole : At part from (termBytes (termsOf item) ++ (closing item ++ itemsBytes others))
-  pub ts : List Term
-  pub many : n + length ts ≡ length (termsOf item)
-  pub bytes : At part (from + 4 * n) (termBytes ts ++ (closing item ++ itemsBytes others))
-
--- the item at `from` has n terms, and its last command stands behind them
-pub record ClosedBy (k : Ranges) (part : List ℕ) (from n : ℕ) (rest : Block) (item : Item) (others : Block) : Type 0 where
-  pub is : rest ≡ item ∷ others
-  pub ok : ItemOk paper (k .form) (k .props) (k .vars) item
-  pub oks : All (ItemOk paper (k .form) (k .props) (k .vars)) others
-  pub whole : At part from (termBytes (termsOf item) ++ (closing item ++ itemsBytes others))
-  pub many : length (termsOf item) ≡ n
-  pub bytes : At part (from + 4 * n) (closing item ++ itemsBytes others)
-
-pub record Closed (k : Ranges) (part : List ℕ) (from n : ℕ) (rest : Block) : Type 0 where
-  pub item : Item
-  pub others : Block
-  pub by : ClosedBy k part from n rest item others
-
--- some item does
-pub record Closable (part : List ℕ) (from n : ℕ) : Type 0 where
-  pub ranges : Ranges
-  pub rest : Block
-  pub closed : Closed ranges part from n rest
+pub first-parts : (i : Item) (b : Block) → itemsBytes (i ∷ b) ≡ termBytes (termsOf i) ++ (closing i ++ itemsBytes b)
+unfolding itemsBytes closing
+first-parts i b = rw (item-parts i, append-assoc (termBytes (termsOf i)) (closing i) (itemsBytes b)) refl
 
 -- the bytes of a first term
 unfoldable pub firstTerm : Term → List ℕ
@@ -140,26 +90,9 @@ pub behind-term :
 behind-term t ts bs a =
     at-behind 4 (firstTerm t) (termBytes ts ++ bs) (at-same a (terms-cons t ts bs)) (firstTerm-length t)
 
-term-head : {part : List ℕ} {at : ℕ} (t : Term) (ts : List Term) (bs : List ℕ) → At part at (termBytes (t ∷ ts) ++ bs) → getD part at 0 ≡ 0x57
-unfolding termBytes codeOf
-term-head t ts bs a = at-head a
-
--- no command that closes an item is a term's
-closing-head : {part : List ℕ} {at : ℕ} (i : Item) (bs : List ℕ) → At part at (closing i ++ bs) → getD part at 0 ≡ 0x57 → ⊥
-unfolding closing codeOf
-closing-head (need p) bs a e = omega (arith, at-head a)
-closing-head (add p) bs a e = omega (arith, at-head a)
-closing-head (delete p) bs a e = omega (arith, at-head a)
-closing-head (condition c) bs a e = omega (arith, at-head a)
-closing-head (effect f) bs a e = omega (arith, at-head a)
-
-closing-long : (i : Item) → 1 ≤ length (closing i)
+pub closing-long : (i : Item) → 1 ≤ length (closing i)
 unfolding closing
-closing-long (need p) = omega arith
-closing-long (add p) = omega arith
-closing-long (delete p) = omega arith
-closing-long (condition c) = omega arith
-closing-long (effect f) = omega arith
+closing-long i = omega arith
 
 -- at the end no item is left
 pub left-end : {k : Ranges} {part : List ℕ} {at : ℕ} {rest : Block} → length part ≤ at → Left k part at rest → rest ≡ []
@@ -170,86 +103,6 @@ left-end {part} {at} {rest} h l = go rest (l .bytes)
     go (i ∷ b) a =
         absurd
         (omega (arith, at-length (at-same a (first-parts i b)), length-append (termBytes (termsOf i)) (closing i ++ itemsBytes b), length-append (closing i) (itemsBytes b), closing-long i))
-
-pub pass-start : {k : Ranges} {part : List ℕ} {at : ℕ} {rest : Block} → at < length part → Left k part at rest → Passed k part at 0 rest
-pass-start {k} {part} {at} {rest} h l = go rest (l .bytes) (l .items)
-  where
-    go : (b : Block) → At part at (itemsBytes b) → All (ItemOk paper (k .form) (k .props) (k .vars)) b → Passed k part at 0 b
-    go [] a ok = absurd (unfold itemsBytes in (omega (arith, at-length a)))
-    go (i ∷ b) a ok =
-        let w : At part at (termBytes (termsOf i) ++ (closing i ++ itemsBytes b)) = at-same a (first-parts i b) in
-        record {
-          item = i;
-          others = b;
-          is = refl;
-          ok = ok .0;
-          oks = ok .1;
-          whole = w;
-          ts = termsOf i;
-          many = omega arith;
-          bytes = at-place w (omega arith);
-        }
-
--- the command of the item that is being passed stands within the part
-pub pass-room : {k : Ranges} {part : List ℕ} {from n : ℕ} {rest : Block} → Passed k part from n rest → from + 4 * n < length part
-pass-room p =
-    omega (arith, at-length (p .bytes), length-append (termBytes (p .ts)) (closing (p .item) ++ itemsBytes (p .others)), length-append (closing (p .item)) (itemsBytes (p .others)), closing-long (p .item))
-
-pub pass-step :
-    {k : Ranges} {part : List ℕ} {from n : ℕ} {rest : Block}
-    → Passed k part from n rest
-    → getD part (from + 4 * n) 0 ≡ 0x57
-    → Passed k part from (n + 1) rest
-pass-step {k} {part} {from} {n} {rest} p e = go (p .ts) (p .many) (p .bytes)
-  where
-    behind : List ℕ
-    behind = closing (p .item) ++ itemsBytes (p .others)
-
-    go : (ts : List Term) → n + length ts ≡ length (termsOf (p .item)) → At part (from + 4 * n) (termBytes ts ++ behind) → Passed k part from (n + 1) rest
-    go [] m a = absurd (unfold termBytes in (closing-head (p .item) (itemsBytes (p .others)) a e))
-    go (t ∷ ts) m a =
-        record {
-          item = p .item;
-          others = p .others;
-          is = p .is;
-          ok = p .ok;
-          oks = p .oks;
-          whole = p .whole;
-          ts = ts;
-          many = omega arith;
-          bytes = at-place (behind-term t ts behind a) (omega arith);
-        }
-
-pub pass-end :
-    {k : Ranges} {part : List ℕ} {from n : ℕ} {rest : Block}
-    → Passed k part from n rest
-    → (getD part (from + 4 * n) 0 ≡ 0x57 → ⊥)
-    → Closed k part from n rest
-pass-end {k} {part} {from} {n} {rest} p e = go (p .ts) (p .many) (p .bytes)
-  where
-    behind : List ℕ
-    behind = closing (p .item) ++ itemsBytes (p .others)
-
-    go : (ts : List Term) → n + length ts ≡ length (termsOf (p .item)) → At part (from + 4 * n) (termBytes ts ++ behind) → Closed k part from n rest
-    go [] m a =
-        record {
-          item = p .item;
-          others = p .others;
-          by =
-              record {
-                is = p .is;
-                ok = p .ok;
-                oks = p .oks;
-                whole = p .whole;
-                many = omega arith;
-                bytes = unfold termBytes in a;
-              };
-        }
-    go (t ∷ ts) m a = absurd (e (term-head t ts behind a))
-
--- the command that closes an item stands within the part
-pub closed-room : {k : Ranges} {part : List ℕ} {from n : ℕ} {rest : Block} → Closed k part from n rest → from + 4 * n < length part
-closed-room c = omega (arith, at-length (c .by .bytes), length-append (closing (c .item)) (itemsBytes (c .others)), closing-long (c .item))
 
 -- ---- what the next item is
 
@@ -420,7 +273,7 @@ module _ {k : Ranges} {part : List ℕ} {at n : ℕ} {t : Term} {ts : List Term}
 pub read-scaled :
     {part : List ℕ} {at : ℕ} {x w r : ℤ}
     → IsWeight part at w
-    → natAbs x ≤ 1_000_000_000_000
+    → natAbs x ≤ largestValue
     → r ≡ w *ℤ x
     → natAbs r ≤ 1000 * natAbs x
     → IsScaled part at x r
@@ -440,152 +293,3 @@ first-of {k} {part} {at} {n} {ts} h p = go ts h
     go : (l : List Term) → Terms k part at n l → FirstOf k part at n l
     go [] g = absurd (omega (arith, g .many))
     go (t ∷ l) g = record { first = t; others = l; is = refl; terms = g }
-
--- ---- the item that a command closes
-
--- a command with a proposition: `mk` is the kind of item that its code stands for
-prop-followed :
-    {k : Ranges} {part : List ℕ} {at : ℕ} {rest : Block} (mk : ℕ → Item) (code p q : ℕ) (others : Block)
-    → rest ≡ mk p ∷ others
-    → ItemOk paper (k .form) (k .props) (k .vars) (mk p)
-    → All (ItemOk paper (k .form) (k .props) (k .vars)) others
-    → At part at (code ∷ p ∷ itemsBytes others)
-    → q ≡ getD part (at + 1) 0
-    → Followed k part (at + 2) rest (mk q)
-prop-followed {k} {part} {at} {rest} mk code p q others is ok oks a e =
-    let f : Followed k part (at + 2) rest (mk p) =
-    record {
-      others = others;
-      is = is;
-      left = record { bytes = at-behind 2 (code ∷ p ∷ []) (itemsBytes others) a refl; items = oks };
-      ok = ok;
-    } in
-    subst (λ (x : ℕ). Followed k part (at + 2) rest (mk x)) (sym (e ∙ at-head (at-tail a))) f
-
--- a command that ends with a constant
-constant-followed :
-    {k : Ranges} {part : List ℕ} {at after : ℕ} {rest : Block} (i : Item) (z : ℤ) (others : Block)
-    → rest ≡ i ∷ others
-    → ItemOk paper (k .form) (k .props) (k .vars) i
-    → All (ItemOk paper (k .form) (k .props) (k .vars)) others
-    → At part at (signedBytes 4 z ++ itemsBytes others)
-    → at + 4 ≡ after
-    → Followed k part after rest i
-constant-followed i z others is ok oks a e =
-    record {
-      others = others;
-      is = is;
-      left =
-          record { bytes = at-place (at-behind 4 (signedBytes 4 z) (itemsBytes others) a (length-signedBytes 4 z)) e; items = oks };
-      ok = ok;
-    }
-
--- the terms of the sum that it closes
-terms-of :
-    {k : Ranges} {part : List ℕ} {from n : ℕ} {rest : Block} {i : Item} {others : Block}
-    → ClosedBy k part from n rest i others
-    → SumOk paper (k .form) (k .vars) (termsOf i)
-    → Terms k part from n (termsOf i)
-terms-of {i} {others} c ok =
-    record { after = closing i ++ itemsBytes others; bytes = c .whole; many = c .many; ok = ok }
-
-module _ {k : Ranges} {part : List ℕ} {from n : ℕ} {rest : Block} (closed : Closed k part from n rest) where
-  pub found-need : (p : ℕ) → getD part (from + 4 * n) 0 ≡ 0x50 → p ≡ getD part (from + 4 * n + 1) 0 → Followed k part (from + 4 * n + 2) rest (need p)
-  unfolding closing codeOf
-  found-need p h e = go (closed .item) (closed .by)
-    where
-      go : (i : Item) → ClosedBy k part from n rest i (closed .others) → Followed k part (from + 4 * n + 2) rest (need p)
-      go (need q) c = prop-followed need 0x50 q p (closed .others) (c .is) (c .ok) (c .oks) (c .bytes) e
-      go (add q) c = absurd (omega (arith, at-head (c .bytes)))
-      go (delete q) c = absurd (omega (arith, at-head (c .bytes)))
-      go (condition q) c = absurd (omega (arith, at-head (c .bytes)))
-      go (effect q) c = absurd (omega (arith, at-head (c .bytes)))
-
-  pub found-add : (p : ℕ) → getD part (from + 4 * n) 0 ≡ 0x2B → p ≡ getD part (from + 4 * n + 1) 0 → Followed k part (from + 4 * n + 2) rest (add p)
-  unfolding closing codeOf
-  found-add p h e = go (closed .item) (closed .by)
-    where
-      go : (i : Item) → ClosedBy k part from n rest i (closed .others) → Followed k part (from + 4 * n + 2) rest (add p)
-      go (need q) c = absurd (omega (arith, at-head (c .bytes)))
-      go (add q) c = prop-followed add 0x2B q p (closed .others) (c .is) (c .ok) (c .oks) (c .bytes) e
-      go (delete q) c = absurd (omega (arith, at-head (c .bytes)))
-      go (condition q) c = absurd (omega (arith, at-head (c .bytes)))
-      go (effect q) c = absurd (omega (arith, at-head (c .bytes)))
-
-  pub found-delete : (p : ℕ) → getD part (from + 4 * n) 0 ≡ 0x2D → p ≡ getD part (from + 4 * n + 1) 0 → Followed k part (from + 4 * n + 2) rest (delete p)
-  unfolding closing codeOf
-  found-delete p h e = go (closed .item) (closed .by)
-    where
-      go : (i : Item) → ClosedBy k part from n rest i (closed .others) → Followed k part (from + 4 * n + 2) rest (delete p)
-      go (need q) c = absurd (omega (arith, at-head (c .bytes)))
-      go (add q) c = absurd (omega (arith, at-head (c .bytes)))
-      go (delete q) c = prop-followed delete 0x2D q p (closed .others) (c .is) (c .ok) (c .oks) (c .bytes) e
-      go (condition q) c = absurd (omega (arith, at-head (c .bytes)))
-      go (effect q) c = absurd (omega (arith, at-head (c .bytes)))
-
-  pub found-condition :
-      (o : ℕ) (z : ℤ)
-      → getD part (from + 4 * n) 0 ≡ 0x43
-      → o ≡ getD part (from + 4 * n + 1) 0
-      → z ≡ signed (take 4 (drop (from + 4 * n + 2) part))
-      → ConditionFound k part o z from n (from + 4 * n + 6) rest
-  unfolding closing codeOf termsOf half
-  found-condition o z h e f = go (closed .item) (closed .by)
-    where
-      go : (i : Item) → ClosedBy k part from n rest i (closed .others) → ConditionFound k part o z from n (from + 4 * n + 6) rest
-      go (need q) c = absurd (omega (arith, at-head (c .bytes)))
-      go (add q) c = absurd (omega (arith, at-head (c .bytes)))
-      go (delete q) c = absurd (omega (arith, at-head (c .bytes)))
-      go (condition q) c =
-          let code = comparisonCode (q .comparison) in
-          let small : natAbs (q .bound) < half 4 = unfold half in (omega (arith, bound-small (k .form) (q .bound) (c .ok .bound))) in
-          let number = at-behind 2 (0x43 ∷ code ∷ []) (signedBytes 4 (q .bound) ++ itemsBytes (closed .others)) (c .bytes) refl in
-          record {
-            it = q;
-            is =
-                record {
-                  comparison = sym (e ∙ at-head (at-tail (c .bytes)));
-                  bound = sym (f ∙ at-signed 4 (q .bound) (itemsBytes (closed .others)) number (omega arith) small);
-                  terms = terms-of c (c .ok .sum);
-                  ok = c .ok;
-                };
-            followed = constant-followed (condition q) (q .bound) (closed .others) (c .is) (c .ok) (c .oks) number (omega arith);
-          }
-      go (effect q) c = absurd (omega (arith, at-head (c .bytes)))
-
-  -- the one command that is left
-  pub found-effect :
-      (kd v : ℕ) (z : ℤ)
-      → (getD part (from + 4 * n) 0 ≡ 0x50 → ⊥)
-      → (getD part (from + 4 * n) 0 ≡ 0x2B → ⊥)
-      → (getD part (from + 4 * n) 0 ≡ 0x2D → ⊥)
-      → (getD part (from + 4 * n) 0 ≡ 0x43 → ⊥)
-      → kd ≡ getD part (from + 4 * n + 1) 0
-      → v ≡ getD part (from + 4 * n + 2) 0
-      → z ≡ signed (take 4 (drop (from + 4 * n + 3) part))
-      → EffectFound k part kd v z from n (from + 4 * n + 7) rest
-  unfolding closing codeOf termsOf half
-  found-effect kd v z h1 h2 h3 h4 e g f = go (closed .item) (closed .by)
-    where
-      go : (i : Item) → ClosedBy k part from n rest i (closed .others) → EffectFound k part kd v z from n (from + 4 * n + 7) rest
-      go (need q) c = absurd (h1 (at-head (c .bytes)))
-      go (add q) c = absurd (h2 (at-head (c .bytes)))
-      go (delete q) c = absurd (h3 (at-head (c .bytes)))
-      go (condition q) c = absurd (h4 (at-head (c .bytes)))
-      go (effect q) c =
-          let code = kindCode (q .kind) in
-          let small : natAbs (q .base) < half 4 = unfold half in (omega (arith, base-small (c .ok))) in
-          let target = at-behind 2 (0x46 ∷ code ∷ []) (q .var ∷ signedBytes 4 (q .base) ++ itemsBytes (closed .others)) (c .bytes) refl in
-          let number = at-behind 3 (0x46 ∷ code ∷ q .var ∷ []) (signedBytes 4 (q .base) ++ itemsBytes (closed .others)) (c .bytes) refl in
-          record {
-            it = q;
-            var = sym (g ∙ at-head target);
-            is =
-                record {
-                  kind = sym (e ∙ at-head (at-tail (c .bytes)));
-                  base = sym (f ∙ at-signed 4 (q .base) (itemsBytes (closed .others)) number (omega arith) small);
-                  terms = terms-of c (c .ok .sum);
-                  ok = c .ok;
-                };
-            followed = constant-followed (effect q) (q .base) (closed .others) (c .is) (c .ok) (c .oks) number (omega arith);
-          }

@@ -2,6 +2,7 @@
 -- and over a layer, whole blocks.
 pub mod Bytes
 pub mod Items
+pub mod Closing
 pub mod Sums
 pub mod Blocks
 pub mod Parts

@@ -6,8 +6,8 @@ use lib.ListN.{length, getD}
 use Rattle.model.specs.Limits.{paper}
 use Rattle.model.specs.Task.{Form, Task}
 use Rattle.model.specs.Command.{openMove, openGoal, codeOf, itemsBytes}
-use Rattle.model.specs.Theorems.WellFormed.{TaskOk}
-use Rattle.model.specs.Theorems.Layers.{move-ok}
+use Rattle.model.specs.Theorems.Reading.WellFormed.{TaskOk}
+use Rattle.model.specs.Theorems.Layers.NextLayer.{move-ok}
 use Rattle.block.specs.Items.{Ranges, Left, left-start}
 
 abbrev pub rangesOf : Form → Task → Ranges

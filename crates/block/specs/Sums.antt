@@ -9,13 +9,13 @@ use lib.IntN.{ℤ, pos, negsuc, natAbs, _+ℤ_, _*ℤ_}
 use lib.Signed.{leZ, ltZ, mag, _≤ℤ_}
 use lib.ListN.{length, getD}
 use Rattle.integer.specs.Linear.{zlin, natAbs-split, lt-leZ, le-leZ, ≤-trans, ≡-≤, size-above, larger, larger-size, larger-is-left, larger-is-right, +-assoc, +-zero, zero-+}
-use Rattle.model.specs.Limits.{paper}
+use Rattle.model.specs.Limits.{paper, largestValue}
 use Rattle.model.specs.Task.{Term, Comparison, atLeast, above, atMost, below, equal}
 use Rattle.model.specs.Command.{comparisonCode}
 use Rattle.model.specs.Move.{sum, compares}
 use Rattle.model.specs.Layer.{Value, finite, unbounded, plus, times, layerSum, reaches, highest}
-use Rattle.model.specs.Memory.{encode}
-use Rattle.model.specs.Theorems.Booleans.{true-T, false-not}
+use Rattle.model.specs.Memory.{encode, unboundedMark}
+use Rattle.model.specs.Theorems.Laws.Booleans.{true-T, false-not}
 use Rattle.block.specs.Items.{Ranges, Terms, TermAt, IsVariable, IsScaled, FirstOf, first-of, term-at, terms-place, term-var-small, terms-behind}
 
 -- a sum has at most eight terms
@@ -35,7 +35,7 @@ scaled-by {k} {m} {t} {ts} h s = s .is k m t ts h
 pub record Row (vars : ℕ) (values : List ℤ) (f : ℕ → ℤ) : Type 0 where
   pub long : vars ≤ length values
   pub same : (v : ℕ) → v < vars → getD values v (pos 0) ≡ f v
-  pub size : (v : ℕ) → v < vars → natAbs (f v) ≤ 1_000_000_000_000
+  pub size : (v : ℕ) → v < vars → natAbs (f v) ≤ largestValue
 
 -- some sum stands there, over some values
 pub record Summable (part : List ℕ) (from n : ℕ) (values : List ℤ) : Type 0 where
@@ -77,7 +77,7 @@ module _ {k : Ranges} {part : List ℕ} {from n : ℕ} {f : ℕ → ℤ} {ts : L
     adding-value : getD values v (pos 0) ≡ f (adding-first .first .var)
     adding-value = rw adding-var (r .same (adding-first .first .var) (term-var-small (adding-first .terms)))
 
-    pub adding-small : natAbs (getD values v (pos 0)) ≤ 1_000_000_000_000
+    pub adding-small : natAbs (getD values v (pos 0)) ≤ largestValue
     adding-small = rw adding-value (r .size (adding-first .first .var) (term-var-small (adding-first .terms)))
 
     -- one term more
@@ -132,7 +132,7 @@ pub record Encoded (b : ℕ) (x : Value) (z : ℤ) : Type 0 where
 -- the numbers are the values of the variables in a layer
 pub record LayerRow (vars : ℕ) (layer : List ℤ) (f : ℕ → Value) : Type 0 where
   pub long : vars ≤ length layer
-  pub each : (v : ℕ) → v < vars → Encoded 1_000_000_000_000 (f v) (getD layer v (pos 0))
+  pub each : (v : ℕ) → v < vars → Encoded largestValue (f v) (getD layer v (pos 0))
 
 pub sized-more : (b c : ℕ) (x : Value) → b ≤ c → Sized b x → Sized c x
 sized-more b c (finite z) h s = omega arith
@@ -140,20 +140,20 @@ sized-more b c unbounded h s = tt
 
 -- is it the mark for unbounded, 2 ^ 63 − 1
 unfoldable pub isMark : ℤ → Bool
-isMark z = leZ (pos 9_223_372_036_854_775_807) z
+isMark z = leZ (pos unboundedMark) z
 
-mark-itself : isMark (pos 9_223_372_036_854_775_807) ≡ true
+mark-itself : isMark (pos unboundedMark) ≡ true
 unfolding isMark
 mark-itself = refl
 
-below-mark : (b : ℕ) (z : ℤ) → b < 9_223_372_036_854_775_807 → natAbs z ≤ b → isMark z ≡ false
+below-mark : (b : ℕ) (z : ℤ) → b < unboundedMark → natAbs z ≤ b → isMark z ≡ false
 unfolding isMark
-below-mark b z h s = lt-leZ {a = pos 9_223_372_036_854_775_807} {b = z} (omega (zlin, natAbs-split z))
+below-mark b z h s = lt-leZ {a = pos unboundedMark} {b = z} (omega (zlin, natAbs-split z))
 
 clash : {X : Type 0} {t : Bool} → t ≡ true → t ≡ false → X
 clash p q = absurd (false-not q (true-T p))
 
-pub mark-yes : {b : ℕ} {x : Value} {z : ℤ} → b < 9_223_372_036_854_775_807 → Encoded b x z → isMark z ≡ true → x ≡ unbounded
+pub mark-yes : {b : ℕ} {x : Value} {z : ℤ} → b < unboundedMark → Encoded b x z → isMark z ≡ true → x ≡ unbounded
 unfolding encode
 mark-yes {b} {x} {z} h e m = go x (e .is) (e .size)
   where
@@ -173,18 +173,18 @@ pub encoded-more : {b c : ℕ} {x : Value} {z : ℤ} → b ≤ c → Encoded b x
 encoded-more {b} {c} {x} h e = record { is = e .is; size = sized-more b c x h (e .size) }
 
 -- a small number is below the mark
-encoded-below : {b : ℕ} {x : Value} {z : ℤ} → b ≤ 9_223_372_036_854_775_807 → Encoded b x z → z ≤ℤ pos 9_223_372_036_854_775_807
+encoded-below : {b : ℕ} {x : Value} {z : ℤ} → b ≤ unboundedMark → Encoded b x z → z ≤ℤ pos unboundedMark
 unfolding encode
 encoded-below {b} {x} {z} h e = go x (e .is) (e .size)
   where
-    go : (y : Value) → z ≡ encode y → Sized b y → z ≤ℤ pos 9_223_372_036_854_775_807
-    go (finite u) p s = ≤-trans (≡-≤ p) (size-above u 9_223_372_036_854_775_807 (omega arith))
+    go : (y : Value) → z ≡ encode y → Sized b y → z ≤ℤ pos unboundedMark
+    go (finite u) p s = ≤-trans (≡-≤ p) (size-above u unboundedMark (omega arith))
     go unbounded p s = ≡-≤ p
 
 -- the higher of two values is the larger of their numbers
 pub encoded-highest :
     {b : ℕ} {x y : Value} {z w : ℤ}
-    → b ≤ 9_223_372_036_854_775_807
+    → b ≤ unboundedMark
     → Encoded b x z
     → Encoded b y w
     → Encoded b (highest x y) (larger z w)
@@ -197,20 +197,12 @@ encoded-highest {b} {x} {y} {z} {w} h e f = go x y (e .is) (e .size) (f .is) (f 
         → Sized b u
         → w ≡ encode v
         → Sized b v
-        → z ≤ℤ pos 9_223_372_036_854_775_807
-        → w ≤ℤ pos 9_223_372_036_854_775_807
+        → z ≤ℤ pos unboundedMark
+        → w ≤ℤ pos unboundedMark
         → Encoded b (highest u v) (larger z w)
     go (finite m) (finite n) p s q t l r = record { is = ap₂ larger p q; size = larger-size m n b s t }
     go (finite m) unbounded p s q t l r = record { is = larger-is-right (≤-trans l (≡-≤ (sym q))) ∙ q; size = tt }
     go unbounded v p s q t l r = record { is = larger-is-left (≤-trans r (≡-≤ (sym p))) ∙ p; size = tt }
-
--- equal numbers stand for equal values
-pub encoded-equal : {b : ℕ} {x y : Value} {z : ℤ} → b < 9_223_372_036_854_775_807 → Encoded b x z → Encoded b y z → x ≡ y
-encoded-equal {b} {x} {y} {z} h e f = go (isMark z) refl
-  where
-    go : (t : Bool) → isMark z ≡ t → x ≡ y
-    go true m = mark-yes h e m ∙ sym (mark-yes h f m)
-    go false m = mark-no e m ∙ sym (mark-no f m)
 
 -- ---- a sum over a layer, term by term
 
@@ -259,7 +251,7 @@ module _ {k : Ranges} {part : List ℕ} {from n : ℕ} {f : ℕ → Value} {ts :
     pub layer-room : v < length layer
     layer-room = rw layer-var (omega (arith, r .long, term-var-small (layer-first .terms)))
 
-    layer-value : Encoded 1_000_000_000_000 (f (layer-first .first .var)) (getD layer v (pos 0))
+    layer-value : Encoded largestValue (f (layer-first .first .var)) (getD layer v (pos 0))
     layer-value = rw layer-var (r .each (layer-first .first .var) (term-var-small (layer-first .terms)))
 
     -- a term that is unbounded makes the sum unbounded
@@ -275,8 +267,8 @@ module _ {k : Ranges} {part : List ℕ} {from n : ℕ} {f : ℕ → Value} {ts :
       layer-number : f (layer-first .first .var) ≡ finite (getD layer v (pos 0))
       layer-number = mark-no layer-value m
 
-      pub layer-small : natAbs (getD layer v (pos 0)) ≤ 1_000_000_000_000
-      layer-small = subst (Sized 1_000_000_000_000) layer-number (layer-value .size)
+      pub layer-small : natAbs (getD layer v (pos 0)) ≤ largestValue
+      layer-small = subst (Sized largestValue) layer-number (layer-value .size)
 
       -- one term more
       pub layer-step : {more : ℤ} → IsScaled part (from + 4 * i) (getD layer v (pos 0)) more → LayerAdding k part from n f ts (i + 1) (acc +ℤ more)
@@ -306,7 +298,7 @@ pub encoded-finite : (b : ℕ) {x : Value} {z : ℤ} → x ≡ finite z → natA
 unfolding encode
 encoded-finite b {x} {z} e h = rw e (record { is = refl; size = h })
 
-pub encoded-unbounded : (b : ℕ) {x : Value} → x ≡ unbounded → Encoded b x (pos 9_223_372_036_854_775_807)
+pub encoded-unbounded : (b : ℕ) {x : Value} → x ≡ unbounded → Encoded b x (pos unboundedMark)
 unfolding encode
 encoded-unbounded b e = rw e (record { is = refl; size = tt })
 
@@ -327,7 +319,7 @@ pub layer-value-stop :
     {part : List ℕ} {from n : ℕ} (base : ℤ) {s : ℤ} {layer : List ℤ}
     → IsLayerSum part from n layer s
     → isMark s ≡ true
-    → IsLayerValue part from n base layer (pos 9_223_372_036_854_775_807)
+    → IsLayerValue part from n base layer (pos unboundedMark)
 unfolding plus
 layer-value-stop base q m =
     record {
@@ -368,8 +360,8 @@ layer-sum-small p q m =
 -- ---- conditions
 
 -- no 64-bit number is above the mark
-below-top : (c : ℤ) → mag c < 2 ^ 63 → leZ c (pos 9_223_372_036_854_775_807) ≡ true
-below-top (pos n) h = le-leZ {a = pos n} {b = pos 9_223_372_036_854_775_807} (omega zlin)
+below-top : (c : ℤ) → mag c < 2 ^ 63 → leZ c (pos unboundedMark) ≡ true
+below-top (pos n) h = le-leZ {a = pos n} {b = pos unboundedMark} (omega zlin)
 below-top (negsuc n) h = refl
 
 -- "unbounded and above every number": a number in layer memory is compared as it stands

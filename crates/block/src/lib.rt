@@ -5,12 +5,14 @@ ghost use mathlib.Core.Path.{_≡_};
 ghost use Prim.Native.Nat.{_+_, _*_, _<_, _≤_};
 ghost use lib.ListN.{length};
 ghost use lib.IntN.{natAbs};
+ghost use Rattle.model.specs.Limits.{largestValue};
 ghost use Rattle.model.specs.Task.{Block, Comparison};
 ghost use Rattle.model.specs.Command.{comparisonCode};
 ghost use Rattle.model.specs.Move.{compares};
 ghost use Rattle.model.specs.Layer.{Value, reaches};
 ghost use Rattle.model.specs.Memory.{encode};
-ghost use Rattle.block.specs.Items.{Ranges, Left, Readable, Closed, Closable, behind, Next, Moves, Found, TermAt, IsVariable, IsWeight, IsScaled};
+ghost use Rattle.block.specs.Items.{Ranges, Left, Readable, behind, Next, Moves, Found, TermAt, IsVariable, IsWeight, IsScaled};
+ghost use Rattle.block.specs.Closing.{Closed, Closable};
 ghost use Rattle.block.specs.Sums.{Summable, IsSum, IsValue, LayerSummable, IsLayerSum, IsLayerValue, isMark};
 ghost use Rattle.block.specs.Blocks.{Testable, IsTest, IsApplicable, LayerTestable, IsLayerTest, IsUsable};
 
@@ -158,7 +160,7 @@ pub fn weight(part: &[u8], at: usize) -> i64
 
 // The value `x` times the weight of the term at `at`.
 pub fn scaled(part: &[u8], at: usize, x: i64) -> i64
-    requires { ⌜ (TermAt (now part) at) × (natAbs x ≤ 1000000000000) ⌝ }
+    requires { ⌜ (TermAt (now part) at) × (natAbs x ≤ largestValue) ⌝ }
     ensures { λ r. ⌜ IsScaled (now (part .entry)) at x r ⌝ }
 {
     integer::mul(x, weight(part, at))
@@ -277,7 +279,7 @@ pub fn applicable(part: &[u8], state: &[u8], values: &[i64]) -> bool
     ensures { λ r. ⌜ IsApplicable (now (part .entry)) (now (state .entry)) (now (values .entry)) r ⌝ }
 {
     let mut at = 1;
-    while at < part.len() {
+    loop {
         let item = next(part, at);
         match item {
             ItemAt::Need { prop, after: _ } => {
@@ -296,11 +298,13 @@ pub fn applicable(part: &[u8], state: &[u8], values: &[i64]) -> bool
                     return false;
                 }
             }
+            ItemAt::End => {
+                return true;
+            }
             _ => {}
         }
         at = behind(item);
     }
-    true
 }
 
 // Do all conditions of the block, one of a normal table, hold in the layer of these propositions and values?
@@ -309,7 +313,7 @@ pub fn usable(part: &[u8], has: &[bool], layer: &[i64]) -> bool
     ensures { λ r. ⌜ IsUsable (now (part .entry)) (now (has .entry)) (now (layer .entry)) r ⌝ }
 {
     let mut at = 1;
-    while at < part.len() {
+    loop {
         let item = next(part, at);
         match item {
             ItemAt::Need { prop, after: _ } => {
@@ -328,9 +332,11 @@ pub fn usable(part: &[u8], has: &[bool], layer: &[i64]) -> bool
                     return false;
                 }
             }
+            ItemAt::End => {
+                return true;
+            }
             _ => {}
         }
         at = behind(item);
     }
-    true
 }

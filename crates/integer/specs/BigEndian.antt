@@ -259,10 +259,6 @@ pub signed-above : (bs : List ℕ) → negℤ (pos (half (length bs))) ≤ℤ si
 unfolding signed
 signed-above bs = twos-above (half (length bs)) (unsigned bs)
 
-pub signed-size : {bs : List ℕ} → AllBytes bs → natAbs (signed bs) ≤ half (length bs)
-unfolding signed
-signed-size {bs} h = twos-size (half (length bs)) (unsigned bs) (in-range h)
-
 pub length-signedBytes : (w : ℕ) (z : ℤ) → length (signedBytes w z) ≡ w
 unfolding signedBytes
 length-signedBytes w z = length-bytes w (residue (256 ^ w) z)

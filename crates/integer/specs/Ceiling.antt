@@ -1,6 +1,6 @@
 -- The quotient of an integer by a positive number, rounded up to a whole number: `ceiling a d` is the least q with a ≤ d · q.
 -- Its laws: enough, least, the only one, and how it grows with a.
-use mathlib.Core.Path.{_≡_, refl, sym}
+use mathlib.Core.Path.{_≡_, refl}
 use Prim.Native.Nat.{ℕ, suc, _+_, _*_, _-_, _/_, _<_, _≤_}
 use native.Mathlib.Nat.{div-add-mod, mod-lt, div-le-self, le-mul-of-pos-right}
 use native.Mathlib.Omega.{arith}
@@ -63,9 +63,6 @@ pub ceiling-size : (a : ℤ) (d : ℕ) → 0 < d → natAbs (ceiling a d) ≤ na
 unfolding ceiling
 ceiling-size (pos a) d p = pos-≤ (ceiling-le (pos a) d a p (≤-refl (pos a)))
 ceiling-size (negsuc a) d p = rw (abs-neg (pos (suc a / d))) (div-le-self (suc a) d)
-
-pub ceiling-multiple : (d : ℕ) (q : ℤ) → 0 < d → ceiling (pos d *ℤ q) d ≡ q
-ceiling-multiple d q p = sym (ceiling-unique (pos d *ℤ q) d q p (≤-refl (pos d *ℤ q)) (omega (zlin, sum (pos d *ℤ q) (pos d))))
 
 -- by the division that rounds toward zero
 pub ceiling-neg : (a : ℤ) (d : ℕ) → a <ℤ pos 0 → quotZ a (pos d) ≡ ceiling a d

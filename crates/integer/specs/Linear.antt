@@ -1,10 +1,10 @@
 -- Linear arithmetic over the integers: every integer is `up z - dn z` for two natural numbers, and `omega zlin` decides
 -- orders and equations by them. The laws of an ordered ring, sizes, and the larger of two numbers.
-use mathlib.Core.Path.{_≡_, refl, sym, ap, ap₂, _∙_, subst}
+use mathlib.Core.Path.{_≡_, refl, sym, ap, _∙_, subst}
 use mathlib.Core.Logic.{_⊎_, inl, inr}
 use mathlib.Core.Bool.{Bool, true, false, not, cond}
 use Prim.Native.Nat.{ℕ, zero, suc, _+_, _*_, _-_, _^_, _<_, _≤_}
-use native.Mathlib.Nat.{mul-le-mul-left, mul-lt-mul-of-pos-left, le-of-mul-le-mul-left, lt-of-mul-lt-mul-left}
+use native.Mathlib.Nat.{mul-le-mul-left, lt-of-mul-lt-mul-left}
 use native.Mathlib.Omega.{arith}
 use lib.Dec.{T, ltb, leb→le, le→leb, ltb→lt, lt→ltb, nleb→lt, nltb→le}
 use lib.IntN.{ℤ, pos, negsuc, negℤ, natAbs, subℕ, _+ℤ_, _-ℤ_, _*ℤ_}
@@ -126,19 +126,6 @@ le-true a b e = record { le = subst T (sym e) tt }
 pub le-false : (a b : ℤ) → leZ a b ≡ false → b <ℤ a
 le-false a b e = nle a b (subst (λ (t : Bool). T (not t)) (sym e) tt)
 
--- a flag between the test and its outcome
-pub lt-yes : (a b : ℤ) {t : Bool} → t ≡ ltZ a b → t ≡ true → a <ℤ b
-lt-yes a b e h = lt-true a b (sym e ∙ h)
-
-pub lt-no : (a b : ℤ) {t : Bool} → t ≡ ltZ a b → t ≡ false → b ≤ℤ a
-lt-no a b e h = lt-false a b (sym e ∙ h)
-
-pub le-yes : (a b : ℤ) {t : Bool} → t ≡ leZ a b → t ≡ true → a ≤ℤ b
-le-yes a b e h = le-true a b (sym e ∙ h)
-
-pub le-no : (a b : ℤ) {t : Bool} → t ≡ leZ a b → t ≡ false → b <ℤ a
-le-no a b e h = le-false a b (sym e ∙ h)
-
 -- the test's value from the order
 is-true : (t : Bool) → T t → t ≡ true
 is-true true h = refl
@@ -187,33 +174,15 @@ pub ≡-≤ : {a b : ℤ} → a ≡ b → a ≤ℤ b
 pub ≤-trans : {a b c : ℤ} → a ≤ℤ b → b ≤ℤ c → a ≤ℤ c
 ≤-trans h k = omega zlin
 
-pub ≤-<-trans : {a b c : ℤ} → a ≤ℤ b → b <ℤ c → a <ℤ c
-≤-<-trans h k = omega zlin
-
-pub <-≤-trans : {a b c : ℤ} → a <ℤ b → b ≤ℤ c → a <ℤ c
-<-≤-trans h k = omega zlin
-
-pub <-trans : {a b c : ℤ} → a <ℤ b → b <ℤ c → a <ℤ c
-<-trans h k = omega zlin
-
 pub ≤-antisym : {a b : ℤ} → a ≤ℤ b → b ≤ℤ a → a ≡ b
 ≤-antisym h k = omega zlin
 
 pub <-≤ : {a b : ℤ} → a <ℤ b → a ≤ℤ b
 <-≤ h = omega zlin
 
-pub <-irrefl : {a : ℤ} → a <ℤ a → ⊥
-<-irrefl h = omega zlin
-
-pub ≤-not-< : {a b : ℤ} → a ≤ℤ b → b <ℤ a → ⊥
-≤-not-< h k = omega zlin
-
 -- an order of integers is an order with a step of one
 pub <-suc : {a b : ℤ} → a <ℤ b → (a +ℤ pos 1) ≤ℤ b
 <-suc {a} {b} h = omega (zlin, sum a (pos 1))
-
-pub suc-< : {a b : ℤ} → (a +ℤ pos 1) ≤ℤ b → a <ℤ b
-suc-< {a} {b} h = omega (zlin, sum a (pos 1))
 
 total-by : (a b : ℤ) (t : Bool) → leZ a b ≡ t → (a ≤ℤ b) ⊎ (b <ℤ a)
 total-by a b true e = inl (le-true a b e)
@@ -245,15 +214,6 @@ zero-+ = IntN.+ℤ-idl
 pub +-mono : {a b c d : ℤ} → a ≤ℤ b → c ≤ℤ d → (a +ℤ c) ≤ℤ (b +ℤ d)
 +-mono {a} {b} {c} {d} h k = omega (zlin, sum a c, sum b d)
 
-pub +-mono-left : {a b : ℤ} (c : ℤ) → a ≤ℤ b → (a +ℤ c) ≤ℤ (b +ℤ c)
-+-mono-left c h = +-mono h (≤-refl c)
-
-pub +-mono-right : {a b : ℤ} (c : ℤ) → a ≤ℤ b → (c +ℤ a) ≤ℤ (c +ℤ b)
-+-mono-right c h = +-mono (≤-refl c) h
-
-pub +-cancel : (a b c : ℤ) → (a +ℤ c) ≤ℤ (b +ℤ c) → a ≤ℤ b
-+-cancel a b c h = omega (zlin, sum a c, sum b c)
-
 -- ---- negation and the difference
 
 pub neg-neg : (a : ℤ) → negℤ (negℤ a) ≡ a
@@ -262,43 +222,8 @@ neg-neg = IntN.negℤ-negℤ
 pub neg-sum : (a b : ℤ) → negℤ (a +ℤ b) ≡ negℤ a +ℤ negℤ b
 neg-sum = IntN.negℤ-+ℤ
 
-pub neg-flip : {a b : ℤ} → a ≤ℤ b → negℤ b ≤ℤ negℤ a
-neg-flip {a} {b} h = omega (zlin, neg-up a, neg-dn a, neg-up b, neg-dn b)
-
-pub neg-flip-< : {a b : ℤ} → a <ℤ b → negℤ b <ℤ negℤ a
-neg-flip-< {a} {b} h = omega (zlin, neg-up a, neg-dn a, neg-up b, neg-dn b)
-
--- a + b - b is a, and a - b + b is a
-pub sub-cancel : (a b : ℤ) → (a +ℤ b) -ℤ b ≡ a
-sub-cancel = IntN.+ℤ-negℤ-cancel
-
-pub add-cancel : (a b : ℤ) → (a -ℤ b) +ℤ b ≡ a
-add-cancel = IntN.-ℤ-+ℤ-cancel
-
-pub sub-self : (a : ℤ) → a -ℤ a ≡ pos 0
-sub-self = IntN.+ℤ-invr
-
-pub sub-zero : (a : ℤ) → a -ℤ pos 0 ≡ a
-sub-zero = IntN.+ℤ-idr
-
 pub zero-sub : (a : ℤ) → pos 0 -ℤ a ≡ negℤ a
 zero-sub a = IntN.+ℤ-idl (negℤ a)
-
-pub neg-sub : (a b : ℤ) → negℤ (a -ℤ b) ≡ b -ℤ a
-neg-sub a b = omega (zlin, neg-up (a -ℤ b), neg-dn (a -ℤ b), diff a b, diff b a)
-
-pub sub-mono : {a b c d : ℤ} → a ≤ℤ b → d ≤ℤ c → (a -ℤ c) ≤ℤ (b -ℤ d)
-sub-mono h k = +-mono h (neg-flip k)
-
--- a summand goes to the other side of an order
-pub sub-≤ : (a b c : ℤ) → a ≤ℤ (b +ℤ c) → (a -ℤ c) ≤ℤ b
-sub-≤ a b c h = omega (zlin, diff a c, sum b c)
-
-pub ≤-sub : (a b c : ℤ) → (a +ℤ c) ≤ℤ b → a ≤ℤ (b -ℤ c)
-≤-sub a b c h = omega (zlin, sum a c, diff b c)
-
-pub pos-sub : {m n : ℕ} → n ≤ m → pos m -ℤ pos n ≡ pos (m - n)
-pos-sub {m} {n} h = omega (zlin, diff (pos m) (pos n))
 
 -- ---- the product
 
@@ -308,23 +233,11 @@ pub *-comm : (a b : ℤ) → a *ℤ b ≡ b *ℤ a
 pub *-dist-left : (a b c : ℤ) → a *ℤ (b +ℤ c) ≡ (a *ℤ b) +ℤ (a *ℤ c)
 *-dist-left a b c = omega (zlin, prod a (b +ℤ c), sum (a *ℤ b) (a *ℤ c), prod a b, prod a c, ap (λ (x : ℕ). up a * x) (sum b c), ap (λ (x : ℕ). dn a * x) (sum b c))
 
-pub *-dist-right : (a b c : ℤ) → (a +ℤ b) *ℤ c ≡ (a *ℤ c) +ℤ (b *ℤ c)
-*-dist-right a b c = *-comm (a +ℤ b) c ∙ *-dist-left c a b ∙ ap₂ _+ℤ_ (*-comm c a) (*-comm c b)
-
-pub *-assoc : (a b c : ℤ) → (a *ℤ b) *ℤ c ≡ a *ℤ (b *ℤ c)
-*-assoc a b c = omega (zlin, prod (a *ℤ b) c, prod a (b *ℤ c), ap (λ (x : ℕ). x * up c) (prod a b), ap (λ (x : ℕ). x * dn c) (prod a b), ap (λ (x : ℕ). up a * x) (prod b c), ap (λ (x : ℕ). dn a * x) (prod b c))
-
 pub *-zero : (a : ℤ) → a *ℤ pos 0 ≡ pos 0
 *-zero = IntN.*ℤ-zero
 
-pub zero-* : (a : ℤ) → pos 0 *ℤ a ≡ pos 0
-zero-* = IntN.zero-*ℤ
-
 pub one-* : (a : ℤ) → pos 1 *ℤ a ≡ a
 one-* a = omega (zlin, scaled 1 a)
-
-pub *-one : (a : ℤ) → a *ℤ pos 1 ≡ a
-*-one a = *-comm a (pos 1) ∙ one-* a
 
 pub *-neg : (a b : ℤ) → a *ℤ negℤ b ≡ negℤ (a *ℤ b)
 *-neg a b = omega (zlin, prod a (negℤ b), prod a b, neg-up (a *ℤ b), neg-dn (a *ℤ b), ap (λ (x : ℕ). up a * x) (neg-up b), ap (λ (x : ℕ). up a * x) (neg-dn b), ap (λ (x : ℕ). dn a * x) (neg-up b), ap (λ (x : ℕ). dn a * x) (neg-dn b))
@@ -334,17 +247,6 @@ neg-* a b = *-comm (negℤ a) b ∙ *-neg b a ∙ ap negℤ (*-comm b a)
 
 pub *-mono : (w : ℕ) {a b : ℤ} → a ≤ℤ b → (pos w *ℤ a) ≤ℤ (pos w *ℤ b)
 *-mono w {a} {b} h = omega (zlin, scaled w a, scaled w b, mul-le-mul-left w (le-in a b h))
-
-pub *-mono-< : {w : ℕ} {a b : ℤ} → 0 < w → a <ℤ b → (pos w *ℤ a) <ℤ (pos w *ℤ b)
-*-mono-< {w} {a} {b} p h = omega (zlin, scaled w a, scaled w b, mul-lt-mul-of-pos-left (lt-in a b h) p)
-
--- a weight below 0 turns the order round
-pub *-flip : {v a b : ℤ} → v ≤ℤ pos 0 → a ≤ℤ b → (v *ℤ b) ≤ℤ (v *ℤ a)
-*-flip {v = pos n} {a} {b} l h = let e : n ≡ 0 = omega (zlin) in rw e (≡-≤ (zero-* b ∙ sym (zero-* a)))
-*-flip {v = negsuc n} {a} {b} l h = omega (zlin, prod (negsuc n) a, prod (negsuc n) b, mul-le-mul-left (suc n) (le-in a b h))
-
-pub *-cancel : (w : ℕ) (a b : ℤ) → 0 < w → (pos w *ℤ a) ≤ℤ (pos w *ℤ b) → a ≤ℤ b
-*-cancel w a b p h = le-out a b (le-of-mul-le-mul-left {k = w} (omega (zlin, scaled w a, scaled w b)) p)
 
 pub *-cancel-< : (w : ℕ) (a b : ℤ) → (pos w *ℤ a) <ℤ (pos w *ℤ b) → a <ℤ b
 *-cancel-< w a b h = lt-out a b (lt-of-mul-lt-mul-left w (omega (zlin, scaled w a, scaled w b)))
@@ -399,26 +301,11 @@ larger-right a b = larger-cases a b (λ (m : ℤ). b ≤ℤ m) (λ h. ≤-refl b
 pub larger-least : {a b c : ℤ} → a ≤ℤ c → b ≤ℤ c → larger a b ≤ℤ c
 larger-least {a} {b} {c} h k = larger-cases a b (λ (m : ℤ). m ≤ℤ c) (λ l. k) (λ l. h)
 
-pub larger-one : (a b : ℤ) → (larger a b ≡ a) ⊎ (larger a b ≡ b)
-larger-one a b = larger-cases a b (λ (m : ℤ). (m ≡ a) ⊎ (m ≡ b)) (λ h. inr refl) (λ h. inl refl)
-
 pub larger-is-left : {a b : ℤ} → b ≤ℤ a → larger a b ≡ a
 larger-is-left {a} {b} h = ≤-antisym (larger-least (≤-refl a) h) (larger-left a b)
 
 pub larger-is-right : {a b : ℤ} → a ≤ℤ b → larger a b ≡ b
 larger-is-right {a} {b} h = ≤-antisym (larger-least h (≤-refl b)) (larger-right a b)
-
-pub larger-same : (a : ℤ) → larger a a ≡ a
-larger-same a = larger-is-left (≤-refl a)
-
-pub larger-comm : (a b : ℤ) → larger a b ≡ larger b a
-larger-comm a b = ≤-antisym (larger-least (larger-right b a) (larger-left b a)) (larger-least (larger-right a b) (larger-left a b))
-
-pub larger-assoc : (a b c : ℤ) → larger (larger a b) c ≡ larger a (larger b c)
-larger-assoc a b c =
-    ≤-antisym
-    (larger-least (larger-least (larger-left a (larger b c)) (≤-trans (larger-left b c) (larger-right a (larger b c)))) (≤-trans (larger-right b c) (larger-right a (larger b c))))
-    (larger-least (≤-trans (larger-left a b) (larger-left (larger a b) c)) (larger-least (≤-trans (larger-right a b) (larger-left (larger a b) c)) (larger-right (larger a b) c)))
 
 pub larger-mono : {a b c d : ℤ} → a ≤ℤ b → c ≤ℤ d → larger a c ≤ℤ larger b d
 larger-mono {a} {b} {c} {d} h k = larger-least (≤-trans h (larger-left b d)) (≤-trans k (larger-right b d))
@@ -453,11 +340,3 @@ module _ (f : ℤ → ℤ → ℤ) (a b : ℤ) (p : SFits w64 a) (q : SFits w64 
 
   pub op2-back : toZ w64 (ofZ w64 (f (toZ w64 (ofZ w64 a)) (toZ w64 (ofZ w64 b)))) ≡ f a b
   op2-back = rw (toZ-ofZ w64 a p, toZ-ofZ w64 b q) (back-small (f a b) h)
-
--- ---- examples
-
-linear : (r s x y z : ℤ) → x ≤ℤ y → y <ℤ z → r ≡ x +ℤ z → s ≡ z +ℤ z → r <ℤ s
-linear r s x y z h k e f = omega zlin
-
-linear-difference : (r s x y z : ℤ) → x ≤ℤ y → y <ℤ z → r ≡ x -ℤ z → s ≡ y +ℤ pos 5 → (r +ℤ z) <ℤ s
-linear-difference r s x y z h k e f = omega (zlin, sum r z)

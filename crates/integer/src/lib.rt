@@ -76,7 +76,8 @@ pub fn ceil_div(a: i64, d: u64) -> i64
     }
 }
 
-fn wide(x: u8) -> u64
+// A byte as a number.
+pub fn wide(x: u8) -> u64
     ensures { λ r. ⌜ (r ≡ x) × (r < 256) ⌝ }
 {
     x as u64

@@ -1,4 +1,4 @@
--- Building layers in a memory, layer by layer: what is known at layer t, and how each turn ends.
+-- Building layers in a memory, layer by layer: what is known at layer t, and how each step ends.
 -- Assumes nothing.
 use Prim.Native.Nat.{ℕ, suc, _+_, _-_, _*_, _≤_, _<_}
 use native.Mathlib.Nat.{mul-le-mul, mul-suc}
@@ -7,7 +7,7 @@ use native.Mathlib.Omega.{arith}
 use mathlib.Core.Path.{_≡_, refl, sym, ap, _∙_, subst}
 use mathlib.Core.Bool.{Bool, true, false}
 use mathlib.Core.List.{List, []}
-use borrow.Author.Tests.{ltb-true, ltb-false}
+use borrow.Author.Tests.{ltb-true, ltb-false, lt-ltb, le-ltb}
 use borrow.Rule.Slice.PartMut.{midOf, putMid, put-same}
 use lib.Dec.{ltb}
 use lib.IntN.{ℤ, pos}
@@ -15,29 +15,30 @@ use lib.ListN.{length, getD, drop, replicate, length-drop, getD-replicate}
 use lib.Seq.{length-take-le, getD-take, getD-drop}
 use Rattle.layers.specs.declared.Built.{Built as BuiltAnswer}
 use Rattle.layers.specs.declared.Built.the-variants as answer
-use Rattle.layers.specs.declared.NextLayer.{NextLayer}
-use Rattle.layers.specs.declared.NextLayer.the-variants as outlook
+use Rattle.layer_step.specs.declared.NextLayer.{NextLayer}
+use Rattle.layer_step.specs.declared.NextLayer.the-variants as outlook
 use Rattle.model.specs.Limits.{paper}
 use Rattle.model.specs.Task.{normal, Task}
 use Rattle.model.specs.Move.{State, moveAt}
-use Rattle.model.specs.Layer.{Layer, usable, layer, layerAt, meetsGoal, settled, reached, exhausted, bound}
-use Rattle.model.specs.Memory.{encode, wrong15, overwrite, Built, answered, stopped, build, builtMemory}
-use Rattle.model.specs.Theorems.WellFormed.{TaskOk}
-use Rattle.model.specs.Theorems.Booleans.{T-true, true-T, false-not}
-use Rattle.model.specs.Theorems.Order.{usable-mono}
-use Rattle.model.specs.Theorems.Layers.{layer-rises, move-ok}
-use Rattle.model.specs.Theorems.Answer.{Passed}
-use Rattle.model.specs.Theorems.Bound.{layers-bound}
-use Rattle.model.specs.Theorems.Memories.{Holds, size, holds-memory}
+use Rattle.model.specs.Layer.{Layer, usable, layer, layerAt, meetsGoal, Passed, reached, exhausted, settled, bound}
+use Rattle.model.specs.Memory.{encode, room, wrong15, wrong14, overwrite, Built, answered, stopped, build, builtMemory}
+use Rattle.model.specs.Theorems.Reading.WellFormed.{TaskOk}
+use Rattle.model.specs.Theorems.Laws.Booleans.{T-true, true-T, false-not}
+use Rattle.model.specs.Theorems.Layers.Order.{usable-mono}
+use Rattle.model.specs.Theorems.Layers.NextLayer.{layer-rises, move-ok}
+use Rattle.model.specs.Theorems.Layers.Settled.{settled-equal}
+use Rattle.model.specs.Theorems.Layers.Answer.{passed-next, passed-bound, unsettled-unequal}
+use Rattle.model.specs.Theorems.Layers.Building.{Stored, BuildsFrom}
+use Rattle.model.specs.Theorems.Layers.Memories.{Holds, size, holds-memory}
 use Rattle.table.specs.Outlines.{Outline}
 use Rattle.block.specs.Parts.{rangesOf}
 use Rattle.block.specs.Blocks.{LayerState}
-use Rattle.layers.specs.Filling.{Filled, notedAt, rowAt}
-use Rattle.layers.specs.Raising.{Truths, row-values}
-use Rattle.layers.specs.Stepping.{IsMet, GoalTestable, UsedIn}
-use Rattle.layers.specs.Step.{Counts, Steppable, Judged, judged, PartAfter, StepFrom, Stepped, state-truths}
-use Rattle.layers.specs.Answers.{Unrefused, passed-next, unrefused-next, room-there, room-missing, built-reached, built-exhausted, built-large, built-short}
-use Rattle.layers.specs.Storing.{FilledAt, filled-behind, row-behind, holds-before, holds-layer, NotesMoves}
+use Rattle.layer_memory.specs.Filling.{Filled, notedAt, rowAt}
+use Rattle.layer_memory.specs.Arrays.{Truths, row-values}
+use Rattle.layers.specs.Goal.{IsMet, GoalTestable}
+use Rattle.layer_moves.specs.UsingMoves.{UsedIn}
+use Rattle.layer_step.specs.Step.{Counts, Steppable, Judged, judged, PartAfter, StepFrom, Stepped, state-truths}
+use Rattle.layer_memory.specs.Storing.{FilledAt, filled-behind, row-behind, holds-before, holds-layer, NotesMoves}
 
 -- how building ended, as the definitions have it
 unfoldable pub builtOf : BuiltAnswer → Built
@@ -53,7 +54,8 @@ pub record IsBuilt (k : Task) (s : State) (old mem : List ℤ) (r : BuiltAnswer)
 -- layer t is the last one stored, and building goes on from it
 pub record Layered (k : Task) (s : State) (old : List ℤ) (t : ℕ) (mem : List ℤ) (has : List Bool) (row : List ℤ) : Type 0 where
   pub passed : Passed k s t
-  pub unrefused : Unrefused k s (length old) (suc t)
+  pub stored : Stored paper k s (length old) t
+  pub built : (b : Built) → BuildsFrom paper k s (length old) t b → build paper k s (length old) ≡ b
   pub holds : Holds k s (suc t) t old mem
   pub room : size k s (suc t) ≤ length old
   pub state : LayerState (rangesOf normal k) has row (layerAt k s t)
@@ -75,6 +77,15 @@ unfolding paper
 used-none ok =
     record { usable-there = λ b h e. absurd (false-not (getD-replicate 64 b false false (omega (arith, ok .moves))) (true-T e)) }
 
+-- room for the layers up to t, or none
+pub room-there : (k : Task) (s : State) (n t : ℕ) → size k s (suc t) ≤ n → wrong14 k n t ≡ false
+unfolding wrong14 room
+room-there k s n t h = le-ltb n (k .props + length (k .moves) + k .vars * (t + 1)) (rw (add-one t) h)
+
+pub room-missing : (k : Task) (s : State) (n t : ℕ) → n < size k s (suc t) → wrong14 k n t ≡ true
+unfolding wrong14 room
+room-missing k s n t h = lt-ltb n (k .props + length (k .moves) + k .vars * (t + 1)) (rw (add-one t) h)
+
 pub built-by : {k : Task} {s : State} {old mem : List ℤ} {r : BuiltAnswer} (b : Built) (new : List ℤ) → build paper k s (length old) ≡ b → builtOf r ≡ b → builtMemory k s b ≡ new → mem ≡ overwrite new old → IsBuilt k s old mem r
 built-by {k} {s} {old} b new e f g m =
     record { ended = f ∙ sym e; memory = m ∙ ap (λ (l : List ℤ). overwrite l old) (sym (ap (builtMemory k s) e ∙ g)) }
@@ -84,36 +95,42 @@ module _ {k : Task} (ok : TaskOk paper normal k) {s : State} {old : List ℤ} {t
   pub layered-reached : meetsGoal k s t ≡ true → IsBuilt k s old mem (answer.Reached t)
   unfolding builtOf builtMemory
   layered-reached met =
-      built-by (answered (reached t)) _ (built-reached ok (a .passed) (a .unrefused) met) refl refl (holds-memory (a .room) (a .holds))
+      built-by (answered (reached t)) _ (a .built _ (BuildsFrom.answer (a .stored) met)) refl refl (holds-memory (a .room) (a .holds))
 
   -- "the number of the last stored layer" is within the bound
   pub layered-bound : t ≤ bound (length (k .moves)) (k .vars)
-  layered-bound = layers-bound ok s t (a .passed .unsettled)
+  layered-bound = passed-bound ok s (a .passed)
 
   -- "no plan": the step that changes nothing counts
   pub layered-exhausted : {mem′ : List ℤ} → meetsGoal k s t ≡ false → settled k s t ≡ true → Holds k s (suc t) (suc t) old mem′ → IsBuilt k s old mem′ (answer.Exhausted t)
   unfolding builtOf builtMemory
   layered-exhausted unmet same held =
-      built-by (answered (exhausted t)) _ (built-exhausted ok (a .passed) (a .unrefused) unmet same) refl refl (holds-memory (a .room) held)
+      built-by (answered (exhausted t)) _ (a .built _ (BuildsFrom.noPlan (a .stored) unmet (settled-equal ok s t .0 same)))
+      refl refl (holds-memory (a .room) held)
 
   module _ (unmet : meetsGoal k s t ≡ false) (unsettled : settled k s t ≡ false) where
+    passes : Passed k s (suc t)
+    passes = passed-next (a .passed) unmet (unsettled-unequal ok s t unsettled)
+
+    goes-on : (b : Built) → BuildsFrom paper k s (length old) (suc t) b → build paper k s (length old) ≡ b
+    goes-on b r = a .built b (BuildsFrom.goesOn (a .stored) unmet (unsettled-unequal ok s t unsettled) r)
+
     -- a layer more can be passed
     pub layered-below : t < bound (length (k .moves)) (k .vars)
-    layered-below = layers-bound ok s (suc t) (passed-next (a .passed) unmet unsettled .unsettled)
+    layered-below = passed-bound ok s passes
 
-    -- 15: the memory holds every layer made before
+    -- 15: the memory holds every layer before
     pub layered-large : wrong15 paper k s (suc t) ≡ true → IsBuilt k s old mem (answer.Stopped 15 (t + 1))
     unfolding builtOf builtMemory
     layered-large large =
-        built-by (stopped 15 (suc t)) _ (built-large ok (passed-next (a .passed) unmet unsettled) (a .unrefused) large)
+        built-by (stopped 15 (suc t)) _ (goes-on _ (BuildsFrom.tooLarge large))
         (ap (stopped 15) (add-one t)) refl (holds-memory (a .room) (a .holds))
 
     -- 14
     pub layered-short : wrong15 paper k s (suc t) ≡ false → length old < size k s (suc (suc t)) → IsBuilt k s old mem (answer.Stopped 14 (t + 1))
     unfolding builtOf builtMemory
     layered-short small short =
-        built-by (stopped 14 (suc t)) _
-        (built-short ok (passed-next (a .passed) unmet unsettled) (a .unrefused) small (room-missing k s (length old) (suc t) short))
+        built-by (stopped 14 (suc t)) _ (goes-on _ (BuildsFrom.tooShort small (room-missing k s (length old) (suc t) short)))
         (ap (stopped 14) (add-one t)) refl (holds-memory (a .room) (a .holds))
 
     -- the next layer is stored
@@ -126,8 +143,9 @@ module _ {k : Task} (ok : TaskOk paper normal k) {s : State} {old : List ℤ} {t
         → Layered k s old (suc t) mem′ has′ row′
     layered-next small enough held state =
         record {
-          passed = passed-next (a .passed) unmet unsettled;
-          unrefused = unrefused-next (a .unrefused) small (room-there k s (length old) (suc t) enough);
+          passed = passes;
+          stored = record { small = small; fits = room-there k s (length old) (suc t) enough };
+          built = goes-on;
           holds = held;
           room = enough;
           state = state;
@@ -141,7 +159,7 @@ bound-small {k} ok =
     let i : k .vars + 1 ≤ 33 = omega (arith, ok .vars .0) in
     mul-le-mul h i
 
--- ---- a turn of the loop
+-- ---- a step of the loop
 
 -- what the loop starts from: layer 0 stored
 pub record Growable (table marks : List ℕ) (props vars moves : ℕ) (has : List Bool) (row mem : List ℤ) : Type 0 where
@@ -215,8 +233,8 @@ module _ {table marks : List ℕ} {props vars moves : ℕ} {k : Task} {s : State
     abbrev behind : List ℤ
     behind = midOf end (length mem - end) mem
 
-    turn : StepFrom k s t behind flags used′ part r
-    turn =
+    step-from : StepFrom k s t behind flags used′ part r
+    step-from =
         stepped .is k s t (record { outlined = o; counts = c; state = a .state; begun = state-truths k (a .state); used-in = before })
 
     place : end ≡ size k s (suc t)
@@ -233,11 +251,11 @@ module _ {table marks : List ℕ} {props vars moves : ℕ} {k : Task} {s : State
 
     checks : {x : NextLayer} → r ≡ x → Judged x (settled k s t) (wrong15 paper k s (suc t)) (ltb (length behind) (k .vars))
     checks {x} e =
-        subst (λ (y : NextLayer). Judged y (settled k s t) (wrong15 paper k s (suc t)) (ltb (length behind) (k .vars))) (sym (turn .is) ∙ e)
+        subst (λ (y : NextLayer). Judged y (settled k s t) (wrong15 paper k s (suc t)) (ltb (length behind) (k .vars))) (sym (step-from .is) ∙ e)
         (judged (settled k s t) (wrong15 paper k s (suc t)) (ltb (length behind) (k .vars)))
 
     written : {x : NextLayer} → r ≡ x → PartAfter (k .vars) (layerAt k s (suc t) .val) behind part x
-    written e = subst (λ (y : NextLayer). PartAfter (k .vars) (layerAt k s (suc t) .val) behind part y) e (turn .part)
+    written e = subst (λ (y : NextLayer). PartAfter (k .vars) (layerAt k s (suc t) .val) behind part y) e (step-from .part)
 
     -- a part that is as it was leaves the memory as it was
     untouched : part ≡ behind → putMid end (length mem - end) mem part ≡ mem
@@ -247,7 +265,7 @@ module _ {table marks : List ℕ} {props vars moves : ℕ} {k : Task} {s : State
     pub exhausted-at : {mem′ : List ℤ} → r ≡ outlook.Same → NotesMoves props moves t used′ (putMid end (length mem - end) mem part) mem′ → IsBuilt k s old mem′ (answer.Exhausted t)
     exhausted-at {mem′} e n =
         layered-exhausted (o .ok) a unmet (checks e)
-        (subst (λ (l : List ℤ). NotesMoves props moves t used′ l mem′) (untouched (written e)) n .is k s (suc t) old (c .props-is) (c .moves-is) (turn .uses) (a .holds))
+        (subst (λ (l : List ℤ). NotesMoves props moves t used′ l mem′) (untouched (written e)) n .is k s (suc t) old (c .props-is) (c .moves-is) (step-from .uses) (a .holds))
 
     -- 15
     pub large-at : r ≡ outlook.TooLarge → IsBuilt k s old (putMid end (length mem - end) mem part) (answer.Stopped 15 (t + 1))
@@ -273,8 +291,8 @@ module _ {table marks : List ℕ} {props vars moves : ℕ} {k : Task} {s : State
       pub next-at :
           {mem′ mem″ row′ : List ℤ}
           → NotesMoves props moves t used′ (putMid end (length mem - end) mem part) mem′
-          → Filled (notedAt mem′ flags (t + 1)) props mem′ mem″
-          → Filled (rowAt (midOf end (length mem″ - end) mem″)) vars row row′
+          → Filled (pos 0) (notedAt mem′ flags (t + 1)) props mem′ mem″
+          → Filled (pos 0) (rowAt (midOf end (length mem″ - end) mem″)) vars row row′
           → Grows k s old (suc t) mem″ flags row′ used′
       unfolding rowAt
       next-at {mem′} {mem″} {row′} n f g =
@@ -282,31 +300,31 @@ module _ {table marks : List ℕ} {props vars moves : ℕ} {k : Task} {s : State
           let at₁ : FilledAt (rowAt part) (size k s (suc t)) (k .vars) mem mem₁ =
           subst (λ (x : ℕ). FilledAt (rowAt part) x (k .vars) mem mem₁) place
           (filled-behind (rowAt part) end (k .vars) mem part fits (record { same-length = written e .same-length; done = λ i h. refl; kept = written e .kept })) in
-          let noted : Holds k s (suc t) (suc t) mem₁ mem′ = n .is k s (suc t) mem₁ (c .props-is) (c .moves-is) (turn .uses) (holds-before (a .holds) at₁) in
-          let f₁ : Filled (notedAt mem′ flags (suc t)) (k .props) mem′ mem″ =
-          subst (λ (x : ℕ). Filled (notedAt mem′ flags (suc t)) x mem′ mem″) (c .props-is)
-          (subst (λ (x : ℕ). Filled (notedAt mem′ flags x) props mem′ mem″) (add-one t) f) in
+          let noted : Holds k s (suc t) (suc t) mem₁ mem′ = n .is k s (suc t) mem₁ (c .props-is) (c .moves-is) (step-from .uses) (holds-before (a .holds) at₁) in
+          let f₁ : Filled (pos 0) (notedAt mem′ flags (suc t)) (k .props) mem′ mem″ =
+          subst (λ (x : ℕ). Filled (pos 0) (notedAt mem′ flags (suc t)) x mem′ mem″) (c .props-is)
+          (subst (λ (x : ℕ). Filled (pos 0) (notedAt mem′ flags x) props mem′ mem″) (add-one t) f) in
           let held : Holds k s (suc (suc t)) (suc t) old mem″ =
-          holds-layer (row-behind s (row-values (written e .row)) at₁ (a .holds .same-length) (a .holds .kept)) noted (turn .truths) f₁ in
+          holds-layer (row-behind s (row-values (written e .row)) at₁ (a .holds .same-length) (a .holds .kept)) noted (step-from .truths) f₁ in
           record {
             layered =
                 layered-next (o .ok) a unmet (checks e .0) (checks e .1) (omega (arith, next-size, fits, a .holds .same-length)) held
                 (record {
-                  long = turn .truths .long;
-                  has = turn .truths .same;
+                  long = step-from .truths .long;
+                  has = step-from .truths .same;
                   row =
                       record {
                         long = omega (arith, g .same-length, a .state .row .long);
                         each = λ v h. record { is = read held g v h; size = written e .row .each v h .size };
                       };
                 });
-            used-in = used-next s t (o .ok) (turn .uses);
+            used-in = used-next s t (o .ok) (step-from .uses);
           }
         where
           -- the values read back
           read :
               Holds k s (suc (suc t)) (suc t) old mem″
-              → Filled (rowAt (midOf end (length mem″ - end) mem″)) vars row row′
+              → Filled (pos 0) (rowAt (midOf end (length mem″ - end) mem″)) vars row row′
               → (v : ℕ)
               → v < k .vars
               → getD row′ v (pos 0) ≡ encode (layerAt k s (suc t) .val v)

@@ -1,11 +1,4 @@
-pub mod Filling
-pub mod Comparing
-pub mod Raising
-pub mod Stepping
-pub mod Checks
-pub mod Step
-pub mod Answers
-pub mod Storing
+pub mod Goal
 pub mod Building
 pub mod Starting
 pub mod Preparing

@@ -19,10 +19,10 @@ use Rattle.model.specs.Reading.{Verdict, refused, only, reading}
 use Rattle.model.specs.Move.{State}
 use Rattle.model.specs.StateTable.{stateRefusal}
 use Rattle.model.specs.Calls.{Ready, ready, unready, readyWith, readyOf, prepared, decided, decideOf, decideAnswer, memoryOf, decideMemory}
-use Rattle.model.specs.Theorems.Demand3.{decideLayers}
-use Rattle.model.specs.Theorems.EndToEnd.{LayersWithin, decide-within}
+use Rattle.model.specs.Theorems.Campaigns.Demand3.{decideLayers}
+use Rattle.model.specs.Theorems.Campaigns.EndToEnd.{LayersWithin, decide-within}
 use Rattle.table.specs.Outlines.{Outline, HeadRead}
-use Rattle.layers.specs.Step.{Counts}
+use Rattle.layer_step.specs.Step.{Counts}
 use Rattle.layers.specs.Building.{IsBuilt, builtOf}
 use Rattle.layers.specs.Starting.{startOf, Buildable}
 

@@ -20,10 +20,12 @@ use Rattle.model.specs.NormalForm.{normalState}
 use Rattle.model.specs.StateTable.{stateOf, stateRefusal}
 use Rattle.model.specs.Layer.{finite, layerOf, layer, layerAt}
 use Rattle.model.specs.Memory.{encode, tooLarge, wrong15, overwrite, stopped, builtMemory}
-use Rattle.model.specs.Theorems.WellFormed.{TaskOk}
-use Rattle.model.specs.Theorems.Booleans.{not-false, false-not}
-use Rattle.model.specs.Theorems.Searching.{anyBelow-cases}
-use Rattle.model.specs.Theorems.Memories.{size}
+use Rattle.model.specs.Theorems.Reading.WellFormed.{TaskOk}
+use Rattle.model.specs.Theorems.Laws.Booleans.{not-false, false-not}
+use Rattle.model.specs.Theorems.Laws.Searching.{anyBelow-cases}
+use Rattle.model.specs.Theorems.Layers.Answer.{passed-none}
+use Rattle.model.specs.Theorems.Layers.Building.{BuildsFrom, build-unrolled}
+use Rattle.model.specs.Theorems.Layers.Memories.{size}
 use Rattle.table.specs.Outlines.{Outline}
 use Rattle.block.specs.Parts.{rangesOf}
 use Rattle.block.specs.Sums.{Encoded}
@@ -31,12 +33,11 @@ use Rattle.block.specs.Blocks.{LayerState}
 use Rattle.state.specs.Overwriting.{written-at}
 use Rattle.state.specs.Checking.{accepted-state}
 use Rattle.state.specs.Loading.{accepted-signed}
-use Rattle.layers.specs.Filling.{Filled, cleared, notedAt, rowAt}
-use Rattle.layers.specs.Raising.{Values}
-use Rattle.layers.specs.Step.{Counts, state-truths}
-use Rattle.layers.specs.Answers.{passed-none, unrefused-none, unrefused-next, room-there, room-missing, built-short}
-use Rattle.layers.specs.Storing.{FilledAt, filled-behind, row-behind, holds-cleared, holds-layer}
-use Rattle.layers.specs.Building.{IsBuilt, Layered, builtOf, built-by}
+use Rattle.layer_memory.specs.Filling.{Filled, cleared, notedAt, rowAt}
+use Rattle.layer_memory.specs.Arrays.{Values}
+use Rattle.layer_step.specs.Step.{Counts, state-truths}
+use Rattle.layer_memory.specs.Storing.{FilledAt, filled-behind, row-behind, holds-cleared, holds-layer}
+use Rattle.layers.specs.Building.{IsBuilt, Layered, builtOf, room-there, room-missing, built-by}
 
 -- the signed variables of an accepted state
 abbrev pub startOf : ℕ → List ℕ → State
@@ -86,7 +87,7 @@ module _ {k : Task} {props vars moves : ℕ} (ok : TaskOk paper normal k) (n : C
       → has ≡ overwrite (tabulate (stateOf props bs .has) 0 props) has₀
       → row ≡ overwrite (tabulate (startOf props bs .val) 0 (2 * (vars / 2))) row₀
       → LayerState (rangesOf normal k) has row (layerAt k (startOf props bs) 0)
-  unfolding layerAt layer layerOf normalState encode
+  unfolding layerAt layer layerOf normalState encode paper
   first-layer {has} {row} has₀ row₀ hl rl h r =
       record {
         long = omega (arith, n .props-is);
@@ -94,7 +95,7 @@ module _ {k : Task} {props vars moves : ℕ} (ok : TaskOk paper normal k) (n : C
         row = record { long = omega (arith, n .vars-is); each = each };
       }
     where
-      each : (v : ℕ) → v < k .vars → Encoded 1_000_000_000_000 (finite (startOf props bs .val v)) (getD row v (pos 0))
+      each : (v : ℕ) → v < k .vars → Encoded (paper .layerValue) (finite (startOf props bs .val v)) (getD row v (pos 0))
       each v i =
           let half : 2 * (vars / 2) ≡ vars = rw (n .vars-is) (even-half ok) in
           let small : natAbs (startOf props bs .val v) ≤ 1_000_000 = accepted-signed props (vars / 2) bs accepted v (omega (arith, n .vars-is)) in
@@ -113,14 +114,15 @@ module _ {k : Task} {props vars moves : ℕ} (ok : TaskOk paper normal k) (n : C
       (λ v h big.
       let half : 2 * (vars / 2) ≡ vars = rw (n .vars-is) (even-half ok) in
       let small : natAbs (startOf props bs .val v) ≤ 1_000_000 = accepted-signed props (vars / 2) bs accepted v (omega (arith, n .vars-is)) in
-      false-not (le-ltZ {a = pos 1_000_000_000_000} {b = startOf props bs .val v} (omega (zlin, natAbs-split (startOf props bs .val v)))) big))
+      false-not (le-ltZ {a = pos (paper .layerValue)} {b = startOf props bs .val v} (omega (zlin, natAbs-split (startOf props bs .val v)))) big))
 
   -- 14 at layer 0 leaves the memory as it was
   pub first-short : {old : List ℤ} → length old < props + moves + vars → IsBuilt k (startOf props bs) old old (answer.Stopped 14 0)
   unfolding builtOf builtMemory overwrite
   first-short {old} h =
       built-by (stopped 14 0) []
-      (built-short ok passed-none unrefused-none first-small (room-missing k (startOf props bs) (length old) 0 (omega (arith, n .props-is, n .vars-is, n .moves-is))))
+      (build-unrolled ok (startOf props bs) (length old) _ .1
+      (BuildsFrom.tooShort first-small (room-missing k (startOf props bs) (length old) 0 (omega (arith, n .props-is, n .vars-is, n .moves-is)))))
       refl refl refl
 
   -- layer 0 is stored: its values, then the entries
@@ -128,10 +130,11 @@ module _ {k : Task} {props vars moves : ℕ} (ok : TaskOk paper normal k) (n : C
       {old part mem mem′ : List ℤ} {has : List Bool} {row : List ℤ}
       → props + moves + vars ≤ length old
       → LayerState (rangesOf normal k) has row (layerAt k (startOf props bs) 0)
-      → Filled (rowAt row) vars (midOf (props + moves) (length old - (props + moves)) old) part
-      → Filled cleared (props + moves) (putMid (props + moves) (length old - (props + moves)) old part) mem
-      → Filled (notedAt mem has 0) props mem mem′
+      → Filled (pos 0) (rowAt row) vars (midOf (props + moves) (length old - (props + moves)) old) part
+      → Filled (pos 0) cleared (props + moves) (putMid (props + moves) (length old - (props + moves)) old part) mem
+      → Filled (pos 0) (notedAt mem has 0) props mem mem′
       → Layered k (startOf props bs) old 0 mem′ has row
+  unfolding paper
   first-stored {old} {part} {mem} {mem′} {has} {row} enough w r f g =
       let s = startOf props bs in
       let mem₁ = putMid (props + moves) (length old - (props + moves)) old part in
@@ -141,13 +144,14 @@ module _ {k : Task} {props vars moves : ℕ} (ok : TaskOk paper normal k) (n : C
       let at : FilledAt (rowAt row) (size k s 0) (k .vars) old mem₁ =
       subst (λ (x : ℕ). FilledAt (rowAt row) x (k .vars) old mem₁) place
       (subst (λ (x : ℕ). FilledAt (rowAt row) (props + moves) x old mem₁) (n .vars-is) (filled-behind (rowAt row) (props + moves) vars old part enough r)) in
-      let values : Values 1_000_000_000_000 (k .vars) row (layerAt k s 0 .val) = record { long = w .row .long; each = w .row .each } in
+      let values : Values (paper .layerValue) (k .vars) row (layerAt k s 0 .val) = record { long = w .row .long; each = w .row .each } in
       record {
         passed = passed-none;
-        unrefused = unrefused-next unrefused-none first-small (room-there k s (length old) 0 fits);
+        stored = record { small = first-small; fits = room-there k s (length old) 0 fits };
+        built = λ b r. build-unrolled ok s (length old) b .1 r;
         holds =
-            holds-layer (row-behind s values at refl (λ i h. refl)) (holds-cleared (subst (λ (x : ℕ). Filled cleared x mem₁ mem) front f)) (state-truths k w)
-            (subst (λ (x : ℕ). Filled (notedAt mem has 0) x mem mem′) (n .props-is) g);
+            holds-layer (row-behind s values at refl (λ i h. refl)) (holds-cleared (subst (λ (x : ℕ). Filled (pos 0) cleared x mem₁ mem) front f)) (state-truths k w)
+            (subst (λ (x : ℕ). Filled (pos 0) (notedAt mem has 0) x mem mem′) (n .props-is) g);
         room = fits;
         state = w;
       }

@@ -13,19 +13,19 @@ use model::WriteAnswer;
 fn text_of(
     task: &[u8],
     state: &[u8],
-    spare: &mut [u8],
+    normal: &mut [u8],
     layers: &mut [i64],
     plan: &mut [u8],
     text: &mut [u8],
 ) -> usize
-    requires { ⌜ Rooms (now spare) (now layers) (now plan) (now text) ⌝ }
+    requires { ⌜ Rooms (now normal) (now layers) (now plan) (now text) ⌝ }
     ensures { λ r. ⌜ (take r (now (text .exit)) ≡ listing paper (now (task .entry)) (now (state .entry))) × (r ≤ length (now (text .exit))) ⌝ }
 {
-    match normal::normalise(task, spare) {
+    match normal::normalise(task, normal) {
         WriteAnswer::Refused(r) => report::listing_text(PlanAnswer::Refused(r), plan, text),
         WriteAnswer::Written(n) => {
             let len = n as usize;
-            let answer = relaxed_plan::plan(&spare[..len], state, layers, plan);
+            let answer = relaxed_plan::plan(&normal[..len], state, layers, plan);
             report::listing_text(answer, plan, text)
         }
     }
@@ -67,7 +67,7 @@ fn text_buffer() -> [u8; 160056]
 fn main() {
     let mut task = [0u8; 32001];
     let mut state = [0u8; 185];
-    let mut spare = output_buffer();
+    let mut normal = output_buffer();
     let mut layers = layer_memory();
     let mut plan = output_buffer();
     let mut text = text_buffer();
@@ -76,7 +76,7 @@ fn main() {
     let n = text_of(
         &task[..task_len],
         &state[..state_len],
-        &mut spare,
+        &mut normal,
         &mut layers,
         &mut plan,
         &mut text,

@@ -83,6 +83,11 @@ pub data Output : Type 0 where
   writes : List ℕ → Output
   turns : Refusal → Output
 
+-- what comes of it in either case
+unfoldable pub onOutput : {A : Type 0} → Output → (List ℕ → A) → (Refusal → A) → A
+onOutput (writes bs) run back = run bs
+onOutput (turns r) run back = back r
+
 -- "last, normalise, step, plan | 13 | output shorter than the result | 0"
 unfoldable pub fitted : ℕ → Output → Output
 fitted size (turns r) = turns r
@@ -222,11 +227,7 @@ planned rs (answered (exhausted m)) = plan.NoPlan m 0 0
 planned rs (stopped n m) = plan.Refused (record { number = n; place = m })
 
 unfoldable pub planFitted : ℕ → List Record → Built → PlanAnswer
-planFitted size rs b =
-    elim (ltb size (length (recordBytes rs))) [
-      | true ↦ plan.Refused (record { number = 13; place = 0 })
-      | false ↦ planned rs b
-    ]
+planFitted size rs b = onOutput (fitted size (writes (recordBytes rs))) (λ bs. planned rs b) (λ r. plan.Refused r)
 
 unfoldable pub planOf : Limits → ℕ → ℕ → Ready → PlanAnswer
 planOf L size room (ready k s) = let b = build L k s size in planFitted room (planRecords k s b) b
@@ -251,18 +252,14 @@ planOut L t bs mem out = planOutOf L (length mem) (prepared L t bs) out
 
 -- Demand 3 is "one claim, from the written table and the state to both answers and the plan's list": decide and plan run on
 -- exactly the bytes that normalise writes, and turn back where it does.
-unfoldable pub onNormal : {A : Type 0} → Output → (List ℕ → A) → (Refusal → A) → A
-onNormal (writes nb) run back = run nb
-onNormal (turns r) run back = back r
-
 unfoldable pub campaignDecision : Limits → List ℕ → List ℕ → List ℕ → List ℤ → DecideAnswer
-campaignDecision L t bs spare mem = onNormal (normalised L t (length spare)) (λ nb. decideAnswer L nb bs mem) (λ r. decide.Refused r)
+campaignDecision L t bs normalOut mem = onOutput (normalised L t (length normalOut)) (λ nb. decideAnswer L nb bs mem) (λ r. decide.Refused r)
 
 unfoldable pub campaignPlan : Limits → List ℕ → List ℕ → List ℕ → List ℤ → List ℕ → PlanAnswer
-campaignPlan L t bs spare mem out = onNormal (normalised L t (length spare)) (λ nb. planAnswer L nb bs mem out) (λ r. plan.Refused r)
+campaignPlan L t bs normalOut mem out = onOutput (normalised L t (length normalOut)) (λ nb. planAnswer L nb bs mem out) (λ r. plan.Refused r)
 
 unfoldable pub campaignMemory : Limits → List ℕ → List ℕ → List ℕ → List ℤ → List ℤ
-campaignMemory L t bs spare mem = onNormal (normalised L t (length spare)) (λ nb. planMemory L nb bs mem) (λ r. mem)
+campaignMemory L t bs normalOut mem = onOutput (normalised L t (length normalOut)) (λ nb. planMemory L nb bs mem) (λ r. mem)
 
 unfoldable pub campaignOut : Limits → List ℕ → List ℕ → List ℕ → List ℤ → List ℕ → List ℕ
-campaignOut L t bs spare mem out = onNormal (normalised L t (length spare)) (λ nb. planOut L nb bs mem out) (λ r. out)
+campaignOut L t bs normalOut mem out = onOutput (normalised L t (length normalOut)) (λ nb. planOut L nb bs mem out) (λ r. out)

@@ -35,6 +35,6 @@ unfoldable pub walkTo : Task → ℕ → ℕ → Bool
 walkTo k zero v = true
 walkTo k (suc n) v = anyBelow (λ u. elim (edge k u v) [ true ↦ walkTo k n u | false ↦ false ]) (k .vars)
 
--- the check: a walk with as many edges as there are variables meets one of them twice (`Theorems.Circles`)
+-- the check: a walk with as many edges as there are variables meets one of them twice (`Theorems.Reading.Circles`)
 unfoldable pub circular : Task → Bool
 circular k = anyBelow (walkTo k (k .vars)) (k .vars)

@@ -6,6 +6,7 @@ use mathlib.Core.List.{List, [], _∷_, _++_}
 use lib.Dec.{eqb}
 use lib.ListN.{length}
 use Rattle.integer.specs.BigEndian.{signedBytes}
+use Rattle.model.specs.Lists.{any}
 use Rattle.model.specs.Task.{Form, written, normal, Term, Comparison, atLeast, above, atMost, below, equal, Kind, assign, increase, decrease, Item, need, add, delete, condition, effect, Block, Task}
 
 pub data Command : Type 0 where
@@ -50,37 +51,64 @@ withCode b (c ∷ cs) = elim (eqb b (codeOf c)) [ true ↦ c | false ↦ withCod
 unfoldable pub commandOf : ℕ → Command
 commandOf b = withCode b commands
 
--- A command's bytes with its operands, "of fixed width"; whether it may stand at offset 0, outside a block, in a move, in the
--- goal; and whether it may follow a term. "Misplaced: a command other than a head at offset 0, a head elsewhere, any of 50, 2B,
--- 2D, 57, 43 or 46 outside a block, 2B, 2D or 46 in the goal, a second 47, 45 before the goal." (41 after the goal and 47 too
--- early are 6.) "Terms are left open where a command other than 57, 43 or 46 follows a term".
-pub record Rule : Type 0 where
-  pub width : ℕ
-  pub atStart : Bool
-  pub outside : Bool
-  pub inMove : Bool
-  pub inGoal : Bool
-  pub afterTerm : Bool
-
-rule : ℕ → Bool → Bool → Bool → Bool → Bool → Rule
-rule n a b c d e = record { width = n; atStart = a; outside = b; inMove = c; inGoal = d; afterTerm = e }
-
-unfoldable pub ruleOf : Command → Rule
-unfolding rule
-ruleOf (head f) = rule 4 true false false false false
-ruleOf openMove = rule 1 false true true true false
-ruleOf openGoal = rule 1 false true true false false
-ruleOf endTable = rule 1 false false false true false
-ruleOf needProp = rule 2 false false true true false
-ruleOf addProp = rule 2 false false true false false
-ruleOf deleteProp = rule 2 false false true false false
-ruleOf term = rule 4 false false true true true
-ruleOf closeCondition = rule 6 false false true true true
-ruleOf closeEffect = rule 7 false false true false true
-ruleOf unknown = rule 1 false false false false false
-
+-- "operands of fixed width": the bytes of a command with its operands
 unfoldable pub width : Command → ℕ
-width c = ruleOf c .width
+width (head f) = 4
+width openMove = 1
+width openGoal = 1
+width endTable = 1
+width needProp = 2
+width addProp = 2
+width deleteProp = 2
+width term = 4
+width closeCondition = 6
+width closeEffect = 7
+width unknown = 1
+
+-- where a command stands: at offset 0, behind the head before any block, in a move, in the goal, behind 45
+pub data Place : Type 0 where
+  start preamble inMove inGoal finished : Place
+
+-- in the order of reading
+unfoldable pub order : Place → ℕ
+order start = 0
+order preamble = 1
+order inMove = 2
+order inGoal = 3
+order finished = 4
+
+-- "Misplaced: a command other than a head at offset 0, a head elsewhere, any of 50, 2B, 2D, 57, 43 or 46 outside a block, 2B, 2D
+-- or 46 in the goal, a second 47, 45 before the goal." (41 after the goal is 6, and so is 47 before A moves.)
+unfoldable pub mayStandIn : Command → List Place
+mayStandIn (head f) = start ∷ []
+mayStandIn openMove = preamble ∷ inMove ∷ inGoal ∷ []
+mayStandIn openGoal = preamble ∷ inMove ∷ []
+mayStandIn endTable = inGoal ∷ []
+mayStandIn needProp = inMove ∷ inGoal ∷ []
+mayStandIn addProp = inMove ∷ []
+mayStandIn deleteProp = inMove ∷ []
+mayStandIn term = inMove ∷ inGoal ∷ []
+mayStandIn closeCondition = inMove ∷ inGoal ∷ []
+mayStandIn closeEffect = inMove ∷ []
+mayStandIn unknown = []
+
+unfoldable pub inPlace : Place → Command → Bool
+unfolding order mayStandIn any
+inPlace p c = any (λ q. eqb (order p) (order q)) (mayStandIn c)
+
+-- "Terms are left open where a command other than 57, 43 or 46 follows a term"
+unfoldable pub afterTerm : Command → Bool
+afterTerm (head f) = false
+afterTerm openMove = false
+afterTerm openGoal = false
+afterTerm endTable = false
+afterTerm needProp = false
+afterTerm addProp = false
+afterTerm deleteProp = false
+afterTerm term = true
+afterTerm closeCondition = true
+afterTerm closeEffect = true
+afterTerm unknown = false
 
 -- "o is 0 ≥, 1 >, 2 ≤, 3 <, 4 ="
 unfoldable pub comparisonCode : Comparison → ℕ

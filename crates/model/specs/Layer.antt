@@ -1,6 +1,7 @@
 -- Layers, the answer layer and "no plan" (document 01, "Layers").
 -- Assumes nothing.
-use Prim.Native.Nat.{ℕ, zero, suc, _+_, _*_}
+use Prim.Native.Nat.{ℕ, zero, suc, _+_, _*_, _<_}
+use mathlib.Core.Path.{_≡_}
 use mathlib.Core.Bool.{Bool, true, false, cond, _&&_, _||_, Bool·beq}
 use mathlib.Core.List.{List, [], _∷_}
 use mathlib.Core.Option.{Option, none, some}
@@ -8,7 +9,7 @@ use lib.IntN.{ℤ, pos, _+ℤ_, _*ℤ_}
 use lib.ListN.{length}
 use lib.Signed.{leZ}
 use Rattle.integer.specs.Linear.{larger}
-use Rattle.model.specs.Lists.{all, any, allBelow}
+use Rattle.model.specs.Lists.{all, any, allBelow, firstFrom}
 use Rattle.model.specs.Task.{Term, Kind, assign, increase, decrease, Effect, Item, need, add, delete, condition, effect, Block, Task, adds, effectOn}
 use Rattle.model.specs.Move.{State}
 
@@ -92,6 +93,48 @@ unfoldable pub layer : List Block → State → ℕ → Layer
 layer ms s zero = layerOf s
 layer ms s (suc t) = next ms (layer ms s t)
 
+-- the layers of a task from a state
+unfoldable pub layerAt : Task → State → ℕ → Layer
+layerAt k s t = layer (k .moves) s t
+
+-- "If layer t meets the goal"
+unfoldable pub meetsGoal : Task → State → ℕ → Bool
+meetsGoal k s t = usable (layerAt k s t) (k .goal)
+
+-- ---- the answer layer and "no plan"
+
+-- "A next layer equal to layer t"
+abbrev pub EqualNext : Task → State → ℕ → Type 0
+EqualNext k s t = layerAt k s (suc t) ≡ layerAt k s t
+
+-- building goes past every layer below t: none meets the goal, none has an equal next layer
+pub record Passed (k : Task) (s : State) (t : ℕ) : Type 0 where
+  pub unmet : (u : ℕ) → u < t → meetsGoal k s u ≡ false
+  pub unequal : (u : ℕ) → u < t → EqualNext k s u → ⊥
+
+-- "If layer t meets the goal, building stops with answer layer t."
+pub record Reached (k : Task) (s : State) (t : ℕ) : Type 0 where
+  pub passed : Passed k s t
+  pub met : meetsGoal k s t ≡ true
+
+-- "A next layer equal to layer t is not stored ..; the answer is "no plan"."; "the first t whose next layer equals layer t"
+pub record Exhausted (k : Task) (s : State) (t : ℕ) : Type 0 where
+  pub passed : Passed k s t
+  pub unmet : meetsGoal k s t ≡ false
+  pub equal : EqualNext k s t
+
+-- ---- how the answer is found
+
+-- the answer layer, or "no plan" with its layer
+pub data Outcome : Type 0 where
+  reached : ℕ → Outcome
+  exhausted : ℕ → Outcome
+
+-- "Reported layers: the number of the last stored layer"
+unfoldable pub reported : Outcome → ℕ
+reported (reached t) = t
+reported (exhausted t) = t
+
 unfoldable pub sameValue : Value → Value → Bool
 sameValue (finite a) (finite b) = leZ a b && leZ b a
 sameValue (finite a) unbounded = false
@@ -103,41 +146,25 @@ unfoldable pub sameLayer : ℕ → ℕ → Layer → Layer → Bool
 sameLayer props vars l k =
     allBelow (λ p. Bool·beq (l .has p) (k .has p)) props && allBelow (λ v. sameValue (l .val v) (k .val v)) vars
 
--- the layers of a task from a state
-unfoldable pub layerAt : Task → State → ℕ → Layer
-layerAt k s t = layer (k .moves) s t
-
--- "If layer t meets the goal"
-unfoldable pub meetsGoal : Task → State → ℕ → Bool
-meetsGoal k s t = usable (layerAt k s t) (k .goal)
-
--- "A next layer equal to layer t"
+-- is the next layer equal to layer t (`Theorems.Layers.Settled.settled-equal`)
 unfoldable pub settled : Task → State → ℕ → Bool
 settled k s t = sameLayer (k .props) (k .vars) (layerAt k s t) (layerAt k s (suc t))
 
--- the answer layer, or "no plan" with "the first t whose next layer equals layer t"
-pub data Outcome : Type 0 where
-  reached : ℕ → Outcome
-  exhausted : ℕ → Outcome
+-- does building stop at layer t, and how
+unfoldable pub stops : Task → State → ℕ → Bool
+stops k s t = meetsGoal k s t || settled k s t
 
--- "Reported layers: the number of the last stored layer"
-unfoldable pub reported : Outcome → ℕ
-reported (reached t) = t
-reported (exhausted t) = t
-
-unfoldable pub searchFrom : Task → State → ℕ → ℕ → Outcome
-searchFrom k s t zero = exhausted t
-searchFrom k s t (suc n) =
-    elim (meetsGoal k s t) [
-      | true ↦ reached t
-      | false ↦ elim (settled k s t) [ true ↦ exhausted t | false ↦ searchFrom k s (suc t) n ]
-    ]
+unfoldable pub outcomeAt : Task → State → ℕ → Outcome
+outcomeAt k s t = cond (meetsGoal k s t) (reached t) (exhausted t)
 
 -- the bound on layers, (A + N + 1) × (N + 1)
 unfoldable pub bound : ℕ → ℕ → ℕ
 bound moves vars = (moves + vars + 1) * (vars + 1)
 
--- "If layer t meets the goal, building stops with answer layer t. Otherwise .. the answer is "no plan"": a search up to the
--- bound, which it never passes (`Theorems.Bound`).
+-- the first of n layers at which building stops, else layer n
+unfoldable pub firstStop : Task → State → ℕ → ℕ
+firstStop k s n = elim (firstFrom (stops k s) 0 n) [ none ↦ n | some t ↦ t ]
+
+-- the one layer that is `Reached` or `Exhausted` (`Theorems.Layers.Answer`); it is within the bound (`Theorems.Layers.Bound`)
 unfoldable pub outcome : Task → State → Outcome
-outcome k s = searchFrom k s 0 (suc (bound (length (k .moves)) (k .vars)))
+outcome k s = outcomeAt k s (firstStop k s (bound (length (k .moves)) (k .vars)))

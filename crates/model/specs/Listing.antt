@@ -4,13 +4,13 @@ use Prim.Native.Nat.{ℕ, zero, suc, _+_, _/_, _%_}
 use mathlib.Core.Bool.{true, false}
 use mathlib.Core.List.{List, [], _∷_, _++_}
 use lib.Dec.{ltb}
-use lib.ListN.{length}
 use Rattle.model.specs.declared.Refusal.{Refusal}
+use Rattle.model.specs.declared.PlanAnswer.{PlanAnswer}
+use Rattle.model.specs.declared.PlanAnswer.the-variants as plan
 use Rattle.model.specs.Limits.{Limits}
-use Rattle.model.specs.Layer.{reached, exhausted}
-use Rattle.model.specs.Memory.{Built, answered, stopped, build}
+use Rattle.model.specs.Memory.{build}
 use Rattle.model.specs.Plan.{Record}
-use Rattle.model.specs.Calls.{Output, writes, turns, Ready, ready, unready, normalised, prepared, planRecords, recordBytes}
+use Rattle.model.specs.Calls.{onOutput, Ready, ready, unready, normalised, prepared, planRecords, planFitted}
 
 -- "layer memory has 8,192 numbers, the plan 64,000 bytes"; a normal form never takes more than 64,000 bytes
 unfoldable pub listingLayers : ℕ
@@ -19,7 +19,7 @@ listingLayers = 8_192
 unfoldable pub listingBytes : ℕ
 listingBytes = 64_000
 
--- a number in decimal digits: at most as many turns as its value (`Theorems.Decimals`)
+-- a number in decimal digits: at most as many turns as its value (`Theorems.Printing.Decimals`)
 unfoldable pub digits : ℕ → ℕ → List ℕ
 digits zero n = (48 + n) ∷ []
 digits (suc f) n =
@@ -59,28 +59,18 @@ unfoldable pub recordsText : List Record → List ℕ
 recordsText [] = []
 recordsText (r ∷ rs) = decimal (r .move) ++ space ++ decimal (r .count) ++ newline ++ recordsText rs
 
--- "plan 3 layers 2": "records and layers"; "no plan layers" and the layers
-unfoldable pub builtText : List Record → Built → List ℕ
-builtText rs (answered (reached m)) =
-    planWord ++ decimal (length rs) ++ layersWord ++ decimal m ++ newline ++ recordsText rs
-builtText rs (answered (exhausted m)) = noPlanWord ++ decimal m ++ newline
-builtText rs (stopped n m) = refusalText (record { number = n; place = m })
-
-unfoldable pub planText : List Record → Built → List ℕ
-planText rs b =
-    elim (ltb listingBytes (length (recordBytes rs))) [
-      | true ↦ refusalText (record { number = 13; place = 0 })
-      | false ↦ builtText rs b
-    ]
+-- the text of plan's answer, of which rs are the records. "plan 3 layers 2": "records and layers"; "no plan layers" and the layers
+unfoldable pub answerText : PlanAnswer → List Record → List ℕ
+answerText (plan.Plan layer layers records moves) rs =
+    planWord ++ decimal records ++ layersWord ++ decimal layers ++ newline ++ recordsText rs
+answerText (plan.NoPlan layers records moves) rs = noPlanWord ++ decimal layers ++ newline
+answerText (plan.Refused r) rs = refusalText r
 
 unfoldable pub readyText : Limits → Ready → List ℕ
-readyText L (ready k s) = let b = build L k s listingLayers in planText (planRecords k s b) b
+readyText L (ready k s) =
+    let b = build L k s listingLayers in let rs = planRecords k s b in answerText (planFitted listingBytes rs b) rs
 readyText L (unready r) = refusalText r
-
-unfoldable pub outputText : Limits → List ℕ → Output → List ℕ
-outputText L bs (writes t) = readyText L (prepared L t bs)
-outputText L bs (turns r) = refusalText r
 
 -- "The listing program reads task.bin and state.bin .. task.bin, a written table, is normalised first"
 unfoldable pub listing : Limits → List ℕ → List ℕ → List ℕ
-listing L t bs = outputText L bs (normalised L t listingBytes)
+listing L t bs = onOutput (normalised L t listingBytes) (λ nb. readyText L (prepared L nb bs)) (λ r. refusalText r)

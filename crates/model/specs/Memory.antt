@@ -15,9 +15,12 @@ use Rattle.model.specs.Move.{State, moveAt}
 use Rattle.model.specs.Layer.{Value, finite, unbounded, usable, layerAt, Outcome, reached, exhausted, reported, outcome}
 
 -- "unbounded being 2^63 − 1"
+abbrev pub unboundedMark : ℕ
+unboundedMark = 2 ^ 63 - 1
+
 unfoldable pub encode : Value → ℤ
 encode (finite z) = z
-encode unbounded = pos (2 ^ 63 - 1)
+encode unbounded = pos unboundedMark
 
 -- "the first layer .. never is −1"
 unfoldable pub entry : Option ℕ → ℤ
@@ -62,6 +65,10 @@ wrong15 L k s t = anyBelow (λ v. tooLarge L (layerAt k s t .val v)) (k .vars)
 unfoldable pub wrong14 : Task → ℕ → ℕ → Bool
 wrong14 k size t = ltb size (room k t)
 
+-- "each new layer": is layer t refused by 15 or 14
+abbrev pub refuses : Limits → Task → State → ℕ → ℕ → Bool
+refuses L k s size t = wrong15 L k s t || wrong14 k size t
+
 -- how building layers in a memory of so many numbers ends
 pub data Built : Type 0 where
   answered : Outcome → Built
@@ -75,11 +82,11 @@ unfoldable pub stopAt : Limits → Task → State → Option ℕ → Outcome →
 stopAt L k s none o = answered o
 stopAt L k s (some t) o = stopped (stopNumber (wrong15 L k s t)) t
 
--- "each new layer": the first layer up to the last one that is refused by 15 or, after it, 14
+-- the first layer up to the last one that is refused; layer by layer, in document 01's order: `Theorems.Layers.Building.build-unrolled`
 unfoldable pub build : Limits → Task → State → ℕ → Built
 build L k s size =
     let o = outcome k s in
-    stopAt L k s (firstFrom (λ t. wrong15 L k s t || wrong14 k size t) 0 (suc (reported o))) o
+    stopAt L k s (firstFrom (refuses L k s size) 0 (suc (reported o))) o
 
 -- "the step that changes nothing counts, one ended by 14 or 15 does not"; "layer memory after 14 (place above 0) or 15 holds
 -- every layer made before"

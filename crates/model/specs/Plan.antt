@@ -5,7 +5,7 @@ use mathlib.Core.Bool.{Bool, true, false, cond, not, _&&_, _||_}
 use mathlib.Core.List.{List, [], _∷_, _++_}
 use mathlib.Core.Option.{Option, none, some}
 use lib.Dec.{eqb}
-use lib.IntN.{ℤ, pos, natAbs, _-ℤ_, _*ℤ_}
+use lib.IntN.{ℤ, pos, natAbs, _-ℤ_}
 use lib.ListN.{length, replicate}
 use Rattle.integer.specs.Linear.{up, larger}
 use Rattle.integer.specs.Ceiling.{ceiling}
@@ -51,17 +51,26 @@ wantFinite l w [] = w
 wantFinite l w (t ∷ ts) =
     elim (l .val (t .var)) [ finite z ↦ wantFinite l (wantValue w (t .var) z) ts | unbounded ↦ wantFinite l w ts ]
 
+-- "the lowest unbounded one": terms rise, so it is the first
+unfoldable pub lowestUnbounded : Layer → List Term → Option Term
+lowestUnbounded l [] = none
+lowestUnbounded l (t ∷ ts) = elim (l .val (t .var)) [ finite z ↦ lowestUnbounded l ts | unbounded ↦ some t ]
+
+-- "the rest": the terms but that one
+unfoldable pub restTerms : Layer → List Term → List Term
+restTerms l [] = []
+restTerms l (t ∷ ts) = elim (l .val (t .var)) [ finite z ↦ t ∷ restTerms l ts | unbounded ↦ ts ]
+
+-- the term's variable gets z/w rounded up, w its weight
+unfoldable pub wantQuotient : Wants → Option Term → ℤ → Wants
+wantQuotient w none z = w
+wantQuotient w (some t) z = wantValue w (t .var) (ceiling z (natAbs (t .weight)))
+
 -- "To want "sum ≥ c" in layer t: each finite variable's target is its layer value; the lowest unbounded one, weight w, gets
--- (c − the rest)/w rounded up to a whole number". Terms rise, so the lowest unbounded one is the first; c is less by what the
--- terms before it give (`Theorems.Wanting` has the sentence in its own words).
+-- (c − the rest)/w rounded up to a whole number, the rest using layer values for finite and state values for other unbounded ones."
 unfoldable pub wantSum : Layer → State → Wants → List Term → ℤ → Wants
-wantSum l s w [] c = w
-wantSum l s w (t ∷ ts) c =
-    elim (l .val (t .var)) [
-      | finite z ↦ wantSum l s (wantValue w (t .var) z) ts (c -ℤ (t .weight *ℤ z))
-      | unbounded ↦
-          wantValue (wantFinite l w ts) (t .var) (ceiling (c -ℤ sum (low l s) ts) (natAbs (t .weight)))
-    ]
+wantSum l s w ts c =
+    wantQuotient (wantFinite l w ts) (lowestUnbounded l ts) (c -ℤ sum (low l s) (restTerms l ts))
 
 unfoldable pub wantItem : Layer → State → Wants → Item → Wants
 wantItem l s w (need p) = wantProp w p
@@ -113,7 +122,7 @@ unfoldable pub stepSize : Value → ℕ
 stepSize (finite z) = natAbs z
 stepSize unbounded = 1
 
--- "Count: 1; for += (T − state value of v)/d rounded up" (never below 1, `Theorems.Plans`)
+-- "Count: 1; for += (T − state value of v)/d rounded up" (never below 1, `Theorems.Plans.Solving`)
 unfoldable pub runs : Kind → ℤ → ℤ → Value → ℕ
 runs assign z y x = 1
 runs increase z y x = up (ceiling (z -ℤ y) (stepSize x))

@@ -1,19 +1,18 @@
 -- Reading a table: every check of document 01's table "Where a call turns back", in its order, with number and place, and the
 -- task that accepted bytes stand for. One reading gives both. Assumes nothing.
-use Prim.Native.Nat.{ℕ, zero, suc, _+_, _*_, _%_}
+use Prim.Native.Nat.{ℕ, zero, suc, _+_}
 use mathlib.Core.Bool.{Bool, true, false, cond, _&&_, _||_, not}
 use mathlib.Core.List.{List, [], _∷_, _++_}
 use mathlib.Core.Option.{Option, none, some}
 use lib.Dec.{eqb, leb, ltb}
-use lib.IntN.{ℤ, pos, negℤ, natAbs}
+use lib.IntN.{ℤ}
 use lib.ListN.{length, getD, take, drop}
-use lib.Signed.{leZ}
 use Rattle.integer.specs.BigEndian.{signed}
 use Rattle.model.specs.declared.Refusal.{Refusal}
-use Rattle.model.specs.Limits.{Limits}
+use Rattle.model.specs.Limits.{Limits, varsInRange, weightInRange, comparisonInRange, kindInRange, baseInRange, boundInRange}
 use Rattle.model.specs.Lists.{all, any}
 use Rattle.model.specs.Task.{Form, written, normal, Term, Comparison, atLeast, above, atMost, below, equal, Kind, assign, increase, decrease, Item, need, add, delete, condition, effect, Block, Task, clashes}
-use Rattle.model.specs.Command.{Command, head, openMove, openGoal, endTable, needProp, addProp, deleteProp, term, closeCondition, closeEffect, unknown, codeOf, commandOf, ruleOf, width}
+use Rattle.model.specs.Command.{Command, head, openMove, openGoal, endTable, needProp, addProp, deleteProp, term, closeCondition, closeEffect, unknown, codeOf, commandOf, width, Place, start, preamble, inMove, inGoal, finished, inPlace, afterTerm}
 use Rattle.model.specs.Circle.{circular}
 
 -- "the head's kind and its three counts"
@@ -37,10 +36,6 @@ pub data Verdict : Type 0 where
 pub data Wanted : Type 0 where
   only : Form → Wanted
   both : Wanted
-
--- where a command stands
-pub data Place : Type 0 where
-  start preamble inMove inGoal finished : Place
 
 -- what has been read so far: the offset of the next command, the head, the closed moves, and of the block that stands open
 -- its items and the terms that no condition or effect has closed yet
@@ -116,13 +111,6 @@ itemAt t s unknown = none
 
 -- ---- 3: "unknown, misplaced, wrong head for the call, terms left open, bytes after 45"
 
-unfoldable pub inPlace : Place → Command → Bool
-inPlace start c = ruleOf c .atStart
-inPlace preamble c = ruleOf c .outside
-inPlace inMove c = ruleOf c .inMove
-inPlace inGoal c = ruleOf c .inGoal
-inPlace finished c = false
-
 takesHead : Wanted → Form → Bool
 takesHead both f = true
 takesHead (only written) written = true
@@ -145,7 +133,7 @@ headWanted w closeEffect = true
 headWanted w unknown = true
 
 unfoldable pub leavesOpen : Seen → Command → Bool
-leavesOpen s c = ltb 0 (length (s .terms)) && not (ruleOf c .afterTerm)
+leavesOpen s c = ltb 0 (length (s .terms)) && not (afterTerm c)
 
 unfoldable pub wrong3 : Wanted → Seen → Command → Bool
 wrong3 w s c = not (inPlace (s .place) c) || not (headWanted w c) || leavesOpen s c
@@ -179,33 +167,6 @@ wrong6 s closeEffect = false
 wrong6 s unknown = false
 
 -- ---- 4: "operand out of range"
-
--- "V 0..16 variables"; "N even, 0..32"
-unfoldable pub varsInRange : Limits → Form → ℕ → Bool
-varsInRange L written n = leb n (L .vars)
-varsInRange L normal n = leb n (2 * L .vars) && eqb (n % 2) 0
-
--- "Written: weights −1000..1000 except 0"; "Normal: weights 1..1000"
-unfoldable pub weightInRange : Limits → Form → ℤ → Bool
-weightInRange L written w = leb 1 (natAbs w) && leb (natAbs w) (L .weight)
-weightInRange L normal w = leZ (pos 1) w && leb (natAbs w) (L .weight)
-
--- "o is 0 ≥, 1 >, 2 ≤, 3 <, 4 ="; "k is 0 := , 1 += , 2 −="; "Normal: .. o only 0, k only 0 or 1"
-unfoldable pub comparisonInRange : Form → ℕ → Bool
-comparisonInRange written n = leb n 4
-comparisonInRange normal n = eqb n 0
-
-unfoldable pub kindInRange : Form → ℕ → Bool
-kindInRange written n = leb n 2
-kindInRange normal n = leb n 1
-
--- "constants −1,000,000..1,000,000"; "effect constants as written, condition constants −1,000,000..1,000,001"
-unfoldable pub baseInRange : Limits → ℤ → Bool
-baseInRange L c = leb (natAbs c) (L .constant)
-
-unfoldable pub boundInRange : Limits → Form → ℤ → Bool
-boundInRange L written c = leb (natAbs c) (L .constant)
-boundInRange L normal c = leZ (negℤ (pos (L .constant))) c && leZ c (pos (L .constant + 1))
 
 -- the operands of a command: how far behind it each stands, and whether it is in range
 pub record Operand : Type 0 where
@@ -302,7 +263,7 @@ closed finished ms b = ms
 unfoldable pub withHead : List ℕ → Seen → Form → Seen
 withHead t s f =
     record {
-      at = s .at + 4;
+      at = s .at + width (head f);
       place = preamble;
       header =
           record { form = f; props = byteAfter t s 1; vars = byteAfter t s 2; moves = byteAfter t s 3 };
@@ -408,7 +369,7 @@ continue f (more s) = f s
 continue f (done v) = v
 
 -- Each command takes at least one byte, so that as many turns as there are bytes, and one for the end, always suffice
--- (`Theorems.Reads`).
+-- (`Theorems.Reading.Reads`).
 unfoldable pub readFrom : Limits → Wanted → List ℕ → ℕ → Seen → Verdict
 readFrom L w t zero s = refused (record { number = 2; place = length t })
 readFrom L w t (suc n) s = continue (λ d. readFrom L w t n d) (readCommand L w t s)

@@ -56,6 +56,14 @@ pub record Task : Type 0 where
   pub moves : List Block
   pub goal : Block
 
+-- the terms of an item's sum
+unfoldable pub termsOf : Item → List Term
+termsOf (need p) = []
+termsOf (add p) = []
+termsOf (delete p) = []
+termsOf (condition c) = c .terms
+termsOf (effect e) = e .terms
+
 unfoldable pub isAdd : ℕ → Item → Bool
 isAdd p (need q) = false
 isAdd p (add q) = eqb q p

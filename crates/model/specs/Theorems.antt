@@ -1,76 +1,36 @@
--- Theorems about the definitions, in reading order: what an accepted table gives; the trial campaigns; laws of tests and
--- searches; order and relaxation; circles and the bound on layers; the normal form; plans; reading and printing; layer memory; sizes;
--- demand 2 for the normal form; demand 3; codes.
-pub mod WellFormed
-pub mod Campaigns
-pub mod Computing
-pub mod Trials
-pub mod Cases
-pub mod Booleans
-pub mod Searching
-pub mod Order
+-- Theorems about the definitions, a room for each subject, in reading order: what a room proves, and its main statements.
+--
+-- Laws: tests, searches and counts as facts.
+--
+-- Reading: what the checks of a table give: an accepted table is the print of its task, which is within every limit, and its marks are
+-- where its blocks begin; a refusal's number and place; check 7 finds a closed walk exactly where there is one.
+--   Accepted.reading-accepted, reading-canonical; Circles.no-circle
+--
+-- Printing: what is written is read back: a task that meets every check is accepted as that task; records and decimal digits too. What a
+-- lent output then holds.
+--   Tables.print-read-only; ReadBack.plan-read; Outputs.put-first
+--
+-- NormalForm: a task and its normal form run alike, and the print of the normal form is accepted.
+--   Moves.written-normal; Print.normal-accepted
+--
+-- Layers: layers rise; the outcome is the one layer that is `Reached` or `Exhausted`, within (A + N + 1) × (N + 1); "no plan" is right; what
+-- building leaves in memory.
+--   Answer.outcome-reached, outcome-exhausted, exhausted-no-plan; Bound.layers-bound; Building.build-unrolled
+--
+-- Plans: the list of a plan's records solves the relaxed task; each record is the only one of its move in its layer.
+--   Solving.plan-solves; Records.records-rising; FirstMoves
+--
+-- Sizes: every number on the way, and every number of an answer, is small enough for the machine's.
+--   Layers.next-size; Plans.targets-small; Answers.plan-small
+--
+-- Campaigns: the trial campaigns by computation; demand 2 and demand 3 from bytes to answers; the codes of answers.
+--   Trials; Demand2.demand2; EndToEnd.demand3; Codes
+-- Assumes nothing.
+pub mod Laws
+pub mod Reading
+pub mod Printing
+pub mod NormalForm
 pub mod Layers
-pub mod Settled
-pub mod Relaxation
-pub mod Counting
-pub mod Circles
-pub mod Quiet
-pub mod Bound
-pub mod Answer
-pub mod SignedSums
-pub mod Blocks
-pub mod NormalConditions
-pub mod NormalEffects
-pub mod NormalMoves
-pub mod NormalNames
-pub mod NormalCircle
-pub mod NormalTask
-pub mod Targets
-pub mod Wanting
-pub mod Conditions
-pub mod Supporting
-pub mod Taking
-pub mod Descending
 pub mod Plans
-pub mod Records
-pub mod FirstMoves
-pub mod Ranges
-pub mod Commands
-pub mod Checks
-pub mod Appending
-pub mod Soundness
-pub mod Reads
-pub mod SeenBytes
-pub mod Printed
-pub mod Marks
-pub mod Accepted
-pub mod Parts
-pub mod Places
-pub mod Passing
-pub mod PrintedOperands
-pub mod PrintedItems
-pub mod PrintedBlocks
-pub mod PrintedMoves
-pub mod Prints
-pub mod PrintedBytes
-pub mod NormalPrint
-pub mod Decimals
-pub mod Building
-pub mod Entries
-pub mod Memories
 pub mod Sizes
-pub mod StateSizes
-pub mod LayerSizes
-pub mod TargetSizes
-pub mod CountSizes
-pub mod DescentSizes
-pub mod PlanSizes
-pub mod ReadBack
-pub mod Rebuilding
-pub mod Demand2
-pub mod Demand3
-pub mod EndToEnd
-pub mod OneCall
-pub mod Instance
-pub mod AnswerSizes
-pub mod Codes
+pub mod Campaigns

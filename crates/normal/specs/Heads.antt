@@ -2,17 +2,23 @@
 use Prim.Native.Nat.{ℕ}
 use mathlib.Core.Path.{_≡_, sym, ap, _∙_}
 use mathlib.Core.List.{List}
-use lib.ListN.{length}
 use Rattle.model.specs.declared.Refusal.{Refusal}
 use Rattle.model.specs.Limits.{paper}
 use Rattle.model.specs.Task.{written}
 use Rattle.model.specs.Reading.{refused, only, reading}
 use Rattle.model.specs.declared.WriteAnswer.{WriteAnswer}
 use Rattle.model.specs.declared.WriteAnswer.the-variants as write
-use Rattle.model.specs.Calls.{Output, writes, fitted, writeAnswer, outputAfter, normalBytes, normalOf, normalised, normaliseAnswer, normaliseOut}
+use Rattle.model.specs.Calls.{writes, normalBytes, normalOf, normalised, normaliseAnswer, normaliseOut}
 use Rattle.table.specs.Outlines.{HeadRead}
 use Rattle.normal.specs.Tables.{taskIn, readTask, Source, Heads}
-use Rattle.normal.specs.Answers.{Answered, answered-refused}
+use Rattle.output.specs.Answers.{Answered, answered-same, answered-refused}
+
+normalise-answered :
+    (t : List ℕ) {old new : List ℕ} {r : WriteAnswer}
+    → Answered (normalOf (reading paper (only written) t)) old new r
+    → (r ≡ normaliseAnswer paper t old) × (new ≡ normaliseOut paper t old)
+unfolding normaliseAnswer normaliseOut normalised
+normalise-answered t a = (a .answer, a .output)
 
 module _ {t marks : List ℕ} {props vars moves : ℕ} (h : HeadRead written t marks props vars moves) where
   pub task-is : readTask t ≡ h .table .task
@@ -36,19 +42,14 @@ module _ {t marks : List ℕ} {props vars moves : ℕ} (h : HeadRead written t m
   -- the call's answer is what was written
   pub normalise-written :
       {old new : List ℕ} {r : WriteAnswer}
-      → Answered (fitted (length old) (writes (normalBytes (readTask t)))) old new r
+      → Answered (writes (normalBytes (readTask t))) old new r
       → (r ≡ normaliseAnswer paper t old) × (new ≡ normaliseOut paper t old)
-  unfolding normaliseAnswer normaliseOut normalised
-  normalise-written {old} a = (
-    a .answer ∙ ap (λ (o : Output). writeAnswer (fitted (length old) o)) (sym normal-is),
-    a .output ∙ ap (λ (o : Output). outputAfter (fitted (length old) o) old) (sym normal-is),
-  )
+  normalise-written a = normalise-answered t (answered-same a (sym normal-is))
 
 -- the table is refused
 pub normalise-refused :
     (t old : List ℕ) {q : Refusal}
     → reading paper (only written) t ≡ refused q
     → (_≡_ (write.Refused q) (normaliseAnswer paper t old)) × (old ≡ normaliseOut paper t old)
-unfolding normaliseAnswer normaliseOut normalised normalOf
-normalise-refused t old e =
-    let a = answered-refused (normalOf (reading paper (only written) t)) {old = old} (ap normalOf e) in (a .answer, a .output)
+unfolding normalOf
+normalise-refused t old e = normalise-answered t (answered-refused old (ap normalOf e))

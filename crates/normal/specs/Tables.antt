@@ -2,7 +2,7 @@
 use Prim.Native.Nat.{ℕ, suc, _+_, _*_, _≤_, _<_}
 use native.Mathlib.Numerals.{add-one}
 use native.Mathlib.Omega.{arith}
-use mathlib.Core.Path.{_≡_, refl, sym, ap, ap₂, _∙_}
+use mathlib.Core.Path.{_≡_, sym, ap, ap₂, _∙_}
 use mathlib.Core.List.{List, [], _∷_, _++_, map, append-assoc}
 use lib.ListN.{length, getD, drop, length-append, length-map}
 use lib.Seq.{drop-cons, drop-length}
@@ -12,12 +12,12 @@ use Rattle.model.specs.Command.{head, openMove, openGoal, endTable, codeOf, ite
 use Rattle.model.specs.Reading.{Verdict, accepted, refused, only, lengthLimit, reading}
 use Rattle.model.specs.NormalForm.{normalBlock, normalTask}
 use Rattle.model.specs.Calls.{normalBytes}
-use Rattle.model.specs.Theorems.NormalPrint.{normal-fits}
+use Rattle.model.specs.Theorems.NormalForm.Print.{normal-fits}
 use Rattle.table.specs.Outlines.{partAt, Outline}
 use Rattle.reader.specs.Parts.{PartIn, outline-part}
 use Rattle.block.specs.Parts.{move-left, goal-left}
-use Rattle.normal.specs.Printing.{Put, put-join, put-same, Printing, PutTo, printing-start, printing-rest, printing-step}
-use Rattle.normal.specs.Blocks.{Remaining, blockPrint}
+use Rattle.output.specs.Writing.{Written, written-join, written-same, Writing, writing-start, writing-rest, writing-behind, writing-step, writing-end}
+use Rattle.normal_block.specs.Blocks.{Remaining, blockPrint}
 
 -- the task that a written table stands for
 unfoldable pub taskIn : Verdict → Task
@@ -140,46 +140,45 @@ module _ {ms : List Block} {b size : ℕ} (c : MovesCounting ms b size) where
   pub moves-total : length ms ≤ b → size ≡ length (movesPrint ms)
   moves-total h = omega (arith, c .total, ap length (moves-none ms b (omega (arith, c .within))))
 
--- the blocks before b are printed
-pub record MovesPrinting (ms : List Block) (b : ℕ) (old : List ℕ) (start : ℕ) (new : List ℕ) (to : ℕ) : Type 0 where
+-- the blocks before b are written
+pub record MovesWriting (ms : List Block) (b : ℕ) (old : List ℕ) (start : ℕ) (new : List ℕ) (to : ℕ) : Type 0 where
   pub within : b ≤ length ms
-  pub prints : Printing old start (movesPrint ms) new to (movesPrint (drop b ms))
+  pub writing : Writing old start (movesPrint ms) new to (movesPrint (drop b ms))
 
-pub moves-start : (ms : List Block) (old : List ℕ) (start : ℕ) → MovesPrinting ms 0 old start old start
-moves-start ms old start = record { within = omega arith; prints = printing-start old start (movesPrint ms) }
+pub moves-start : (ms : List Block) (old : List ℕ) (start : ℕ) → MovesWriting ms 0 old start old start
+moves-start ms old start = record { within = omega arith; writing = writing-start old start (movesPrint ms) }
 
-module _ {ms : List Block} {b : ℕ} {old : List ℕ} {start : ℕ} {new : List ℕ} {to : ℕ} (p : MovesPrinting ms b old start new to) where
-  pub moves-room : b < length ms → start + length (movesPrint ms) ≤ length old → to + 1 + length (blockPrint (getD ms b [])) ≤ length new
-  moves-room h fits =
+module _ {ms : List Block} {b : ℕ} {old : List ℕ} {start : ℕ} {new : List ℕ} {to : ℕ} (p : MovesWriting ms b old start new to) where
+  pub moves-short : b < length ms → start + length (movesPrint ms) ≤ 64_000 → to + 1 + length (blockPrint (getD ms b [])) ≤ 64_000
+  moves-short h short =
       omega
-      (arith, p .prints .place, p .prints .size, ap length (moves-next ms b h), length-append (codeOf openMove ∷ blockPrint (getD ms b [])) (movesPrint (drop (b + 1) ms)))
+      (arith, writing-behind (p .writing), ap length (moves-next ms b h), length-append (codeOf openMove ∷ blockPrint (getD ms b [])) (movesPrint (drop (b + 1) ms)))
 
   pub moves-step :
       b < length ms
       → {next : List ℕ} {on : ℕ}
-      → PutTo new to (codeOf openMove ∷ blockPrint (getD ms b [])) next on
-      → MovesPrinting ms (b + 1) old start next on
-  moves-step h q =
-      record { within = omega arith; prints = printing-step (printing-rest (p .prints) (moves-next ms b h)) (q .bytes) (q .place) }
+      → Written new to (codeOf openMove ∷ blockPrint (getD ms b [])) next on
+      → MovesWriting ms (b + 1) old start next on
+  moves-step h w = record { within = omega arith; writing = writing-step (writing-rest (p .writing) (moves-next ms b h)) w }
 
-  pub moves-end : length ms ≤ b → Printing old start (movesPrint ms) new to []
-  moves-end h = printing-rest (p .prints) (moves-none ms b (omega (arith, p .within)))
+  pub moves-end : length ms ≤ b → Written old start (movesPrint ms) new to
+  moves-end h = writing-end (writing-rest (p .writing) (moves-none ms b (omega (arith, p .within))))
 
 -- ---- the whole table
 
-pub whole-print :
-    (k : Task) {props vars moves : ℕ} {old a b c d : List ℕ} {goal end : ℕ}
+pub whole-written :
+    (k : Task) {props vars moves : ℕ} {old a b c d : List ℕ} {start goal end size : ℕ}
     → props ≡ k .props
     → vars ≡ k .vars
     → moves ≡ length (k .moves)
-    → Put old 0 (codeOf (head normal) ∷ props ∷ 2 * vars ∷ moves ∷ []) a
-    → PutTo a 4 (movesPrint (k .moves)) b goal
-    → PutTo b goal (codeOf openGoal ∷ blockPrint (k .goal)) c end
-    → Put c end (codeOf endTable ∷ []) d
-    → Put old 0 (normalBytes k) d
-whole-print k {props} {vars} {moves} e f g p q r s =
+    → Written old 0 (codeOf (head normal) ∷ props ∷ 2 * vars ∷ moves ∷ []) a start
+    → Written a start (movesPrint (k .moves)) b goal
+    → Written b goal (codeOf openGoal ∷ blockPrint (k .goal)) c end
+    → Written c end (codeOf endTable ∷ []) d size
+    → Written old 0 (normalBytes k) d size
+whole-written k {props} {vars} {moves} e f g p q r s =
     let rest = movesPrint (k .moves) ++ ((codeOf openGoal ∷ blockPrint (k .goal)) ++ (codeOf endTable ∷ [])) in
-    put-same (put-join p (put-join (q .bytes) (put-join (r .bytes) s (r .place)) (q .place)) refl)
+    written-same (written-join p (written-join q (written-join r s)))
     (ap (λ (n : ℕ). codeOf (head normal) ∷ n ∷ 2 * vars ∷ moves ∷ rest) e
     ∙ ap₂ (λ (n m : ℕ). codeOf (head normal) ∷ k .props ∷ 2 * n ∷ m ∷ rest) f g
     ∙ sym (normal-parts k))

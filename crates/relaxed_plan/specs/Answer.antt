@@ -3,13 +3,12 @@ use Prim.Native.Nat.{ℕ, suc, _+_, _*_, _/_, _≤_, _<_}
 use native.Mathlib.Numerals.{add-one}
 use native.Mathlib.Omega.{arith}
 use mathlib.Core.Path.{_≡_, refl, sym, ap, _∙_, subst}
-use mathlib.Core.Bool.{Bool, true, false, _||_}
-use mathlib.Core.List.{List, []}
+use mathlib.Core.Bool.{Bool, false, _||_}
+use mathlib.Core.List.{List, [], _++_}
 use mathlib.Core.Option.{none}
-use borrow.Author.Tests.{lt-ltb, le-ltb, ltb-false}
-use lib.Dec.{ltb}
+use borrow.Author.Tests.{le-ltb, ltb-false}
 use lib.IntN.{ℤ}
-use lib.ListN.{length}
+use lib.ListN.{length, drop}
 use Rattle.integer.specs.Store.{put}
 use Rattle.model.specs.declared.Refusal.{Refusal}
 use Rattle.model.specs.declared.PlanAnswer.{PlanAnswer}
@@ -21,17 +20,18 @@ use Rattle.model.specs.Layer.{Outcome, reached, exhausted, reported, outcome}
 use Rattle.model.specs.Memory.{room, wrong15, wrong14, overwrite, Built, answered, stopped, stopAt, build, builtMemory}
 use Rattle.model.specs.StateTable.{stateRefusal}
 use Rattle.model.specs.Plan.{Record, firstMoves}
-use Rattle.model.specs.Calls.{writes, fitted, outputAfter, Ready, ready, unready, prepared, memoryOf, decideMemory, recordBytes, planRecords, planned, planFitted, planOf, planAnswer, planMemory, planOutOf, planOut}
-use Rattle.model.specs.Theorems.Booleans.{not-false, or-right}
-use Rattle.model.specs.Theorems.Searching.{firstFrom-cases}
-use Rattle.model.specs.Theorems.Records.{length-recordBytes}
-use Rattle.model.specs.Theorems.WellFormed.{TaskOk}
-use Rattle.model.specs.Theorems.Building.{built-outcome}
-use Rattle.model.specs.Theorems.Memories.{Holds, size, memory-holds}
-use Rattle.model.specs.Theorems.StateSizes.{SmallState, accepted-small, normalState-small}
-use Rattle.model.specs.Theorems.Demand3.{planLayers}
-use Rattle.model.specs.Theorems.EndToEnd.{LayersWithin, plan-within}
-use Rattle.model.specs.Theorems.PlanSizes.{answered-passes, reported-most}
+use Rattle.model.specs.Calls.{writes, fitted, outputAfter, Ready, ready, unready, prepared, memoryOf, decideMemory, recordBytes, planRecords, planned, planFitted, planOf, planAnswer, planMemory, planOutOf, planOut, Output}
+use Rattle.model.specs.Theorems.Laws.Booleans.{not-false, or-right}
+use Rattle.model.specs.Theorems.Laws.Searching.{firstFrom-cases}
+use Rattle.model.specs.Theorems.Plans.Records.{length-recordBytes}
+use Rattle.model.specs.Theorems.Reading.WellFormed.{TaskOk}
+use Rattle.model.specs.Theorems.Layers.Building.{built-outcome}
+use Rattle.model.specs.Theorems.Layers.Memories.{Holds, size, memory-holds}
+use Rattle.model.specs.Theorems.Sizes.States.{SmallState, accepted-small, normalState-small}
+use Rattle.model.specs.Theorems.Campaigns.Demand3.{planLayers}
+use Rattle.model.specs.Theorems.Printing.Outputs.{fitted-whole, fitted-short, plan-whole, plan-short}
+use Rattle.model.specs.Theorems.Campaigns.EndToEnd.{LayersWithin, plan-within}
+use Rattle.model.specs.Theorems.Sizes.Plans.{answered-passes, reported-most}
 use Rattle.table.specs.Outlines.{Outline}
 use Rattle.reader.specs.Parts.{outline-part}
 use Rattle.block.specs.Parts.{move-left, goal-left}
@@ -40,10 +40,14 @@ use Rattle.layers.specs.declared.Built.the-variants as building
 use Rattle.layers.specs.Starting.{startOf}
 use Rattle.layers.specs.Building.{IsBuilt, builtOf}
 use Rattle.layers.specs.Preparing.{ReadyIn}
-use Rattle.relaxed_plan.specs.Search.{Parts}
-use Rattle.relaxed_plan.specs.Layers.{Stored}
-use Rattle.relaxed_plan.specs.Records.{put-overwrite}
-use Rattle.relaxed_plan.specs.Passes.{planRecords as storedRecords}
+use Rattle.achievers.specs.Search.{Parts}
+use Rattle.descent.specs.Layers.{Stored}
+use Rattle.passes.specs.Passes.{planRecords as storedRecords}
+
+-- what is stored at the start is what an answered call leaves
+pub put-overwrite : (l bs : List ℕ) → put l 0 bs ≡ overwrite bs l
+unfolding put overwrite
+put-overwrite l bs = let none : 0 + length bs ≡ length bs = omega arith in ap (λ (i : ℕ). bs ++ drop i l) none
 
 -- ---- what building leaves
 
@@ -117,7 +121,7 @@ module _ {t bs marks : List ℕ} {props vars moves m : ℕ} {mem mem′ : List �
         room = enough;
         small = start-small props bs (r .outlined .ok) (r .counts .vars-is) (r .accepted-state);
         right = λ u h. answered-passes k s (length mem) is-reached u (omega (arith, is-outcome));
-        most = omega (arith, is-outcome, reported-most (r .outlined .ok) s);
+        bounded = omega (arith, is-outcome, reported-most (r .outlined .ok) s);
       }
 
 -- ---- what the call answers and leaves
@@ -160,8 +164,8 @@ module _ (t bs : List ℕ) (mem mem′ : List ℤ) (out : List ℕ) {k : Task} {
 
 -- no records
 none-fit : (n : ℕ) (b : Built) → planFitted n [] b ≡ planned [] b
-unfolding planFitted recordBytes
-none-fit n b = rw (le-ltb n 0 (omega arith), planFitted)
+unfolding recordBytes
+none-fit n b = plan-whole n [] b (omega arith)
 
 none-out : (out : List ℕ) → out ≡ outputAfter (fitted (length out) (writes (recordBytes []))) out
 unfolding recordBytes fitted outputAfter overwrite
@@ -187,18 +191,23 @@ pub record Extracted (rs : List Record) (m : ℕ) (out out′ : List ℕ) (r : P
 module _ (rs : List Record) (m : ℕ) (out : List ℕ) {n first : ℕ} (total : n ≡ length rs) (firsts : first ≡ firstMoves rs) where
   -- "13 | output shorter than the result | 0"
   pub extracted-short : length out < 10 * n → Extracted rs m out out (plan.Refused (record { number = 13; place = 0 }))
-  unfolding planFitted fitted outputAfter
+  unfolding outputAfter
   extracted-short h =
-      let short : ltb (length out) (length (recordBytes rs)) ≡ true = lt-ltb (length out) (length (recordBytes rs)) (omega (arith, length-recordBytes rs)) in
-      record { answers = rw (short, planFitted) refl; writes-is = rw (short, fitted) refl }
+      let short : length out < length (recordBytes rs) = omega (arith, length-recordBytes rs) in
+      record {
+        answers = sym (plan-short (length out) rs (answered (reached m)) short);
+        writes-is = sym (ap (λ (o : Output). outputAfter o out) (fitted-short (length out) (recordBytes rs) short));
+      }
 
   pub extracted-written : {out′ : List ℕ} → 10 * n ≤ length out → out′ ≡ put out 0 (recordBytes rs) → Extracted rs m out out′ (plan.Plan m m n first)
-  unfolding planFitted fitted outputAfter planned
+  unfolding outputAfter planned
   extracted-written h e =
-      let fits : ltb (length out) (length (recordBytes rs)) ≡ false = le-ltb (length out) (length (recordBytes rs)) (omega (arith, length-recordBytes rs)) in
+      let fits : length (recordBytes rs) ≤ length out = omega (arith, length-recordBytes rs) in
       record {
-        answers = rw (fits, planFitted, total, firsts) refl;
-        writes-is = e ∙ put-overwrite out (recordBytes rs) ∙ rw (fits, fitted) refl;
+        answers = rw (total, firsts) (sym (plan-whole (length out) rs (answered (reached m)) fits));
+        writes-is =
+            e ∙ put-overwrite out (recordBytes rs)
+            ∙ sym (ap (λ (o : Output). outputAfter o out) (fitted-whole (length out) (recordBytes rs) fits));
       }
 
 module _ {t bs marks : List ℕ} {props vars moves m : ℕ} {mem mem′ : List ℤ} (out : List ℕ) (r : ReadyIn t bs marks props vars moves) (b : IsBuilt (r .task) (startOf props bs) mem mem′ (building.Reached m)) where

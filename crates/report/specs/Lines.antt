@@ -4,8 +4,9 @@ use native.Mathlib.Omega.{arith}
 use mathlib.Core.Path.{_≡_, refl, sym, ap, _∙_}
 use mathlib.Core.List.{List, [], _++_, append-assoc}
 use lib.ListN.{length, length-append}
-use Rattle.report.specs.Digits.{decimal-byte, decimal-word}
-use Rattle.model.specs.Listing.{decimal, planWord, layersWord, noPlanWord, space, newline}
+use Rattle.output.specs.Digits.{decimal-byte, decimal-word}
+use Rattle.model.specs.declared.Refusal.{Refusal}
+use Rattle.model.specs.Listing.{decimal, planWord, layersWord, noPlanWord, refusalWord, placeWord, space, newline, refusalText}
 
 -- a word, a number and the line's end
 unfoldable pub lineText : List ℕ → ℕ → List ℕ
@@ -62,3 +63,11 @@ record-room move count h k = byte-room [] move space count k h
 pub plan-room : (records layers : ℕ) → records < 2 ^ 64 → layers < 2 ^ 64 → length (planLine records layers) ≤ 54
 unfolding planLine planWord layersWord
 plan-room records layers h k = pair-room planWord records layersWord layers k h
+
+pub no-plan-room : (layers : ℕ) → layers < 2 ^ 64 → length (noPlanText layers) ≤ 36
+unfolding noPlanText noPlanWord layersWord
+no-plan-room layers h = line-room noPlanWord layers h
+
+pub refusal-room : (r : Refusal) → r .number < 2 ^ 64 → r .place < 2 ^ 64 → length (refusalText r) ≤ 56
+unfolding refusalText refusalWord placeWord pairText
+refusal-room r h k = pair-room refusalWord (r .number) placeWord (r .place) k h

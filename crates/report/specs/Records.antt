@@ -1,168 +1,137 @@
 -- The records in the bytes of a plan, and their lines one behind the other. Assumes nothing.
-use Prim.Native.Nat.{ℕ, suc, _+_, _*_, _-_, _^_, _≤_, _<_}
-use native.Mathlib.Numerals.{add-one}
+use Prim.Native.Nat.{ℕ, _+_, _*_, _^_, _≤_, _<_}
 use native.Mathlib.Omega.{arith}
-use mathlib.Core.Path.{_≡_, refl, sym, ap, ap₂, _∙_}
-use mathlib.Core.List.{List, [], _∷_, _++_, append-assoc, append-nil}
-use lib.ListN.{length, getD, take, drop, length-append, take-append-drop}
-use lib.Seq.{take-at, getD-append-add, drop-append-add}
+use mathlib.Core.Path.{_≡_, refl, sym, ap, ap₂, _∙_, subst}
+use mathlib.Core.List.{List, [], _∷_, _++_, append-assoc}
+use lib.ListN.{length, getD, take, drop, length-append}
+use lib.Seq.{take-at, drop-at, drop-drop, getD-drop}
 use Rattle.integer.specs.BigEndian.{unsigned, bytes, length-bytes, unsigned-bytes}
-use Rattle.model.specs.Lists.{tabulate}
 use Rattle.model.specs.Plan.{Record}
 use Rattle.model.specs.Calls.{recordBytes}
 use Rattle.model.specs.Listing.{recordsText}
-use Rattle.model.specs.Theorems.WellFormed.{All}
-use Rattle.model.specs.Theorems.Records.{Bounded}
-use Rattle.report.specs.Writing.{Written, none-written, both}
+use Rattle.model.specs.Theorems.Reading.WellFormed.{All}
+use Rattle.model.specs.Theorems.Plans.Records.{length-recordBytes}
+use Rattle.output.specs.Writing.{Written, Writing, writing-start, writing-rest, writing-behind, writing-step, writing-end}
 use Rattle.report.specs.Lines.{pairText, recordLine, record-room}
-
--- "Record: 52, move (1 byte), count (8 bytes)": record i of a plan's bytes. They do not tell its layer, which no line shows.
-unfoldable pub recordAt : List ℕ → ℕ → Record
-recordAt plan i =
-    record { layer = 0; move = getD plan (10 * i + 1) 0; count = unsigned (take 8 (drop (10 * i + 2) plan)) }
-
--- the first n records
-unfoldable pub recordsIn : List ℕ → ℕ → List Record
-recordsIn plan n = tabulate (recordAt plan) 0 n
 
 -- a record that its bytes hold whole
 pub record Encodable (r : Record) : Type 0 where
   pub move : r .move < 256
   pub count : r .count < 2 ^ 64
 
--- the records of a plan whose task has no more moves than a byte numbers, each with a count of 64 bits
-pub encodable :
-    (layers moves : ℕ) (rs : List Record)
-    → moves ≤ 256
-    → All (Bounded layers moves) rs
-    → All (λ (r : Record). r .count < 2 ^ 64) rs
-    → All Encodable rs
-encodable layers moves [] few a b = tt
-encodable layers moves (r ∷ rs) few a b =
-    let first : r .move < moves = a .0 .move in
-    (record { move = omega arith; count = b .0 }, encodable layers moves rs few (a .1) (b .1))
+-- the plan's bytes begin with those of the n records rs
+pub record Planned (plan : List ℕ) (n : ℕ) (rs : List Record) : Type 0 where
+  pub many : n ≡ length rs
+  pub behind : List ℕ
+  pub is : plan ≡ recordBytes rs ++ behind
+  pub small : All Encodable rs
+
+pub record Listable (plan : List ℕ) (n : ℕ) : Type 0 where
+  pub records : List Record
+  pub planned : Planned plan n records
+
+pub planned-long : {plan : List ℕ} {n : ℕ} {rs : List Record} → Planned plan n rs → 10 * n ≤ length plan
+planned-long {plan} {n} {rs} p =
+    omega (arith, p .many, ap length (p .is), length-append (recordBytes rs) (p .behind), length-recordBytes rs)
 
 records-line : (r : Record) (rs : List Record) → recordsText (r ∷ rs) ≡ recordLine (r .move) (r .count) ++ recordsText rs
 unfolding recordsText recordLine pairText
 records-line r rs = refl
 
--- ---- reading back what was written
+pub records-room : (rs : List Record) → All Encodable rs → length (recordsText rs) ≤ 25 * length rs
+unfolding recordsText
+records-room [] small = omega arith
+records-room (r ∷ rs) small =
+    omega
+    (arith, ap length (records-line r rs), length-append (recordLine (r .move) (r .count)) (recordsText rs), record-room (r .move) (r .count) (small .0 .move) (small .0 .count), records-room rs (small .1))
 
--- the bytes of one record
-abbrev one : Record → List ℕ
-one r = 0x52 ∷ r .move ∷ bytes 8 (r .count)
+-- ---- "Record: 52, move (1 byte), count (8 bytes)": the first of the records that stand from an offset on
 
-module _ (r : Record) (before behind : List ℕ) (i : ℕ) (at : length before ≡ 10 * i) (plan : List ℕ) (is : plan ≡ before ++ (one r ++ behind)) where
-  move-at : recordAt plan i .move ≡ r .move
-  unfolding recordAt
-  move-at = rw (is, ← at) (getD-append-add before (one r ++ behind) 1 0)
+module _ (plan : List ℕ) (i : ℕ) {m : ℕ} {r : Record} {rs : List Record} (p : Planned (drop (10 * i) plan) m (r ∷ rs)) where
+  -- behind the two bytes before the count
+  count-bytes : drop 2 (drop (10 * i) plan) ≡ bytes 8 (r .count) ++ (recordBytes rs ++ p .behind)
+  unfolding recordBytes
+  count-bytes = ap (drop 2) (p .is) ∙ append-assoc (bytes 8 (r .count)) (recordBytes rs) (p .behind)
 
-  count-at : r .count < 2 ^ 64 → recordAt plan i .count ≡ r .count
-  unfolding recordAt
-  count-at h =
-      rw (is, ← at, drop-append-add before (one r ++ behind) 2, take-at (bytes 8 (r .count)) behind 8 (length-bytes 8 (r .count)))
-      (unsigned-bytes 8 (r .count) h)
+  move-read : getD plan (10 * i + 1) 0 ≡ r .move
+  unfolding recordBytes
+  move-read = sym (getD-drop (10 * i) plan 1 0) ∙ ap (λ (l : List ℕ). getD l 1 0) (p .is)
 
--- behind i records stand those of rs: the lines of what is read there are theirs
-text-from :
-    (rs : List Record) (before behind : List ℕ) (i : ℕ) (plan : List ℕ)
-    → All Encodable rs
-    → length before ≡ 10 * i
-    → plan ≡ before ++ (recordBytes rs ++ behind)
-    → recordsText (tabulate (recordAt plan) i (length rs)) ≡ recordsText rs
-unfolding tabulate recordBytes
-text-from [] before behind i plan small at is = refl
-text-from (r ∷ rs) before behind i plan small at is =
-    let rest = recordBytes rs ++ behind in
-    let first : plan ≡ before ++ (one r ++ rest) = is ∙ ap (λ (l : List ℕ). before ++ l) (append-assoc (one r) (recordBytes rs) behind) in
-    let next : plan ≡ before ++ one r ++ rest = first ∙ sym (append-assoc before (one r) rest) in
-    let more : length (before ++ one r) ≡ 10 * suc i = omega (arith, length-append before (one r), length-bytes 8 (r .count)) in
-    records-line (recordAt plan i) (tabulate (recordAt plan) (suc i) (length rs))
-    ∙ ap₂ _++_
-    (ap₂ recordLine (move-at r before rest i at plan first) (count-at r before rest i at plan first (small .0 .count)))
-    (text-from rs (before ++ one r) behind (suc i) plan (small .1) more next)
-    ∙ sym (records-line r rs)
+  count-read : unsigned (take 8 (drop (10 * i + 2) plan)) ≡ r .count
+  count-read =
+      ap (λ (l : List ℕ). unsigned (take 8 l)) (sym (drop-drop 2 (10 * i) plan) ∙ count-bytes)
+      ∙ ap unsigned (take-at (bytes 8 (r .count)) (recordBytes rs ++ p .behind) 8 (length-bytes 8 (r .count)))
+      ∙ unsigned-bytes 8 (r .count) (p .small .0 .count)
 
--- a plan's bytes begin with those of rs
-pub records-text :
-    (rs : List Record) (plan behind : List ℕ)
-    → All Encodable rs
-    → plan ≡ recordBytes rs ++ behind
-    → recordsText (recordsIn plan (length rs)) ≡ recordsText rs
-unfolding recordsIn
-records-text rs plan behind small is = text-from rs [] behind 0 plan small refl is
-
-pub records-text-of :
-    (rs : List Record) (plan : List ℕ)
-    → All Encodable rs
-    → take (10 * length rs) plan ≡ recordBytes rs
-    → recordsText (recordsIn plan (length rs)) ≡ recordsText rs
-records-text-of rs plan small is =
-    let n = 10 * length rs in
-    records-text rs plan (drop n plan) small
-    (sym (take-append-drop n plan) ∙ ap (λ (l : List ℕ). l ++ drop n plan) is)
+  others-planned : Planned (drop (10 * (i + 1)) plan) (length rs) rs
+  others-planned =
+      let e : 10 * (i + 1) ≡ 10 * i + 2 + 8 = omega arith in
+      record {
+        many = refl;
+        behind = p .behind;
+        is =
+            ap (λ (n : ℕ). drop n plan) e
+            ∙ sym (drop-drop 8 (10 * i + 2) plan)
+            ∙ ap (drop 8) (sym (drop-drop 2 (10 * i) plan) ∙ count-bytes)
+            ∙ drop-at (bytes 8 (r .count)) (recordBytes rs ++ p .behind) 8 (length-bytes 8 (r .count));
+        small = p .small .1;
+      }
 
 -- ---- line by line: those of the first i records are written
 
-pub record Listed (old : List ℕ) (at : ℕ) (plan : List ℕ) (n : ℕ) (new : List ℕ) (next i : ℕ) : Type 0 where
-  pub within : i ≤ n
-  pub done : List ℕ
-  pub so-far : Written old at done new next
-  pub few : length done ≤ 25 * i
-  pub whole : recordsText (recordsIn plan n) ≡ done ++ recordsText (tabulate (recordAt plan) i (n - i))
+pub record Listed (old : List ℕ) (at : ℕ) (plan : List ℕ) (rs : List Record) (new : List ℕ) (next i : ℕ) : Type 0 where
+  pub rest : List Record
+  pub passed : i + length rest ≡ length rs
+  pub left : Planned (drop (10 * i) plan) (length rest) rest
+  pub writing : Writing old at (recordsText rs) new next (recordsText rest)
 
-module _ {old : List ℕ} {at : ℕ} {plan : List ℕ} {n : ℕ} where
-  pub listed-none : at ≤ length old → Listed old at plan n old at 0
-  unfolding recordsIn
-  listed-none room =
-      let e : n ≡ n - 0 = omega arith in
-      record {
-        within = omega arith;
-        done = [];
-        so-far = none-written old at room;
-        few = omega arith;
-        whole = ap (λ (k : ℕ). recordsText (tabulate (recordAt plan) 0 k)) e;
-      }
+pub listed-none : (old : List ℕ) (at : ℕ) {plan : List ℕ} {n : ℕ} {rs : List Record} → Planned plan n rs → Listed old at plan rs old at 0
+listed-none old at {rs = rs} p =
+    record {
+      rest = rs;
+      passed = omega arith;
+      left = record { many = refl; behind = p .behind; is = p .is; small = p .small };
+      writing = writing-start old at (recordsText rs);
+    }
 
-  module _ {new : List ℕ} {next i : ℕ} (l : Listed old at plan n new next i) where
-    -- the next line has room
-    pub next-room : at + 25 * n ≤ length old → i < n → next + 25 ≤ length new
-    next-room room h = omega (arith, l .within, l .so-far, l .few)
+module _ {old : List ℕ} {at : ℕ} {plan : List ℕ} {rs : List Record} {new : List ℕ} {next i : ℕ} (l : Listed old at plan rs new next i) where
+  pub next-room : {n : ℕ} → Planned plan n rs → next ≤ at + 25 * n
+  next-room {n} p = omega (arith, p .many, writing-behind (l .writing), records-room rs (p .small))
 
-    pub listed-next :
-        i < n
-        → {move count : ℕ}
-        → move ≡ getD plan (10 * i + 1) 0
-        → move < 256
-        → count ≡ unsigned (take 8 (drop (10 * i + 2) plan))
-        → count < 2 ^ 64
-        → {new′ : List ℕ} {next′ : ℕ}
-        → Written new next (recordLine move count) new′ next′
-        → Listed old at plan n new′ next′ (i + 1)
-    unfolding tabulate recordAt
-    listed-next h {move} {count} m small c low w =
-        let rest = tabulate (recordAt plan) (suc i) (n - (i + 1)) in
-        let e : n - i ≡ suc (n - (i + 1)) = omega arith in
-        let line : recordsText (tabulate (recordAt plan) i (n - i)) ≡ recordLine move count ++ recordsText rest =
-        ap (λ (k : ℕ). recordsText (tabulate (recordAt plan) i k)) e
-        ∙ records-line (recordAt plan i) rest
-        ∙ ap₂ (λ (x y : ℕ). recordLine x y ++ recordsText rest) (sym m) (sym c) in
-        record {
-          within = omega arith;
-          done = l .done ++ recordLine move count;
-          so-far = both (l .so-far) w;
-          few = omega (arith, length-append (l .done) (recordLine move count), l .few, record-room move count small low);
-          whole =
-              l .whole
-              ∙ ap (λ (xs : List ℕ). l .done ++ xs) line
-              ∙ sym (append-assoc (l .done) (recordLine move count) (recordsText rest))
-              ∙ ap (λ (j : ℕ). l .done ++ recordLine move count ++ recordsText (tabulate (recordAt plan) j (n - (i + 1)))) (sym (add-one i));
-        }
+  pub listed-next :
+      i < length rs
+      → {move count : ℕ}
+      → move ≡ getD plan (10 * i + 1) 0
+      → count ≡ unsigned (take 8 (drop (10 * i + 2) plan))
+      → {new′ : List ℕ} {next′ : ℕ}
+      → Written new next (recordLine move count) new′ next′
+      → Listed old at plan rs new′ next′ (i + 1)
+  listed-next h {move} {count} m c {new′} {next′} w = go (l .rest) (l .passed) (l .left) (l .writing)
+    where
+      go :
+          (rest : List Record)
+          → i + length rest ≡ length rs
+          → Planned (drop (10 * i) plan) (length rest) rest
+          → Writing old at (recordsText rs) new next (recordsText rest)
+          → Listed old at plan rs new′ next′ (i + 1)
+      go [] p q v = absurd (omega arith)
+      go (r ∷ others) p q v =
+          let line : recordLine move count ≡ recordLine (r .move) (r .count) = ap₂ recordLine (m ∙ move-read plan i q) (c ∙ count-read plan i q) in
+          record {
+            rest = others;
+            passed = omega arith;
+            left = others-planned plan i q;
+            writing = writing-step (writing-rest v (records-line r others)) (subst (λ (bs : List ℕ). Written new next bs new′ next′) line w);
+          }
 
-    pub listed-all : n ≤ i → Written old at (recordsText (recordsIn plan n)) new next
-    unfolding tabulate recordsText
-    listed-all h =
-        let e : n - i ≡ 0 = omega arith in
-        let w : recordsText (recordsIn plan n) ≡ l .done =
-        l .whole ∙ ap (λ (k : ℕ). l .done ++ recordsText (tabulate (recordAt plan) i k)) e ∙ append-nil (l .done) in
-        rw w (l .so-far)
+  pub listed-all : length rs ≤ i → Written old at (recordsText rs) new next
+  unfolding recordsText
+  listed-all h = go (l .rest) (l .passed) (l .writing)
+    where
+      go :
+          (rest : List Record)
+          → i + length rest ≡ length rs
+          → Writing old at (recordsText rs) new next (recordsText rest)
+          → Written old at (recordsText rs) new next
+      go [] p v = writing-end v
+      go (r ∷ others) p v = absurd (omega arith)

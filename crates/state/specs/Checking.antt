@@ -19,8 +19,8 @@ use Rattle.model.specs.declared.Refusal.{Refusal}
 use Rattle.model.specs.Limits.{paper}
 use Rattle.model.specs.Lists.{firstFrom}
 use Rattle.model.specs.StateTable.{valueOffset, stateValue, valueInRange, refusedValue, refusedByte, stateRefusal}
-use Rattle.model.specs.Theorems.Booleans.{true-T, T-cases, false-not, not-false as fails}
-use Rattle.model.specs.Theorems.Searching.{firstFrom-cases}
+use Rattle.model.specs.Theorems.Laws.Booleans.{true-T, T-cases, false-not, not-false as fails}
+use Rattle.model.specs.Theorems.Laws.Searching.{firstFrom-cases}
 
 unfoldable pub checkOf : StateCheck → Option Refusal
 checkOf Accepted = none

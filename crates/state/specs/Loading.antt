@@ -16,7 +16,7 @@ use Rattle.model.specs.Memory.{overwrite}
 use Rattle.model.specs.Move.{State}
 use Rattle.model.specs.NormalForm.{normalState}
 use Rattle.model.specs.StateTable.{valueOffset, stateValue, stateOf, stateRefusal}
-use Rattle.model.specs.Theorems.Booleans.{cond-cases}
+use Rattle.model.specs.Theorems.Laws.Booleans.{cond-cases}
 use Rattle.state.specs.Checking.{accepted-values}
 use Rattle.state.specs.Overwriting.{length-written, written-none, written-next}
 

@@ -1,17 +1,18 @@
 -- Tables written over the start of a list: `overwrite (tabulate f 0 n) old`. One more entry is one store; what each element is.
 -- Assumes nothing.
-use Prim.Native.Nat.{ℕ, zero, suc, _+_, _-_, _≤_, _<_}
+use Prim.Native.Nat.{ℕ, zero, suc, _+_, _≤_, _<_}
 use native.Mathlib.Nat.{add-zero, zero-add, suc-add, add-suc}
 use native.Mathlib.Numerals.{add-one}
 use native.Mathlib.Omega.{arith}
 use mathlib.Core.Path.{_≡_, refl, sym, ap, _∙_}
 use mathlib.Core.List.{List, [], _∷_, _++_, append-assoc}
-use lib.ListN.{length, getD, set, drop, length-append, length-drop, List·getD-append}
-use lib.Seq.{drop-cons, getD-drop, getD-append-add, set-at}
+use lib.ListN.{length, getD, set, drop, length-append}
+use lib.Seq.{drop-cons, set-at}
 use Rattle.integer.specs.Store.{put, put-append}
 use Rattle.model.specs.Lists.{tabulate}
 use Rattle.model.specs.Memory.{overwrite}
-use Rattle.model.specs.Theorems.Searching.{length-tabulate, getD-tabulate}
+use Rattle.model.specs.Theorems.Laws.Searching.{length-tabulate, getD-tabulate}
+use Rattle.model.specs.Theorems.Printing.Outputs.{overwrite-at, overwrite-past, length-overwrite, put-first}
 
 -- ---- tables
 
@@ -32,27 +33,6 @@ unfolding tabulate
 tabulate-same f g i zero h = refl
 tabulate-same {A} f g i (suc n) h =
     rw (h i (omega arith) (omega arith), tabulate-same f g (suc i) n (λ j a b. h j (omega arith) (omega arith))) refl
-
--- ---- what an overwritten list is
-
-module _ {A : Type 0} (new old : List A) (d : A) where
-  pub overwrite-at : (i : ℕ) → i < length new → getD (overwrite new old) i d ≡ getD new i d
-  unfolding overwrite
-  overwrite-at i h = List·getD-append new (drop (length new) old) d i h
-
-  pub overwrite-past : (i : ℕ) → length new ≤ i → getD (overwrite new old) i d ≡ getD old i d
-  unfolding overwrite
-  overwrite-past i h =
-      let e : i ≡ length new + (i - length new) = omega arith in
-      rw e
-      (getD-append-add new (drop (length new) old) (i - length new) d ∙ getD-drop (length new) old (i - length new) d)
-
-pub length-overwrite :
-    {A : Type 0} (new old : List A)
-    → length new ≤ length old
-    → length (overwrite new old) ≡ length old
-unfolding overwrite
-length-overwrite new old h = rw (length-append new (drop (length new) old), length-drop (length new) old) (omega arith)
 
 -- ---- tables written over the start of a list
 
@@ -89,18 +69,14 @@ module _ {A : Type 0} (f : ℕ → A) (old : List A) where
       ∙ set-at new (getD old n (f n)) r (f n) n (length-tabulate f 0 n)
       ∙ sym (append-assoc new (f n ∷ []) r))
 
--- a store at the start, and one behind what was written
-pub put-first : (bs old : List ℕ) → put old 0 bs ≡ overwrite bs old
-unfolding overwrite put
-put-first bs old = rw (zero-add (length bs)) refl
-
+-- a store behind what was written
 pub overwrite-put :
     (bs cs old : List ℕ) (at : ℕ)
     → length bs ≡ at
     → at ≤ length old
     → put (overwrite bs old) at cs ≡ overwrite (bs ++ cs) old
 overwrite-put bs cs old at e h =
-    ap (λ (l : List ℕ). put l at cs) (sym (put-first bs old))
+    ap (λ (l : List ℕ). put l at cs) (sym (put-first old bs))
     ∙ ap (λ (n : ℕ). put (put old 0 bs) n cs) (sym (zero-add (length bs) ∙ e))
     ∙ put-append old 0 bs cs (omega arith)
-    ∙ put-first (bs ++ cs) old
+    ∙ put-first old (bs ++ cs)

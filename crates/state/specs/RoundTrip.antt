@@ -17,7 +17,7 @@ use Rattle.model.specs.Limits.{paper}
 use Rattle.model.specs.Lists.{tabulate}
 use Rattle.model.specs.Move.{State}
 use Rattle.model.specs.StateTable.{valueOffset, stateValue, stateOf, stateRefusal, truthByte, valuesBytes, stateBytes}
-use Rattle.model.specs.Theorems.Searching.{length-tabulate, getD-tabulate}
+use Rattle.model.specs.Theorems.Laws.Searching.{length-tabulate, getD-tabulate}
 use Rattle.state.specs.Checking.{state-accepted}
 use Rattle.state.specs.Storing.{length-stateBytes}
 

@@ -14,7 +14,7 @@ use Rattle.model.specs.Lists.{tabulate}
 use Rattle.model.specs.Memory.{overwrite}
 use Rattle.model.specs.Move.{State}
 use Rattle.model.specs.StateTable.{truthByte, valuesBytes, stateBytes}
-use Rattle.model.specs.Theorems.Searching.{length-tabulate}
+use Rattle.model.specs.Theorems.Laws.Searching.{length-tabulate}
 use Rattle.state.specs.Overwriting.{tabulate-last, tabulate-same, overwrite-put}
 
 -- the state whose truths and values stand in two arrays

@@ -8,48 +8,33 @@ use mathlib.Core.List.{List, [], _∷_}
 use mathlib.Core.Option.{Option, none, some}
 use lib.Dec.{leb·zero}
 use lib.ListN.{length, getD, replicate, length-replicate}
-use borrow.Author.Tests.{lt-ltb, le-ltb, ne-eqb}
+use borrow.Author.Tests.{lt-ltb, le-ltb, eq-eqb, ne-eqb}
 use Rattle.model.specs.declared.Refusal.{Refusal}
 use Rattle.model.specs.declared.ReadAnswer.{ReadAnswer}
 use Rattle.model.specs.declared.ReadAnswer.the-variants as read
 use Rattle.model.specs.Limits.{paper}
 use Rattle.model.specs.Lists.{all, any, anyBelow}
-use Rattle.model.specs.Task.{Item, Block}
+use Rattle.model.specs.Task.{written, Item, Block}
 use Rattle.model.specs.Task as task
 use Rattle.model.specs.Circle.{itemEdge, edge, circular}
-use Rattle.model.specs.Command.{Command, head, codeOf, commandOf}
-use Rattle.model.specs.Reading.{Head, Table, Verdict, accepted, refused, Wanted, Place, start, preamble, inMove, inGoal, finished, Seen, nothingSeen, opened, closed, refusal, advance, tableOf, verdictOf, atEnd, Step, more, done, stepWith, readCommand, continue, readFrom, lengthLimit, reading}
+use Rattle.model.specs.Command.{Command, head, codeOf, commandOf, Place, start, preamble, inMove, inGoal, finished}
+use Rattle.model.specs.Reading.{Head, Table, Verdict, accepted, refused, Wanted, Seen, nothingSeen, opened, closed, refusal, advance, tableOf, verdictOf, atEnd, Step, more, done, stepWith, readCommand, continue, readFrom, lengthLimit, reading}
 use Rattle.model.specs.Calls.{readOf}
-use Rattle.table.specs.declared.Cursor.{Cursor}
-use Rattle.table.specs.declared.Form.the-variants as form
-use Rattle.table.specs.declared.Place as code
-use Rattle.table.specs.declared.Place.the-variants.{Start, Preamble, InMove, InGoal, Finished}
-use Rattle.table.specs.declared.Check.the-variants.{Passes, Refused}
-use Rattle.table.specs.Names.{formOf, placeOf}
-use Rattle.table.specs.State.{Stage, Valid, cursorRefusal, checkOf, passes-none}
-use Rattle.table.specs.Stamps.{needs, changes, affects, Stamped}
-use Rattle.table.specs.Edges.{tableEdge, drawn-none, circularIn, circular-same}
-use Rattle.table.specs.Marks.{marks-none}
-use Rattle.table.specs.Tracks.{headOf, Tracks, tracks-refusal}
-use Rattle.table.specs.Advance.{Advanced}
+use Rattle.cursor.specs.declared.Cursor.{Cursor}
+use Rattle.command.specs.declared.Form.the-variants as form
+use Rattle.command.specs.declared.Place as code
+use Rattle.command.specs.declared.Place.the-variants.{Start, Preamble, InMove, InGoal, Finished}
+use Rattle.cursor.specs.declared.Check.the-variants.{Passes, Refused}
+use Rattle.command.specs.Names.{formOf, placeOf}
+use Rattle.cursor.specs.State.{startCursor, Stage, Valid, cursorRefusal, checkOf, passes-none}
+use Rattle.advance.specs.Stamps.{needs, changes, affects, Stamped}
+use Rattle.advance.specs.Edges.{drawn-none}
+use Rattle.circle.specs.Walks.{tableEdge, circularIn, circular-same}
+use Rattle.advance.specs.Marks.{marks-none}
+use Rattle.advance.specs.Tracks.{headOf, Tracks, tracks-refusal}
+use Rattle.advance.specs.Steps.{Advanced}
 
 -- ---- the start
-
-unfoldable pub startCursor : Cursor
-startCursor =
-    record {
-      at = 0;
-      place = Start;
-      form = form.Written;
-      props = 0;
-      vars = 0;
-      moves = 0;
-      opened = 0;
-      terms = 0;
-      next = 0;
-      marked = 0;
-      stamp = 1;
-    }
 
 stamped-start : (names : ℕ → Item → Bool) (n : ℕ) → Stamped names n 1 [] (replicate n 0)
 unfolding any
@@ -316,18 +301,18 @@ reach-end {w} {t} {c} {nd} {ch} {af} {es} {mk} h past = go (c .place) (h .tracks
 
 -- ---- the limit, by the first byte
 
-pub limit-empty : (t : List ℕ) → length t ≡ 0 → 64000 ≡ lengthLimit paper Wanted.both t
-unfolding lengthLimit paper codeOf
+pub limit-empty : (t : List ℕ) → length t ≡ 0 → paper .normalLength ≡ lengthLimit paper Wanted.both t
+unfolding lengthLimit codeOf
 limit-empty [] e = refl
 limit-empty (x ∷ t) e = absurd (omega arith)
 
-pub limit-written : (t : List ℕ) → getD t 0 0 ≡ 0x54 → 32000 ≡ lengthLimit paper Wanted.both t
-unfolding lengthLimit paper codeOf
-limit-written t e = rw e refl
+pub limit-written : (t : List ℕ) → getD t 0 0 ≡ codeOf (head written) → paper .writtenLength ≡ lengthLimit paper Wanted.both t
+unfolding lengthLimit
+limit-written t e = rw (eq-eqb (getD t 0 0) (codeOf (head written)) e) refl
 
-pub limit-other : (t : List ℕ) → (getD t 0 0 ≡ 0x54 → ⊥) → 64000 ≡ lengthLimit paper Wanted.both t
-unfolding lengthLimit paper codeOf
-limit-other t e = rw (ne-eqb (getD t 0 0) 0x54 e) refl
+pub limit-other : (t : List ℕ) → (getD t 0 0 ≡ codeOf (head written) → ⊥) → paper .normalLength ≡ lengthLimit paper Wanted.both t
+unfolding lengthLimit
+limit-other t e = rw (ne-eqb (getD t 0 0) (codeOf (head written)) e) refl
 
 pub reach-begin :
     (w : Wanted) (t : List ℕ) {c : Cursor} {nd ch af : List ℕ} {es : List Bool} (mk : List ℕ)

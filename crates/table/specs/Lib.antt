@@ -1,13 +1,3 @@
 pub mod Names
-pub mod Codes
-pub mod Checks
-pub mod Ranges
-pub mod State
-pub mod Passing
-pub mod Stamps
-pub mod Edges
-pub mod Marks
-pub mod Tracks
-pub mod Advance
 pub mod Answer
 pub mod Outlines

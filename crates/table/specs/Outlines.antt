@@ -15,9 +15,9 @@ use Rattle.model.specs.Limits.{paper}
 use Rattle.model.specs.Task.{Form, Task}
 use Rattle.model.specs.Command.{openMove, openGoal, codeOf, itemsBytes, taskBytes}
 use Rattle.model.specs.Reading.{Table, accepted, refused, only, lengthLimit, reading}
-use Rattle.model.specs.Theorems.WellFormed.{TaskOk}
-use Rattle.model.specs.Theorems.Accepted.{Accepted, reading-accepted, reading-form, reading-head}
-use Rattle.model.specs.Theorems.Parts.{move-part, goal-part}
+use Rattle.model.specs.Theorems.Reading.WellFormed.{TaskOk}
+use Rattle.model.specs.Theorems.Reading.Accepted.{Accepted, reading-accepted, reading-form, reading-head}
+use Rattle.model.specs.Theorems.Reading.Parts.{move-part, goal-part}
 use Rattle.table.specs.Answer.{Outlined, answer-accepted, answer-refused}
 
 -- a part by its start and its length

@@ -14,8 +14,8 @@ use Rattle.state.specs.Overwriting.{length-written, written-at}
 use Rattle.model.specs.Move.{State}
 use Rattle.model.specs.StateTable.{valueInRange, stateBytes}
 use Rattle.model.specs.Calls.{writes, turns, resultOf}
-use Rattle.model.specs.Theorems.Booleans.{T-true, T-equal, true-T, false-not, not-false}
-use Rattle.model.specs.Theorems.Searching.{allBelow-at, at-allBelow}
+use Rattle.model.specs.Theorems.Laws.Booleans.{T-true, T-equal, true-T, false-not, not-false}
+use Rattle.model.specs.Theorems.Laws.Searching.{allBelow-at, at-allBelow}
 use Rattle.state.specs.Checking.{range-size}
 use Rattle.state.specs.Storing.{stateIn, stateBytes-same}
 

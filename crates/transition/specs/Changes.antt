@@ -13,7 +13,7 @@ use lib.Seq.{getD-set-other}
 use Rattle.model.specs.Lists.{any}
 use Rattle.model.specs.Task.{Effect, need, add, delete, condition, effect, Block, isAdd, isDelete, adds, deletes, effectOn, clashes}
 use Rattle.model.specs.Move.{State, value, changed, changedBy}
-use Rattle.model.specs.Theorems.Booleans.{not-false}
+use Rattle.model.specs.Theorems.Laws.Booleans.{not-false}
 
 -- ---- named once
 

@@ -1,7 +1,7 @@
 -- One move of an accepted table on an accepted state: its conditions, its result. Assumes nothing.
 use Prim.Native.Nat.{ℕ, _+_, _*_, _≤_, _<_}
 use native.Mathlib.Omega.{arith}
-use mathlib.Core.Path.{_≡_, refl, subst}
+use mathlib.Core.Path.{_≡_, refl}
 use mathlib.Core.Bool.{Bool, true, false}
 use mathlib.Core.List.{List}
 use lib.IntN.{ℤ, pos}
@@ -10,15 +10,13 @@ use Rattle.model.specs.Limits.{paper}
 use Rattle.model.specs.Task.{written, Block}
 use Rattle.model.specs.Move.{State, applicable, real}
 use Rattle.model.specs.StateTable.{stateOf}
-use Rattle.model.specs.Calls.{Output, turns, fitted, resultOf}
-use Rattle.model.specs.declared.WriteAnswer.{WriteAnswer}
-use Rattle.model.specs.Theorems.WellFormed.{Once}
+use Rattle.model.specs.Calls.{Output, turns, resultOf}
+use Rattle.model.specs.Theorems.Reading.WellFormed.{Once}
 use Rattle.block.specs.Items.{Ranges, Left}
 use Rattle.block.specs.Sums.{Row}
 use Rattle.block.specs.Blocks.{StateRow, Testable, IsApplicable}
 use Rattle.state.specs.Checking.{AcceptedState}
 use Rattle.state.specs.Storing.{stateIn}
-use Rattle.normal.specs.Answers.{Answered}
 use Rattle.transition.specs.Running.{Runs, Runnable, Ran}
 use Rattle.transition.specs.Answers.{result-same}
 
@@ -98,9 +96,6 @@ module _ {part state : List ℕ} {props vars : ℕ} (m : Movable part state prop
           result-same props vars (stateIn has′ next′) (real b (stateOf props state)) (r .truths) (r .values)
 
 -- ---- the answer
-
-pub answered-same : {o p : Output} {old new : List ℕ} {r : WriteAnswer} → Answered (fitted (length old) o) old new r → o ≡ p → Answered (fitted (length old) p) old new r
-answered-same {o} {p} {old} {new} {r} a e = subst (λ (x : Output). Answered (fitted (length old) x) old new r) e a
 
 -- "11 | conditions fail | 0"
 unfoldable pub movedBy : ℕ → ℕ → State → Block → Output

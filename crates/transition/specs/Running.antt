@@ -13,7 +13,7 @@ use lib.Seq.{getD-set-same}
 use Rattle.model.specs.Lists.{any}
 use Rattle.model.specs.Task.{Effect, Item, need, add, delete, effect, Block, isAdd, isDelete, adds, deletes, effectOn, clashes}
 use Rattle.model.specs.Move.{State, value, changed, real}
-use Rattle.model.specs.Theorems.WellFormed.{Once}
+use Rattle.model.specs.Theorems.Reading.WellFormed.{Once}
 use Rattle.block.specs.Items.{Ranges, Left, Followed, ConditionFound, EffectFound}
 use Rattle.block.specs.Sums.{Row}
 use Rattle.transition.specs.Changes.{truthAfter, valueAfter, value-start, truth-add, truth-add-other, truth-delete, truth-delete-other, effect-here, effect-other, no-effect, at-other}

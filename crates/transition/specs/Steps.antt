@@ -13,13 +13,13 @@ use Rattle.model.specs.Task.{written}
 use Rattle.model.specs.Move.{moveAt}
 use Rattle.model.specs.Reading.{Verdict, refused, only, reading}
 use Rattle.model.specs.StateTable.{stateOf, stateRefusal}
-use Rattle.model.specs.Calls.{turns, fitted, moved, stepWithState, stepOf, stepped, stepAnswer, stepOut}
-use Rattle.model.specs.Theorems.Layers.{move-ok}
+use Rattle.model.specs.Calls.{turns, moved, stepWithState, stepOf, stepped, stepAnswer, stepOut}
+use Rattle.model.specs.Theorems.Layers.NextLayer.{move-ok}
 use Rattle.state.specs.Checking.{accepted-state}
 use Rattle.table.specs.Outlines.{partAt, HeadRead}
 use Rattle.reader.specs.Parts.{PartIn, outline-part}
 use Rattle.block.specs.Parts.{move-left}
-use Rattle.normal.specs.Answers.{Answered}
+use Rattle.output.specs.Answers.{Answered}
 use Rattle.transition.specs.Moving.{Chosen, Movable, movedBy}
 
 -- an accepted written table, with the offsets of its blocks
@@ -94,7 +94,7 @@ module _ {t marks : List ℕ} {props vars moves : ℕ} (h : Read t marks props v
 
 pub step-answered :
     (t bs : List ℕ) (b : ℕ) {old new : List ℕ} {r : WriteAnswer}
-    → Answered (fitted (length old) (stepOf paper (reading paper (only written) t) bs b)) old new r
+    → Answered (stepOf paper (reading paper (only written) t) bs b) old new r
     → (r ≡ stepAnswer paper t bs b old) × (new ≡ stepOut paper t bs b old)
 unfolding stepAnswer stepOut stepped
 step-answered t bs b a = (a .answer, a .output)

@@ -6,11 +6,12 @@ use mathlib.Core.Bool.{Bool, true, false}
 use mathlib.Core.List.{List}
 use lib.IntN.{ℤ, pos, natAbs}
 use lib.ListN.{length, getD, set, length-set}
+use Rattle.model.specs.Limits.{largestValue}
 use Rattle.model.specs.Reading.{kindOf}
 use Rattle.model.specs.Task.{Kind, decrease, Effect, Block}
 use Rattle.model.specs.Move.{State, value, changed}
-use Rattle.model.specs.Theorems.PrintedOperands.{kind-back}
-use Rattle.block.specs.Items.{Ranges, Readable, readable, EffectIs, Found, Next}
+use Rattle.model.specs.Theorems.Printing.Operands.{kind-back}
+use Rattle.block.specs.Items.{Ranges, Readable, readable, left-end, EffectIs, Found, behind, Moves, Next, next-ahead}
 use Rattle.block.specs.declared.ItemAt.{ItemAt}
 use Rattle.block.specs.declared.ItemAt.the-variants.{Need, Add, Delete, Condition as ConditionAt, Effect as EffectAt, End}
 use Rattle.block.specs.Sums.{Row, IsValue}
@@ -52,7 +53,7 @@ module _ {k : Ranges} {part : List ℕ} {kd v : ℕ} {z : ℤ} {from n : ℕ} {v
   over-value : getD values v (pos 0) ≡ s .val v
   over-value = g .reads .same v over-small
 
-  pub over-size : natAbs (getD values v (pos 0)) ≤ 1_000_000_000_000
+  pub over-size : natAbs (getD values v (pos 0)) ≤ largestValue
   over-size = rw over-value (g .reads .size v over-small)
 
   pub over-result :
@@ -70,6 +71,25 @@ pub record Going (part : List ℕ) (values : List ℤ) (has₀ : List Bool) (nex
   pub same-has : length has ≡ length has₀
   pub same-next : length next ≡ length next₀
   pub is : (k : Ranges) (b : Block) (s : State) → Runs part values has₀ next₀ k b s → Running k part b s at has next
+
+-- the same offset and arrays
+pub going-same :
+    {part : List ℕ} {values : List ℤ} {has₀ : List Bool} {next₀ : List ℤ} {at to : ℕ} {has has′ : List Bool} {next next′ : List ℤ}
+    → Going part values has₀ next₀ at has next
+    → to ≡ at
+    → has′ ≡ has
+    → next′ ≡ next
+    → Going part values has₀ next₀ to has′ next′
+going-same g e f h = rw (e, f, h) g
+
+-- no addition, deletion or effect
+abbrev pub Idle : ItemAt → Type 0
+Idle (Need p after) = Unit {0}
+Idle (Add p after) = ⊥
+Idle (Delete p after) = ⊥
+Idle (ConditionAt o z from n after) = Unit {0}
+Idle (EffectAt kd v z from n after) = ⊥
+Idle End = Unit {0}
 
 pub going-start : {part : List ℕ} {values : List ℤ} {has : List Bool} {next : List ℤ} → 1 ≤ length part → Going part values has next 1 has next
 going-start h = record { within = h; same-has = refl; same-next = refl; is = λ k b s r. running-start r }
@@ -97,23 +117,30 @@ module _ {part : List ℕ} {values : List ℤ} {has₀ : List Bool} {next₀ : L
         is = λ k b s r. running-delete (g .is k b s r) (found n r);
       }
 
-  pub going-need : {p after : ℕ} → Next part at (Need p after) → Going part values has₀ next₀ after has next
-  going-need n =
+  -- an item that changes nothing
+  pub going-pass : at < length part → {x : ItemAt} → Next part at x → Idle x → Going part values has₀ next₀ (behind x) has next
+  unfolding behind
+  going-pass h {x} n idle =
       record {
-        within = n .moves .1;
+        within = next-ahead h n .1;
         same-has = g .same-has;
         same-next = g .same-next;
-        is = λ k b s r. running-need (g .is k b s r) (found n r);
+        is = λ k b s r. go x (n .moves) idle (g .is k b s r) (found n r);
       }
-
-  pub going-condition : {o : ℕ} {z : ℤ} {from m after : ℕ} → Next part at (ConditionAt o z from m after) → Going part values has₀ next₀ after has next
-  going-condition n =
-      record {
-        within = n .moves .1;
-        same-has = g .same-has;
-        same-next = g .same-next;
-        is = λ k b s r. running-condition (g .is k b s r) (found n r);
-      }
+    where
+      go :
+          (y : ItemAt)
+          → Moves at (length part) y
+          → Idle y
+          → {k : Ranges} {b : Block} {s : State} (w : Running k part b s at has next)
+          → Found k part (w .rest) y
+          → Running k part b s (behind y) has next
+      go (Need p after) m i w f = running-need w f
+      go (Add p after) m i w f = absurd i
+      go (Delete p after) m i w f = absurd i
+      go (ConditionAt o z from l after) m i w f = running-condition w f
+      go (EffectAt kd v z from l after) m i w f = absurd i
+      go End m i w f = absurd (omega arith)
 
   -- an effect, over the state before the move
   going-over :
@@ -135,8 +162,8 @@ module _ {part : List ℕ} {values : List ℤ} {has₀ : List Bool} {next₀ : L
         is = λ k b s r. running-effect (g .is k b s r) (found n r) (q .is k s (found n r .it) (going-over n r));
       }
 
-  pub going-end : Next part at End → Ran part values has₀ next₀ has next
-  going-end n = record { is = λ k b s r. running-end (g .is k b s r) (found n r) }
+  pub going-end : length part ≤ at → Ran part values has₀ next₀ has next
+  going-end h = record { is = λ k b s r. let w = g .is k b s r in running-end w (left-end h (w .left)) }
 
   -- what the caller's reading gives
   module _ (o : Runnable part values has₀ next₀) where

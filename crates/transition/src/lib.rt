@@ -7,12 +7,12 @@ ghost use lib.ListN.{length, getD};
 ghost use lib.IntN.{natAbs, pos};
 ghost use Rattle.model.specs.Reading.{kindOf, only, reading};
 ghost use Rattle.model.specs.Move.{changed, real};
-ghost use Rattle.model.specs.Limits.{paper};
+ghost use Rattle.model.specs.Limits.{paper, largestValue};
 ghost use Rattle.model.specs.StateTable.{stateOf, stateRefusal};
-ghost use Rattle.model.specs.Calls.{fitted, resultOf, stepOf, stepAnswer, stepOut};
+ghost use Rattle.model.specs.Calls.{resultOf, stepOf, stepAnswer, stepOut};
 ghost use Rattle.model.specs.Task.{Block, written};
 ghost use Rattle.state.specs.Storing.{stateIn};
-ghost use Rattle.normal.specs.Answers.{Answered};
+ghost use Rattle.output.specs.Answers.{Answered};
 ghost use Rattle.transition.specs.Running.{Runnable, Ran};
 ghost use Rattle.transition.specs.Walking.{Changeable, IsResult};
 ghost use Rattle.transition.specs.Answers.{allInRange};
@@ -27,7 +27,7 @@ use table::Wanted;
 
 // "k is 0 := , 1 += , 2 −="
 fn changed(kind: u8, old: i64, z: i64) -> i64
-    requires { ⌜ (natAbs old ≤ 1000000000000) × (natAbs z ≤ 8000000001000000) ⌝ }
+    requires { ⌜ (natAbs old ≤ largestValue) × (natAbs z ≤ 8000000001000000) ⌝ }
     ensures { λ r. ⌜ r ≡ changed (kindOf kind) old z ⌝ }
 {
     match kind {
@@ -62,14 +62,13 @@ fn run(part: &[u8], values: &[i64], has: &mut [bool], next: &mut [i64])
 {
     let mut at = 1;
     loop {
-        match block::next(part, at) {
-            ItemAt::Add { prop, after } => {
+        let item = block::next(part, at);
+        match item {
+            ItemAt::Add { prop, after: _ } => {
                 has[prop] = true;
-                at = after;
             }
-            ItemAt::Delete { prop, after } => {
+            ItemAt::Delete { prop, after: _ } => {
                 has[prop] = false;
-                at = after;
             }
             ItemAt::Effect {
                 kind,
@@ -77,27 +76,16 @@ fn run(part: &[u8], values: &[i64], has: &mut [bool], next: &mut [i64])
                 base,
                 from,
                 terms,
-                after,
+                after: _,
             } => {
                 next[var] = result_of(part, kind, var, base, from, terms, values);
-                at = after;
-            }
-            ItemAt::Need { prop: _, after } => {
-                at = after;
-            }
-            ItemAt::Condition {
-                comparison: _,
-                bound: _,
-                from: _,
-                terms: _,
-                after,
-            } => {
-                at = after;
             }
             ItemAt::End => {
                 return;
             }
+            _ => {}
         }
+        at = block::behind(item);
     }
 }
 
@@ -119,7 +107,7 @@ fn in_range(values: &[i64], vars: usize) -> bool
 // The result of a move, if it is in range and fits.
 fn finish(has: &[bool], values: &[i64], props: usize, vars: usize, out: &mut [u8]) -> WriteAnswer
     requires { ⌜ (props ≤ length (now has)) × (vars ≤ length (now values)) × (props ≤ 120) × (vars ≤ 16) ⌝ }
-    ensures { λ r. ⌜ Answered (fitted (length (now (out .entry))) (resultOf paper props vars (stateIn (now (has .entry)) (now (values .entry))))) (now (out .entry)) (now (out .exit)) r ⌝ }
+    ensures { λ r. ⌜ Answered (resultOf paper props vars (stateIn (now (has .entry)) (now (values .entry)))) (now (out .entry)) (now (out .exit)) r ⌝ }
 {
     if !in_range(values, vars) {
         return WriteAnswer::Refused(Refusal {
@@ -168,7 +156,7 @@ fn result(
     out: &mut [u8],
 ) -> WriteAnswer
     requires { ⌜ (Movable (now part) (now state) props vars) × (Valued (now state) props vars (now values)) ⌝ }
-    ensures { λ r. ⌜ ((b : Block) → Chosen (now (part .entry)) (now (state .entry)) props vars b → Answered (fitted (length (now (out .entry))) (resultOf paper props vars (real b (stateOf props (now (state .entry)))))) (now (out .entry)) (now (out .exit)) r) ⌝ }
+    ensures { λ r. ⌜ ((b : Block) → Chosen (now (part .entry)) (now (state .entry)) props vars b → Answered (resultOf paper props vars (real b (stateOf props (now (state .entry))))) (now (out .entry)) (now (out .exit)) r) ⌝ }
 {
     let mut has = truths_of(state, props);
     let mut next = values_of(state, props, vars);
@@ -179,7 +167,7 @@ fn result(
 // "A real move needs its conditions true".
 fn moved(part: &[u8], state: &[u8], props: usize, vars: usize, out: &mut [u8]) -> WriteAnswer
     requires { ⌜ Movable (now part) (now state) props vars ⌝ }
-    ensures { λ r. ⌜ ((b : Block) → Chosen (now (part .entry)) (now (state .entry)) props vars b → Answered (fitted (length (now (out .entry))) (movedBy props vars (stateOf props (now (state .entry))) b)) (now (out .entry)) (now (out .exit)) r) ⌝ }
+    ensures { λ r. ⌜ ((b : Block) → Chosen (now (part .entry)) (now (state .entry)) props vars b → Answered (movedBy props vars (stateOf props (now (state .entry))) b) (now (out .entry)) (now (out .exit)) r) ⌝ }
 {
     let values = values_of(state, props, vars);
     if !block::applicable(part, state, &values) {
@@ -203,7 +191,7 @@ fn choose(
     out: &mut [u8],
 ) -> WriteAnswer
     requires { ⌜ (Read (now table) (now marks) props vars moves) × (stateRefusal paper props vars (now state) ≡ none) ⌝ }
-    ensures { λ r. ⌜ Answered (fitted (length (now (out .entry))) (stepOf paper (reading paper (only written) (now (table .entry))) (now (state .entry)) chosen)) (now (out .entry)) (now (out .exit)) r ⌝ }
+    ensures { λ r. ⌜ Answered (stepOf paper (reading paper (only written) (now (table .entry))) (now (state .entry)) chosen) (now (out .entry)) (now (out .exit)) r ⌝ }
 {
     if chosen >= moves as u64 {
         return WriteAnswer::Refused(Refusal {
@@ -227,7 +215,7 @@ fn checked(
     out: &mut [u8],
 ) -> WriteAnswer
     requires { ⌜ Read (now table) (now marks) props vars moves ⌝ }
-    ensures { λ r. ⌜ Answered (fitted (length (now (out .entry))) (stepOf paper (reading paper (only written) (now (table .entry))) (now (state .entry)) chosen)) (now (out .entry)) (now (out .exit)) r ⌝ }
+    ensures { λ r. ⌜ Answered (stepOf paper (reading paper (only written) (now (table .entry))) (now (state .entry)) chosen) (now (out .entry)) (now (out .exit)) r ⌝ }
 {
     match state::check(state, props, vars) {
         StateCheck::Accepted => choose(table, marks, props, vars, moves, state, chosen, out),

@@ -6,7 +6,7 @@ use mathlib.Core.Path.{refl, _∙_}
 use borrow.Author.Needs.{needs}
 use lib.ListN.{length}
 use Rattle.integer.specs.Linear.{back}
-use Rattle.block.specs.Items.{found-need, found-add, found-delete, found-condition, found-effect, closed-room}
+use Rattle.block.specs.Closing.{found-need, found-add, found-delete, found-condition, found-effect, closed-room}
 use Rattle.block.proofs.item_at.Statement.{statement}
 use Rattle.block.proofs.item_at.Tie as tie
 

@@ -4,7 +4,8 @@ use Prim.Native.Nat.{_+_, _*_, _-_, _<_}
 use native.Mathlib.Omega.{arith}
 use lib.ListN.{length}
 use Rattle.model.specs.Task.{Block}
-use Rattle.block.specs.Items.{Ranges, Left, Passed, pass-start, pass-room, pass-step, pass-end}
+use Rattle.block.specs.Items.{Ranges, Left}
+use Rattle.block.specs.Closing.{Passed, pass-start, pass-room, pass-step, pass-end}
 use Rattle.block.proofs.terms_at.Statement.{statement}
 use Rattle.block.proofs.terms_at.Tie as tie
 

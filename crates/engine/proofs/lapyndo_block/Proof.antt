@@ -1,6 +1,6 @@
 -- `lapyndo_block` meets its contract. Assumes nothing.
 use mathlib.Core.Path.{_∙_}
-use Rattle.engine.specs.Parts.{block-fits, block-answer, block-copied}
+use Rattle.codes.specs.Parts.{block-fits, block-answer, block-copied}
 use borrow.Author.Needs.{needs}
 use Rattle.engine.proofs.lapyndo_block.Statement.{statement}
 use Rattle.engine.proofs.lapyndo_block.Tie as tie

@@ -2,8 +2,8 @@
 use mathlib.Core.Path.{ap, _∙_}
 use Rattle.model.specs.declared.PlanAnswer.{PlanAnswer}
 use Rattle.model.specs.Exports.{decideCode, planCode, planRecordCount, planFirstMoves}
-use Rattle.model.specs.Theorems.OneCall.{campaign-promise}
-use Rattle.model.specs.Theorems.AnswerSizes.{campaign-decision-small, campaign-plan-small}
+use Rattle.model.specs.Theorems.Campaigns.OneCall.{campaign-promise}
+use Rattle.model.specs.Theorems.Sizes.Answers.{campaign-decision-small, campaign-plan-small}
 use borrow.Author.Needs.{needs}
 use Rattle.engine.proofs.lapyndo_campaign.Statement.{statement}
 use Rattle.engine.proofs.lapyndo_campaign.Tie as tie

@@ -1,7 +1,7 @@
 -- `lapyndo_decide` meets its contract. Assumes nothing.
 use mathlib.Core.Path.{ap, _∙_}
 use Rattle.model.specs.Exports.{decideCode}
-use Rattle.model.specs.Theorems.AnswerSizes.{decide-small}
+use Rattle.model.specs.Theorems.Sizes.Answers.{decide-small}
 use borrow.Author.Needs.{needs}
 use Rattle.engine.proofs.lapyndo_decide.Statement.{statement}
 use Rattle.engine.proofs.lapyndo_decide.Tie as tie

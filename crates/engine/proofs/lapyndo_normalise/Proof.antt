@@ -1,7 +1,7 @@
 -- `lapyndo_normalise` meets its contract. Assumes nothing.
 use mathlib.Core.Path.{ap, _∙_}
 use Rattle.model.specs.Exports.{writeCode}
-use Rattle.model.specs.Theorems.AnswerSizes.{normalise-small}
+use Rattle.model.specs.Theorems.Sizes.Answers.{normalise-small}
 use borrow.Author.Needs.{needs}
 use Rattle.engine.proofs.lapyndo_normalise.Statement.{statement}
 use Rattle.engine.proofs.lapyndo_normalise.Tie as tie

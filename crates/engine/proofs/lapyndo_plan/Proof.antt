@@ -2,7 +2,7 @@
 use mathlib.Core.Path.{ap, _∙_}
 use Rattle.model.specs.declared.PlanAnswer.{PlanAnswer}
 use Rattle.model.specs.Exports.{planCode, planRecordCount, planFirstMoves}
-use Rattle.model.specs.Theorems.AnswerSizes.{plan-small}
+use Rattle.model.specs.Theorems.Sizes.Answers.{plan-small}
 use borrow.Author.Needs.{needs}
 use Rattle.engine.proofs.lapyndo_plan.Statement.{statement}
 use Rattle.engine.proofs.lapyndo_plan.Tie as tie

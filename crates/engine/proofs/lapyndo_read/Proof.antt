@@ -1,7 +1,7 @@
 -- `lapyndo_read` meets its contract. Assumes nothing.
 use mathlib.Core.Path.{ap, _∙_}
 use Rattle.model.specs.Exports.{readCode}
-use Rattle.model.specs.Theorems.AnswerSizes.{read-small}
+use Rattle.model.specs.Theorems.Sizes.Answers.{read-small}
 use borrow.Author.Needs.{needs}
 use Rattle.engine.proofs.lapyndo_read.Statement.{statement}
 use Rattle.engine.proofs.lapyndo_read.Tie as tie

@@ -6,7 +6,7 @@ use native.Mathlib.Omega.{arith}
 use Rattle.model.specs.Exports.{writeCode}
 use Rattle.model.specs.Limits.{paper}
 use Rattle.model.specs.Calls.{stepAnswer}
-use Rattle.model.specs.Theorems.AnswerSizes.{WriteSmall, write-wider, step-small}
+use Rattle.model.specs.Theorems.Sizes.Answers.{WriteSmall, write-wider, step-small}
 use borrow.Author.Needs.{needs}
 use Rattle.engine.proofs.lapyndo_step.Statement.{statement}
 use Rattle.engine.proofs.lapyndo_step.Tie as tie

@@ -3,7 +3,7 @@ use Prim.Native.Nat.{_+_, _-_}
 use mathlib.Core.Path.{_≡_, refl, sym, _∙_}
 use Rattle.model.specs.Task.{normal, Task}
 use Rattle.table.specs.Outlines.{Outline}
-use Rattle.layers.specs.Step.{Counts}
+use Rattle.layer_step.specs.Step.{Counts}
 use Rattle.layers.specs.Building.{Layered}
 use Rattle.layers.specs.Starting.{startOf, props-small, vars-small, moves-small, half-vars, state-long, first-layer, first-short, first-stored}
 use borrow.Author.Needs.{needs}

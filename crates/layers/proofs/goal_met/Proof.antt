@@ -1,5 +1,5 @@
 -- `goal_met` meets its contract. Assumes nothing.
-use Rattle.layers.specs.Stepping.{goal-part, goal-testable, is-met}
+use Rattle.layers.specs.Goal.{goal-part, goal-testable, is-met}
 use Rattle.layers.proofs.goal_met.Statement.{statement}
 use Rattle.layers.proofs.goal_met.Tie as tie
 

@@ -6,7 +6,7 @@ use mathlib.Core.Path.{_≡_}
 use mathlib.Core.List.{[]}
 use lib.ListN.{length, getD}
 use denote.Ref.{now}
-use Rattle.normal.specs.Blocks.{Remaining, blockPrint}
+use Rattle.normal_block.specs.Blocks.{Remaining, blockPrint}
 use Rattle.normal.specs.Tables.{readTask, MovesCounting, move-remaining, block-in, source-small, normal-size, few-moves, moves-counted, moves-count, move-small, moves-total}
 use Rattle.normal.proofs.moves_length.Statement.{statement}
 use Rattle.normal.proofs.moves_length.Tie as tie
@@ -42,7 +42,7 @@ items-length-requires c κs =
     record {
       block = getD (readTask (c .before .before .before .before .before .args .table .now) .moves) (c .before .before .loop .b) [];
       remaining = remains c;
-      fits = omega (arith, small (c .before));
+      short = omega (arith, small (c .before));
     }
 
 -- what is counted

@@ -1,4 +1,4 @@
--- `put_moves` meets its contract. The invariant: the moves before `b` are printed. The measure is the number of the others.
+-- `put_moves` meets its contract. The invariant: the moves before `b` are written. The measure is the number of the others.
 -- Assumes nothing.
 use Prim.Native.Nat.{_-_, _<_}
 use native.Mathlib.Omega.{arith}
@@ -6,14 +6,13 @@ use mathlib.Core.List.{[]}
 use lib.ListN.{length, getD}
 use denote.Ref.{now}
 use Rattle.model.specs.Command.{codeOf}
-use Rattle.normal.specs.Blocks.{Remaining}
-use Rattle.normal.specs.Printing.{printed-to}
-use Rattle.normal.specs.Tables.{readTask, MovesPrinting, move-remaining, block-in, few-moves, moves-start, moves-room, moves-step, moves-end}
+use Rattle.normal_block.specs.Blocks.{Remaining}
+use Rattle.normal.specs.Tables.{readTask, MovesWriting, move-remaining, block-in, few-moves, moves-start, moves-short, moves-step, moves-end}
 use Rattle.normal.proofs.put_moves.Statement.{statement}
 use Rattle.normal.proofs.put_moves.Tie as tie
 
 abbrev Inv-loop : tie.InvT-loop
-Inv-loop table marks moves out₀ start b₀ to₀ out b to = MovesPrinting (readTask table .moves) b out₀ start out to
+Inv-loop table marks moves out₀ start b₀ to₀ out b to = MovesWriting (readTask table .moves) b out₀ start out to
 
 abbrev μ-loop : tie.MeasureT-loop
 μ-loop table marks moves out₀ start b₀ to₀ out b to = moves - b
@@ -34,14 +33,12 @@ part-requires c κs = block-in (c .before .before .before .before .before .pre .
 
 put-block-requires : tie.Need-put-block-requires Inv-loop μ-loop
 put-block-requires c κs =
-    let l = c .before .before in (
-      record {
-        block = getD (readTask (c .before .before .before .before .before .before .before .args .table .now) .moves) (l .before .loop .b) [];
-        remaining = remains (c .before);
-        fits = moves-room (l .before .loop .inv) (some l) (c .before .before .before .before .before .before .before .pre .1);
-      },
-      omega arith,
-    )
+    let l = c .before .before in
+    record {
+      block = getD (readTask (c .before .before .before .before .before .before .before .args .table .now) .moves) (l .before .loop .b) [];
+      remaining = remains (c .before);
+      short = moves-short (l .before .loop .inv) (some l) (c .before .before .before .before .before .before .before .pre .1);
+    }
 
 add-b : tie.Need-add-b Inv-loop μ-loop
 add-b c = omega (arith, few-moves (c .before .before .before .before .before .before .before .before .before .before .pre .0))
@@ -55,13 +52,10 @@ loop-again c =
     moves-step (c .before .before .before .before .before .before .loop .inv) (some (c .before .before .before .before .before)) (c .before .before .put-block .ensures _ (remains (c .before .before .before .before)))
 
 same-length : tie.Need-same-length Inv-loop μ-loop
-same-length c = c .before .loop .inv .prints .size
+same-length c = c .before .loop .inv .writing .so-far .kept
 
 returns : tie.Need-returns Inv-loop μ-loop
-returns c =
-    let s = c .before .before .before .before .before in
-    let done = moves-end (c .before .loop .inv) (omega (arith, c .loop-test .left, s .pre .0 .count)) in
-    printed-to done (omega (arith, done .place, s .pre .1))
+returns c = moves-end (c .before .loop .inv) (omega (arith, c .loop-test .left, c .before .before .before .before .before .pre .0 .count))
 
 pub put-moves-spec : {M : Type 1} → statement M
 put-moves-spec =

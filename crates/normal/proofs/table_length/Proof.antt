@@ -5,7 +5,7 @@ use mathlib.Core.Path.{_≡_}
 use lib.ListN.{length}
 use denote.Ref.{now}
 use Rattle.model.specs.Calls.{normalBytes}
-use Rattle.normal.specs.Blocks.{Remaining}
+use Rattle.normal_block.specs.Blocks.{Remaining}
 use Rattle.normal.specs.Tables.{readTask, goal-remaining, block-in, source-small, normal-size}
 use Rattle.normal.proofs.table_length.Statement.{statement}
 use Rattle.normal.proofs.table_length.Tie as tie
@@ -26,7 +26,7 @@ items-length-requires c κs =
     record {
       block = t .goal;
       remaining = remains c;
-      fits = omega (arith, source-small (c .before .before .before .before .pre), normal-size t);
+      short = omega (arith, source-small (c .before .before .before .before .pre), normal-size t);
     }
 
 -- the whole length

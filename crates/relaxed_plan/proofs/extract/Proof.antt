@@ -2,11 +2,11 @@
 use native.Mathlib.Omega.{arith}
 use mathlib.Core.Path.{refl}
 use borrow.Author.Needs.{needs}
-use Rattle.model.specs.Theorems.PlanSizes.{records-most}
-use Rattle.relaxed_plan.specs.Layers.{stored-vars, stored-room, stored-entries, stored-start}
+use Rattle.model.specs.Theorems.Sizes.Plans.{records-most}
+use Rattle.descent.specs.Layers.{stored-vars, stored-room, stored-entries, stored-start}
 use Rattle.relaxed_plan.specs.Answer.{extracted-short, extracted-written}
-use Rattle.relaxed_plan.specs.Passes.{planRecords, walk-goal, walk-begun}
-use Rattle.relaxed_plan.specs.Keeping.{kept-copied}
+use Rattle.passes.specs.Passes.{planRecords, walk-goal, walk-begun}
+use Rattle.passes.specs.Keeping.{kept-copied}
 use Rattle.relaxed_plan.proofs.extract.Statement.{statement}
 use Rattle.relaxed_plan.proofs.extract.Tie as tie
 
@@ -43,7 +43,7 @@ mul-if1 c =
     let a = g .before .before .before .before .before .before .before in
     let x = a .pre in
     let row = stored-start x (g .before .before .before .read-row .ensures) in
-    omega (arith, c .before .survey .ensures (walk-begun x row (g .want-goal .ensures (walk-goal x row))) .0 .total, records-most (x .ok) (x .start) (a .args .m) (x .most))
+    omega (arith, c .before .survey .ensures (walk-begun x row (g .want-goal .ensures (walk-goal x row))) .0 .total, records-most (x .ok) (x .start) (a .args .m) (x .bounded))
 
 returns : tie.Need-returns
 returns c x =

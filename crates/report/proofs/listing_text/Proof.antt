@@ -1,7 +1,7 @@
 -- `listing_text` meets its contract, one case for each kind of answer. Assumes nothing.
 use native.Mathlib.Omega.{arith}
 use Rattle.report.specs.Lines.{plan-room}
-use Rattle.report.specs.Answer.{records-printable, printed-plan, printed-no-plan, printed-refusal}
+use Rattle.report.specs.Answer.{plan-listable, records-short, printed-plan, printed-no-plan, printed-refusal}
 use borrow.Author.Needs.{needs}
 use Rattle.report.proofs.listing_text.Statement.{statement}
 use Rattle.report.proofs.listing_text.Tie as tie
@@ -16,8 +16,7 @@ put-records-requires : tie.Need-put-records-requires
 put-records-requires c κs =
     let s = c .before .before .before .before .before .before .before .before .before .before in
     let given = c .before .before .before .before .before .before .answer .given in
-    records-printable (s .args .plan .now) (given .1) (s .pre) (c .before .before .before .put-plan .ensures)
-    (plan-room (given .0 .1 .1 .0) (given .0 .1 .0) (omega arith) (omega arith))
+    (plan-listable (s .pre) (given .1), records-short (s .pre) (given .1) (c .before .before .before .put-plan .ensures) (plan-room (given .0 .1 .1 .0) (given .0 .1 .0) (omega arith) (omega arith)))
 
 enum-known-answer-2 : tie.Need-enum-known-answer-2
 enum-known-answer-2 c = search needs
@@ -37,24 +36,25 @@ same-length c = search needs
 returns : tie.Need-returns
 returns c =
     let s = c .before .before .before .before .before .before .before .before .before .before .before .before .before in
-    printed-plan (s .args .plan .now) (c .before .before .before .before .before .before .before .before .before .answer .given .1)
+    let given = c .before .before .before .before .before .before .before .before .before .answer .given in
+    printed-plan (s .pre) (given .1) (plan-room (given .0 .1 .1 .0) (given .0 .1 .0) (omega arith) (omega arith))
     (c .before .before .before .before .before .before .put-plan .ensures) (c .before .before .put-records .ensures)
 
 same-length-2 : tie.Need-same-length-2
 same-length-2 c = search needs
 
 returns-2 : tie.Need-returns-2
-returns-2 c =
+returns-2 c rs l =
     let s = c .before .before .before .before .before .before .before .before .before in
-    printed-no-plan (s .args .plan .now) (c .before .before .before .before .before .answer2 .given .1) (c .before .before .put-no-plan .ensures)
+    printed-no-plan (s .pre) (c .before .before .before .before .before .answer2 .given .1) (omega arith) (c .before .before .put-no-plan .ensures) rs
 
 same-length-3 : tie.Need-same-length-3
 same-length-3 c = search needs
 
 returns-3 : tie.Need-returns-3
-returns-3 c =
+returns-3 c rs l =
     let s = c .before .before .before .before .before .before .before .before .before in
-    printed-refusal (s .args .plan .now) (c .before .before .before .before .before .answer3 .given .1) (c .before .before .put-refusal .ensures)
+    printed-refusal (s .pre) (c .before .before .before .before .before .answer3 .given .1) (omega arith) (omega arith) (c .before .before .put-refusal .ensures) rs
 
 pub listing-text-spec : {M : Type 1} → statement M
 listing-text-spec =

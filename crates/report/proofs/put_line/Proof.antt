@@ -1,7 +1,7 @@
 -- `put_line` meets its contract: three steps, one behind the other. Assumes nothing.
 use native.Mathlib.Omega.{arith}
 use Rattle.model.specs.Listing.{newline}
-use Rattle.report.specs.Writing.{both}
+use Rattle.output.specs.Writing.{written-join}
 use Rattle.report.specs.Lines.{lineText, length-line}
 use borrow.Author.Needs.{needs}
 use Rattle.report.proofs.put_line.Statement.{statement}
@@ -15,7 +15,7 @@ put-bytes-requires c κs =
 put-decimal-requires : tie.Need-put-decimal-requires
 put-decimal-requires c κs =
     let s = c .before .before .before .before .before .before .before in
-    omega (arith, length-line (s .args .word .now) (s .args .n), s .pre, c .before .before .before .put-bytes .ensures)
+    omega (arith, length-line (s .args .word .now) (s .args .n), s .pre, c .before .before .before .put-bytes .ensures .behind)
 
 slice-aggregate-put-bytes : tie.Need-slice-aggregate-put-bytes
 slice-aggregate-put-bytes c = search needs
@@ -27,8 +27,8 @@ put-bytes-requires-2 c κs =
       arith,
       length-line (s .args .word .now) (s .args .n),
       s .pre,
-      c .before .before .before .before .put-decimal .ensures,
-      c .before .before .before .before .before .before .before .before .put-bytes .ensures,
+      c .before .before .before .before .put-decimal .ensures .behind,
+      c .before .before .before .before .before .before .before .before .put-bytes .ensures .behind,
     )
 
 same-length : tie.Need-same-length
@@ -37,8 +37,8 @@ same-length c = search needs
 returns : tie.Need-returns
 unfolding lineText newline
 returns c =
-    both
-    (both
+    written-join
+    (written-join
     (c .before .before .before .before .before .before .before .before .before .before .before .put-bytes .ensures)
     (c .before .before .before .before .before .before .before .put-decimal .ensures))
     (c .before .before .put-bytes2 .ensures)

@@ -1,6 +1,6 @@
 -- `put_pair` meets its contract: three steps, one behind the other. Assumes nothing.
 use native.Mathlib.Omega.{arith}
-use Rattle.report.specs.Writing.{both}
+use Rattle.output.specs.Writing.{written-join}
 use Rattle.report.specs.Lines.{length-pair, pair-line}
 use borrow.Author.Needs.{needs}
 use Rattle.report.proofs.put_pair.Statement.{statement}
@@ -18,7 +18,7 @@ put-decimal-requires c κs =
       arith,
       length-pair (s .args .first .now) (s .args .a) (s .args .second .now) (s .args .b),
       s .pre,
-      c .before .before .before .put-bytes .ensures,
+      c .before .before .before .put-bytes .ensures .behind,
     )
 
 put-line-requires : tie.Need-put-line-requires
@@ -28,8 +28,8 @@ put-line-requires c κs =
       arith,
       length-pair (s .args .first .now) (s .args .a) (s .args .second .now) (s .args .b),
       s .pre,
-      c .before .before .before .put-decimal .ensures,
-      c .before .before .before .before .before .before .before .put-bytes .ensures,
+      c .before .before .before .put-decimal .ensures .behind,
+      c .before .before .before .before .before .before .before .put-bytes .ensures .behind,
     )
 
 same-length : tie.Need-same-length
@@ -39,8 +39,8 @@ returns : tie.Need-returns
 returns c =
     let s = c .before .before .before .before .before .before .before .before .before .before .before .before .before .before .before in
     rw (← pair-line (s .args .first .now) (s .args .a) (s .args .second .now) (s .args .b))
-    (both
-    (both
+    (written-join
+    (written-join
     (c .before .before .before .before .before .before .before .before .before .before .put-bytes .ensures)
     (c .before .before .before .before .before .before .put-decimal .ensures))
     (c .before .before .put-line .ensures))

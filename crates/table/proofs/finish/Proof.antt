@@ -1,94 +1,71 @@
--- `finish` meets its contract, by the place.
+-- `finish` meets its contract: behind 45 the circle decides, elsewhere a command is due.
 -- Assumes nothing.
-use mathlib.Core.Path.{refl, ap, _∙_}
 use Prim.Native.Nat.{ℕ}
+use mathlib.Core.Path.{_≡_, refl, ap, _∙_}
+use mathlib.Core.Bool.{Bool}
+use mathlib.Core.List.{List, [], _∷_}
+use denote.Enum.Declared.{tagOf}
+use types.Run.{OneOf, miss}
 use borrow.Author.Needs.{needs}
 use Rattle.model.specs.declared.ReadAnswer.the-variants as read
+use Rattle.command.specs.declared.Place.{Place}
+use Rattle.command.specs.declared.Place.the-variants.{Start, Preamble, InMove, InGoal, Finished}
+use Rattle.command.proofs.Place.{the-type}
+use Rattle.circle.specs.Walks.{circularIn}
+use Rattle.cursor.specs.declared.Cursor.{Cursor}
 use Rattle.table.specs.Answer.{endAnswer, acceptedAnswer}
 use Rattle.table.proofs.finish.Statement.{statement}
 use Rattle.table.proofs.finish.Tie as tie
 
+-- every place but the last
+due : (n : ℕ) (c : Cursor) (es : List Bool) (p : Place) → OneOf (0 ∷ 1 ∷ 2 ∷ 3 ∷ []) (tagOf the-type p) → read.Refused (record { number = 2; place = n }) ≡ endAnswer n p c es
+unfolding endAnswer
+due n c es Start h = refl
+due n c es Preamble h = refl
+due n c es InMove h = refl
+due n c es InGoal h = refl
+due n c es Finished h = absurd (miss (0 ∷ 1 ∷ 2 ∷ 3 ∷ []) 4 tt h)
+
+circle : (c : tie.After-circular) → c .circular .result ≡ circularIn (c .before .before .before .args .edges .now) (c .before .before .before .args .c .vars)
+circle c = c .circular .ensures
+
 enum-told : tie.Need-enum-told
 enum-told c = search needs
-
-refusal-requires : tie.Need-refusal-requires
-refusal-requires c κs = search needs
-
-enum-told-2 : tie.Need-enum-told-2
-enum-told-2 c = search needs
-
-refusal-requires-2 : tie.Need-refusal-requires-2
-refusal-requires-2 c κs = search needs
-
-enum-told-3 : tie.Need-enum-told-3
-enum-told-3 c = search needs
-
-refusal-requires-3 : tie.Need-refusal-requires-3
-refusal-requires-3 c κs = search needs
-
-enum-told-4 : tie.Need-enum-told-4
-enum-told-4 c = search needs
-
-refusal-requires-4 : tie.Need-refusal-requires-4
-refusal-requires-4 c κs = search needs
-
-enum-told-5 : tie.Need-enum-told-5
-enum-told-5 c = search needs
 
 circular-requires : tie.Need-circular-requires
 circular-requires c κs = search needs
 
-refusal-requires-5 : tie.Need-refusal-requires-5
-refusal-requires-5 c κs = search needs
+refusal-requires : tie.Need-refusal-requires
+refusal-requires c κs = search needs
 
 returns : tie.Need-returns
 unfolding endAnswer acceptedAnswer
-returns c = ap read.Refused (c .refusal5 .ensures) ∙ rw (c .before .before .before .enum-told5 .given .1, ← c .before .before .circular .ensures, c .before .if1 .taken) refl
+returns c = ap read.Refused (c .refusal .ensures) ∙ rw (c .before .before .before .enum-told .given .1, ← circle (c .before .before), c .before .if1 .taken) refl
 
 kind-code-requires : tie.Need-kind-code-requires
 kind-code-requires c κs = search needs
 
+refusal-requires-2 : tie.Need-refusal-requires-2
+refusal-requires-2 c κs = search needs
+
 returns-2 : tie.Need-returns-2
-unfolding endAnswer
-returns-2 c = ap read.Refused (c .refusal .ensures) ∙ rw (c .before .enum-told .given .1) refl
+unfolding endAnswer acceptedAnswer
+returns-2 c =
+    ap (λ (k : ℕ). read.Head k (c .before .before .before .before .before .args .c .props) (c .before .before .before .before .before .args .c .vars) (c .before .before .before .before .before .args .c .moves)) (c .kind-code .ensures)
+    ∙ rw (c .before .before .before .enum-told .given .1, ← circle (c .before .before), c .before .if1 .left) refl
 
 returns-3 : tie.Need-returns-3
-unfolding endAnswer
-returns-3 c = ap read.Refused (c .refusal2 .ensures) ∙ rw (c .before .enum-told2 .given .1) refl
-
-returns-4 : tie.Need-returns-4
-unfolding endAnswer
-returns-4 c = ap read.Refused (c .refusal3 .ensures) ∙ rw (c .before .enum-told3 .given .1) refl
-
-returns-5 : tie.Need-returns-5
-unfolding endAnswer
-returns-5 c = ap read.Refused (c .refusal4 .ensures) ∙ rw (c .before .enum-told4 .given .1) refl
-
-returns-6 : tie.Need-returns-6
-unfolding endAnswer acceptedAnswer
-returns-6 c =
-    ap (λ (k : ℕ). read.Head k (c .before .before .before .before .before .args .c .props) (c .before .before .before .before .before .args .c .vars) (c .before .before .before .before .before .args .c .moves)) (c .kind-code .ensures)
-    ∙ rw (c .before .before .before .enum-told5 .given .1, ← c .before .before .circular .ensures, c .before .if1 .left) refl
+returns-3 c = ap read.Refused (c .refusal2 .ensures) ∙ due _ _ _ _ (c .before .match .keys2)
 
 pub finish-spec : {M : Type 1} → statement M
 finish-spec =
     tie.close
     (tie.spec
     enum-told
-    refusal-requires
-    enum-told-2
-    refusal-requires-2
-    enum-told-3
-    refusal-requires-3
-    enum-told-4
-    refusal-requires-4
-    enum-told-5
     circular-requires
-    refusal-requires-5
+    refusal-requires
     returns
     kind-code-requires
+    refusal-requires-2
     returns-2
-    returns-3
-    returns-4
-    returns-5
-    returns-6)
+    returns-3)

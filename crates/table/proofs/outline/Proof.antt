@@ -8,9 +8,9 @@ use borrow.Author.Needs.{needs}
 use Rattle.model.specs.Limits.{paper}
 use Rattle.model.specs.Command.{commandOf}
 use Rattle.model.specs.Reading.{lengthLimit}
-use Rattle.table.specs.declared.Check.the-variants.{Passes}
-use Rattle.table.specs.Names.{commandIs, wantedOf}
-use Rattle.table.specs.State.{passed, checkOf, cursorRefusal}
+use Rattle.cursor.specs.declared.Check.the-variants.{Passes}
+use Rattle.command.specs.Names.{commandIs, wantedOf}
+use Rattle.cursor.specs.State.{passed, checkOf, cursorRefusal}
 use Rattle.table.specs.Answer.{Reach, reach-begin, reach-next, reach-refused, reach-finish, outlined-long}
 use Rattle.table.proofs.outline.Statement.{statement}
 use Rattle.table.proofs.outline.Tie as tie

@@ -2,7 +2,7 @@
 -- Assumes nothing.
 use borrow.Author.Needs.{needs}
 use Rattle.model.specs.Calls.{readAnswer}
-use Rattle.table.specs.Names.{wantedOf}
+use Rattle.command.specs.Names.{wantedOf}
 use Rattle.table.proofs.read.Statement.{statement}
 use Rattle.table.proofs.read.Tie as tie
 

@@ -1,11 +1,7 @@
 -- `checked` meets its contract: the state's refusal, or what `choose` answers. Assumes nothing.
 use borrow.Author.Needs.{needs}
-use Rattle.model.specs.Limits.{paper}
-use Rattle.model.specs.Task.{written}
-use Rattle.model.specs.Reading.{only, reading}
-use Rattle.model.specs.Calls.{stepOf}
 use Rattle.state.specs.Checking.{check-accepted, check-refused}
-use Rattle.normal.specs.Answers.{answered-refused}
+use Rattle.output.specs.Answers.{answered-refused}
 use Rattle.transition.specs.Steps.{few-props, few-vars, step-state-refused}
 use Rattle.transition.proofs.checked.Statement.{statement}
 use Rattle.transition.proofs.checked.Tie as tie
@@ -35,7 +31,7 @@ returns-2 : tie.Need-returns-2
 returns-2 c =
     let s = c .before .before .before .before .before .before .before in
     let a = s .args in
-    answered-refused (stepOf paper (reading paper (only written) (a .table .now)) (a .state .now) (a .chosen))
+    answered-refused _
     (step-state-refused (s .pre) (a .state .now) (a .chosen) (check-refused (c .before .before .before .check .ensures) (c .before .r .given .1)))
 
 pub checked-spec : {M : Type 1} → statement M

@@ -2,12 +2,7 @@
 use mathlib.Core.List.{[]}
 use borrow.Author.Needs.{needs}
 use lib.ListN.{getD}
-use Rattle.model.specs.Limits.{paper}
-use Rattle.model.specs.Task.{written}
-use Rattle.model.specs.Reading.{only, reading}
-use Rattle.model.specs.Calls.{stepOf}
-use Rattle.normal.specs.Answers.{answered-refused}
-use Rattle.transition.specs.Moving.{answered-same}
+use Rattle.output.specs.Answers.{answered-same, answered-refused}
 use Rattle.transition.specs.Steps.{step-missing, step-moved, step-chosen, step-movable, move-in}
 use Rattle.transition.proofs.choose.Statement.{statement}
 use Rattle.transition.proofs.choose.Tie as tie
@@ -16,7 +11,7 @@ returns : tie.Need-returns
 returns c =
     let s = c .before .before .before .before .before in
     let a = s .args in
-    answered-refused (stepOf paper (reading paper (only written) (a .table .now)) (a .state .now) (a .chosen))
+    answered-refused _
     (step-missing (s .pre .0) (a .state .now) (a .chosen) (s .pre .1) (c .if1 .taken))
 
 part-requires : tie.Need-part-requires

@@ -10,7 +10,7 @@ use Rattle.model.specs.Limits.{paper}
 use Rattle.model.specs.StateTable.{stateBytes}
 use Rattle.model.specs.Calls.{Output, resultOf, writes}
 use Rattle.state.specs.Storing.{stateIn, length-stateBytes}
-use Rattle.normal.specs.Answers.{answered-refused, answered-short, answered-written}
+use Rattle.output.specs.Answers.{answered-same, answered-refused, answered-short, answered-whole}
 use Rattle.transition.specs.Answers.{allInRange, result-refused, result-written, all-small}
 use Rattle.transition.proofs.finish.Statement.{statement}
 use Rattle.transition.proofs.finish.Tie as tie
@@ -25,7 +25,7 @@ returns : tie.Need-returns
 unfolding result
 returns c =
     let a = c .before .before .before .before .args in
-    answered-refused (result (c .before .before .before .before))
+    answered-refused _
     (result-refused (a .props) (a .vars) (a .has .now) (a .values .now)
     (sym (c .before .in-range .ensures) ∙ not-true (c .before .in-range .result) (c .if1 .taken)))
 
@@ -49,7 +49,9 @@ add-size c = omega (arith, c .before .before .before .before .pre .2, c .before 
 
 returns-2 : tie.Need-returns-2
 unfolding result
-returns-2 c = answered-short (result (c .before .before .before .before .before)) (written (c .before)) (omega (arith, c .if2 .taken, size (c .before .before .before .before .before)))
+returns-2 c =
+    let s = c .before .before .before .before .before in
+    answered-same (answered-short (sym (size s)) (omega (arith, c .if2 .taken))) (sym (written (c .before)))
 
 store-requires : tie.Need-store-requires
 store-requires c κs =
@@ -68,7 +70,8 @@ same-length c = search needs
 returns-3 : tie.Need-returns-3
 unfolding result
 returns-3 c =
-    answered-written (result (c .before .before .before .before .before .before .before .before .before)) (written (c .before .before .before .before .before)) (c .before .before .store .ensures) (sym (size (c .before .before .before .before .before .before .before .before .before))) (omega (arith, c .before .before .before .before .if2 .left, size (c .before .before .before .before .before .before .before .before .before)))
+    let s = c .before .before .before .before .before .before .before .before .before in
+    answered-same (answered-whole (sym (size s)) (omega (arith, c .before .before .before .before .if2 .left)) (c .before .before .store .ensures)) (sym (written (c .before .before .before .before .before)))
 
 pub finish-spec : {M : Type 1} → statement M
 finish-spec =

@@ -3,8 +3,8 @@ use mathlib.Core.Path.{sym, _∙_}
 use borrow.Author.Needs.{needs}
 use borrow.Author.Tests.{not-true, not-false}
 use Rattle.model.specs.StateTable.{stateOf}
-use Rattle.normal.specs.Answers.{answered-refused}
-use Rattle.transition.specs.Moving.{Valued, movedBy, state-long, move-testable, move-applicable, answered-same, moved-refused, moved-result}
+use Rattle.output.specs.Answers.{answered-same, answered-refused}
+use Rattle.transition.specs.Moving.{Valued, state-long, move-testable, move-applicable, moved-refused, moved-result}
 use Rattle.transition.proofs.moved.Statement.{statement}
 use Rattle.transition.proofs.moved.Tie as tie
 
@@ -25,7 +25,7 @@ returns : tie.Need-returns
 returns c b q =
     let a = c .before .before .before .before .before .before .before .args in
     let s = stateOf (a .props) (a .state .now) in
-    answered-refused (movedBy (a .props) (a .vars) s b)
+    answered-refused _
     (moved-refused (a .props) (a .vars) s b
     (sym (move-applicable (c .before .before .before .before .before .before .before .pre) (loaded (c .before .before .before)) (c .before .applicable .ensures) b q) ∙ not-true (c .before .applicable .result) (c .if1 .taken)))
 

@@ -1,7 +1,8 @@
 -- `result` meets its contract: the arrays that the move is run on hold the state, and then its result. Assumes nothing.
 use native.Mathlib.Omega.{arith}
 use borrow.Author.Needs.{needs}
-use Rattle.transition.specs.Moving.{state-long, move-runnable, move-result, answered-same}
+use Rattle.transition.specs.Moving.{state-long, move-runnable, move-result}
+use Rattle.output.specs.Answers.{answered-same}
 use Rattle.transition.proofs.result.Statement.{statement}
 use Rattle.transition.proofs.result.Tie as tie
 

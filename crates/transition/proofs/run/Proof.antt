@@ -1,12 +1,19 @@
 -- `run` meets its contract. The invariant: in every reading, the items passed are taken in. The measure is what is left of the
 -- part. Assumes nothing.
-use Prim.Native.Nat.{_-_}
+use Prim.Native.Nat.{_-_, _<_}
 use native.Mathlib.Omega.{arith}
+use mathlib.Core.Path.{_≡_, sym, ap, _∙_}
+use mathlib.Core.List.{[], _∷_}
+use mathlib.Core.Logic.{⊎-elim}
+use types.Run.{miss}
 use borrow.Author.Needs.{needs}
 use lib.ListN.{length}
 use Rattle.integer.specs.Linear.{back, back-small}
+use Rattle.block.specs.Items.{behind, next-ahead}
 use Rattle.block.specs.Blocks.{next-is}
-use Rattle.transition.specs.Walking.{Going, going-start, going-add, going-delete, going-need, going-condition, going-effect, going-end, going-readable, going-add-room, going-delete-room, going-changeable, going-base, going-effect-room}
+use Rattle.transition.specs.Walking.{Going, going-start, going-same, going-add, going-delete, going-pass, going-effect, going-end, going-readable, going-add-room, going-delete-room, going-changeable, going-base, going-effect-room}
+use Rattle.block.proofs.Passed.{before-end}
+use Rattle.transition.proofs.Passed.{idle}
 use Rattle.transition.proofs.run.Statement.{statement}
 use Rattle.transition.proofs.run.Tie as tie
 
@@ -22,72 +29,83 @@ loop-holds c = going-start (c .before .before .pre .runs .left .bytes .within)
 next-requires : tie.Need-next-requires Inv-loop μ-loop
 next-requires c κs = going-readable (c .loop .inv) (c .before .before .before .pre)
 
-enum-known-prop : tie.Need-enum-known-prop Inv-loop μ-loop
-enum-known-prop c = search needs
+enum-known-item : tie.Need-enum-known-item Inv-loop μ-loop
+enum-known-item c = search needs
 
 slice-write-has : tie.Need-slice-write-has Inv-loop μ-loop
-slice-write-has c = going-add-room (c .before .before .before .before .loop .inv) (c .before .before .before .before .before .before .before .pre) (next-is (c .before .before .before .next .ensures) (c .before .prop .given .1))
+slice-write-has c =
+    let n = c .before .before .before in
+    going-add-room (n .before .loop .inv) (n .before .before .before .before .pre) (next-is (n .next .ensures) (c .before .item .given .1))
 
-loop-less : tie.Need-loop-less Inv-loop μ-loop
-loop-less c = omega (arith, next-is (c .before .before .before .next .ensures) (c .before .prop .given .1) .moves)
-
-loop-again : tie.Need-loop-again Inv-loop μ-loop
-loop-again c = going-add (c .before .before .before .before .loop .inv) (next-is (c .before .before .before .next .ensures) (c .before .prop .given .1))
-
-enum-known-prop-2 : tie.Need-enum-known-prop-2 Inv-loop μ-loop
-enum-known-prop-2 c = search needs
+enum-known-item-2 : tie.Need-enum-known-item-2 Inv-loop μ-loop
+enum-known-item-2 c = search needs
 
 slice-write-has-2 : tie.Need-slice-write-has-2 Inv-loop μ-loop
-slice-write-has-2 c = going-delete-room (c .before .before .before .before .loop .inv) (c .before .before .before .before .before .before .before .pre) (next-is (c .before .before .before .next .ensures) (c .before .prop2 .given .1))
+slice-write-has-2 c =
+    let n = c .before .before .before in
+    going-delete-room (n .before .loop .inv) (n .before .before .before .before .pre) (next-is (n .next .ensures) (c .before .item2 .given .1))
 
-loop-less-2 : tie.Need-loop-less-2 Inv-loop μ-loop
-loop-less-2 c = omega (arith, next-is (c .before .before .before .next .ensures) (c .before .prop2 .given .1) .moves)
-
-loop-again-2 : tie.Need-loop-again-2 Inv-loop μ-loop
-loop-again-2 c = going-delete (c .before .before .before .before .loop .inv) (next-is (c .before .before .before .next .ensures) (c .before .prop2 .given .1))
-
-enum-known-kind : tie.Need-enum-known-kind Inv-loop μ-loop
-enum-known-kind c = search needs
+enum-known-item-3 : tie.Need-enum-known-item-3 Inv-loop μ-loop
+enum-known-item-3 c = search needs
 
 result-of-requires : tie.Need-result-of-requires Inv-loop μ-loop
 result-of-requires c κs =
-    let n = next-is (c .before .before .before .next .ensures) (c .before .kind .given .1) in
-    rw (back-small (c .before .kind .given .0 .1 .1 .0) (omega (arith, going-base (c .before .before .before .before .loop .inv) (c .before .before .before .before .before .before .before .pre) n)))
-    (going-changeable (c .before .before .before .before .loop .inv) (c .before .before .before .before .before .before .before .pre) n)
+    let n = c .before .before .before in
+    let i = next-is (n .next .ensures) (c .before .item3 .given .1) in
+    let g = n .before .loop .inv in
+    let p = n .before .before .before .before .pre in
+    rw (back-small (c .before .item3 .given .0 .1 .1 .0) (omega (arith, going-base g p i))) (going-changeable g p i)
 
 slice-set-from-next : tie.Need-slice-set-from-next Inv-loop μ-loop
 slice-set-from-next c =
-    going-effect-room (c .before .before .before .before .before .loop .inv) (c .before .before .before .before .before .before .before .before .pre) (next-is (c .before .before .before .before .next .ensures) (c .before .before .kind .given .1))
+    let n = c .before .before .before .before in
+    going-effect-room (n .before .loop .inv) (n .before .before .before .before .pre) (next-is (n .next .ensures) (c .before .before .item3 .given .1))
 
-mul-t22 : tie.Need-mul-t22 Inv-loop μ-loop
-mul-t22 c = omega (arith, slice-set-from-next c)
+mul-t17 : tie.Need-mul-t17 Inv-loop μ-loop
+mul-t17 c = omega (arith, slice-set-from-next c)
 
-loop-less-3 : tie.Need-loop-less-3 Inv-loop μ-loop
-loop-less-3 c = omega (arith, next-is (c .before .before .before .before .next .ensures) (c .before .before .kind .given .1) .moves)
+behind-requires : tie.Need-behind-requires Inv-loop μ-loop
+behind-requires c κs = tt
 
-loop-again-3 : tie.Need-loop-again-3 Inv-loop μ-loop
-loop-again-3 c =
-    let n = next-is (c .before .before .before .before .next .ensures) (c .before .before .kind .given .1) in
-    let result = rw (back-small (c .before .before .kind .given .0 .1 .1 .0) (omega (arith, going-base (c .before .before .before .before .before .loop .inv) (c .before .before .before .before .before .before .before .before .pre) n))) at (c .result-of .ensures) in
-    rw (back (c .result-of .result) (c .result-of .ok)) (going-effect (c .before .before .before .before .before .loop .inv) n result)
+-- the item that was taken in
+same : (c : tie.At-match-came Inv-loop μ-loop) → c .before .next .result ≡ c .match .item
+same c =
+    ⊎-elim (λ w. w .1 .given .1 ∙ sym (w .5))
+    (⊎-elim (λ w. w .1 .given .1 ∙ sym (w .5)) (⊎-elim (λ w. w .1 .given .1 ∙ sym (w .6)) (λ w. sym (w .3)))) (c .match .came)
 
-enum-known-after : tie.Need-enum-known-after Inv-loop μ-loop
-enum-known-after c = search needs
+-- it stands before the part's end
+inside : (c : tie.At-match-came Inv-loop μ-loop) → c .before .before .loop .at < length (c .before .before .before .before .before .args .part .now)
+inside c =
+    let there = c .before .next .ensures in
+    ⊎-elim (λ w. omega (arith, next-is there (w .1 .given .1) .moves))
+    (⊎-elim (λ w. omega (arith, next-is there (w .1 .given .1) .moves))
+    (⊎-elim (λ w. omega (arith, next-is there (w .1 .given .1) .moves))
+    (λ w. before-end (0 ∷ 3 ∷ []) (c .before .next .result) (miss (0 ∷ 3 ∷ []) 5 tt) (w .0 .keys5) (there .moves))))
+    (c .match .came)
 
-loop-less-4 : tie.Need-loop-less-4 Inv-loop μ-loop
-loop-less-4 c = omega (arith, next-is (c .before .before .before .next .ensures) (c .before .after .given .1) .moves)
+loop-less : tie.Need-loop-less Inv-loop μ-loop
+loop-less c =
+    let n = c .before .before in
+    omega (arith, next-ahead (inside (c .before)) (next-is (n .next .ensures) (same (c .before))), c .behind .ensures)
 
-loop-again-4 : tie.Need-loop-again-4 Inv-loop μ-loop
-loop-again-4 c = going-need (c .before .before .before .before .loop .inv) (next-is (c .before .before .before .next .ensures) (c .before .after .given .1))
-
-enum-known-after-2 : tie.Need-enum-known-after-2 Inv-loop μ-loop
-enum-known-after-2 c = search needs
-
-loop-less-5 : tie.Need-loop-less-5 Inv-loop μ-loop
-loop-less-5 c = omega (arith, next-is (c .before .before .before .next .ensures) (c .before .after2 .given .1) .moves)
-
-loop-again-5 : tie.Need-loop-again-5 Inv-loop μ-loop
-loop-again-5 c = going-condition (c .before .before .before .before .loop .inv) (next-is (c .before .before .before .next .ensures) (c .before .after2 .given .1))
+loop-again : tie.Need-loop-again Inv-loop μ-loop
+unfolding behind
+loop-again c =
+    let n = c .before .before in
+    let g = n .before .loop .inv in
+    let p = n .before .before .before .before .pre in
+    let to = c .behind .ensures ∙ ap behind (sym (same (c .before))) in
+    ⊎-elim
+    (λ w. going-same (going-add g (next-is (n .next .ensures) (w .1 .given .1))) (to ∙ ap behind (w .1 .given .1)) (w .3) (w .4))
+    (⊎-elim
+    (λ w. going-same (going-delete g (next-is (n .next .ensures) (w .1 .given .1))) (to ∙ ap behind (w .1 .given .1)) (w .3) (w .4))
+    (⊎-elim
+    (λ w.
+    let i = next-is (n .next .ensures) (w .1 .given .1) in
+    let result = rw (back-small (w .1 .given .0 .1 .1 .0) (omega (arith, going-base g p i))) at (w .3 .ensures) in
+    going-same (rw (back (w .3 .result) (w .3 .ok)) (going-effect g i result)) (to ∙ ap behind (w .1 .given .1)) (w .4) (w .5))
+    (λ w. going-same (going-pass g (inside (c .before)) (n .next .ensures) (idle (n .next .result) (w .0 .keys5))) to (w .1) (w .2))))
+    (c .before .match .came)
 
 enum-told : tie.Need-enum-told Inv-loop μ-loop
 enum-told c = search needs
@@ -99,7 +117,9 @@ same-length-2 : tie.Need-same-length-2 Inv-loop μ-loop
 same-length-2 c = c .before .before .before .loop .inv .same-next
 
 returns : tie.Need-returns Inv-loop μ-loop
-returns c = going-end (c .before .before .before .loop .inv) (next-is (c .before .before .next .ensures) (c .enum-told .given .1))
+returns c =
+    let n = c .before .before in
+    going-end (n .before .loop .inv) (next-is (n .next .ensures) (c .enum-told .given .1) .moves)
 
 pub run-spec : {M : Type 1} → statement M
 run-spec =
@@ -109,27 +129,18 @@ run-spec =
     μ-loop
     loop-holds
     next-requires
-    enum-known-prop
+    enum-known-item
     slice-write-has
-    loop-less
-    loop-again
-    enum-known-prop-2
+    enum-known-item-2
     slice-write-has-2
-    loop-less-2
-    loop-again-2
-    enum-known-kind
+    enum-known-item-3
     result-of-requires
-    mul-t22
+    mul-t17
     slice-set-from-next
-    loop-less-3
-    loop-again-3
-    enum-known-after
-    loop-less-4
-    loop-again-4
-    enum-known-after-2
-    loop-less-5
-    loop-again-5
     enum-told
     same-length
     same-length-2
-    returns)
+    returns
+    behind-requires
+    loop-less
+    loop-again)

@@ -1,12 +1,9 @@
 -- `step` meets its contract: a refusal of the table, or what `checked` answers. Assumes nothing.
 use native.Mathlib.Omega.{arith}
 use borrow.Author.Needs.{needs}
-use Rattle.model.specs.Limits.{paper}
 use Rattle.model.specs.Task.{written}
-use Rattle.model.specs.Reading.{only, reading}
-use Rattle.model.specs.Calls.{stepOf}
 use Rattle.table.specs.Names.{wantedOf}
-use Rattle.normal.specs.Answers.{answered-refused}
+use Rattle.output.specs.Answers.{answered-refused}
 use Rattle.table.specs.Outlines.{head-read, head-refused}
 use Rattle.transition.specs.Steps.{step-answered, step-table-refused}
 use Rattle.transition.proofs.step.Statement.{statement}
@@ -39,7 +36,7 @@ unfolding wantedOf
 returns-2 c =
     let a = c .before .before .before .before .before .before .before .before .args in
     step-answered (a .table .now) (a .state .now) (a .chosen)
-    (answered-refused (stepOf paper (reading paper (only written) (a .table .now)) (a .state .now) (a .chosen))
+    (answered-refused _
     (step-table-refused (a .table .now) (a .state .now) (a .chosen) (head-refused written (c .before .before .before .outline .ensures) (c .before .r .given .1))))
 
 pub step-spec : {M : Type 1} → statement M

@@ -1,0 +1,2 @@
+-- The specification of the search for the moves.
+pub mod Search

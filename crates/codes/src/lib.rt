@@ -1,0 +1,104 @@
+// The answers as one 64-bit number each, for hosts (crates/model/specs/Exports.antt).
+ghost use mathlib.Core.Path.{_≡_};
+ghost use Prim.Native.Nat.{_<_, _≤_};
+ghost use Rattle.model.specs.Exports.{refusalCode, readCode, writeCode, decideCode, planCode, planRecordCount, planFirstMoves};
+ghost use Rattle.model.specs.Theorems.Sizes.Answers.{placeLimit, ReadSmall, WriteSmall, DecideSmall, PlanSmall};
+ghost use Rattle.model.specs.Limits.{lastNumber};
+ghost use Rattle.codes.specs.Parts.{partCode};
+use model::DecideAnswer;
+use model::PlanAnswer;
+use model::ReadAnswer;
+use model::Refusal;
+use model::WriteAnswer;
+
+// Bits 32 to 63 the refusal's number, bits 0 to 31 its place.
+fn refusal_code(r: Refusal) -> u64
+    requires { ⌜ (r .number ≤ lastNumber) × (r .place ≤ placeLimit) ⌝ }
+    ensures { λ c. ⌜ c ≡ refusalCode r ⌝ }
+{
+    r.number * 4294967296 + r.place
+}
+
+fn head_code(kind: u64, props: u64, vars: u64, moves: u64) -> u64
+    requires { ⌜ (kind < 256) × (props < 256) × (vars < 256) × (moves < 256) ⌝ }
+    ensures { λ c. ⌜ c ≡ readCode (ReadAnswer.Head kind props vars moves) ⌝ }
+{
+    kind * 16777216 + props * 65536 + vars * 256 + moves
+}
+
+pub fn read_code(a: ReadAnswer) -> u64
+    requires { ⌜ ReadSmall a ⌝ }
+    ensures { λ c. ⌜ c ≡ readCode a ⌝ }
+{
+    match a {
+        ReadAnswer::Head {
+            kind,
+            props,
+            vars,
+            moves,
+        } => head_code(kind, props, vars, moves),
+        ReadAnswer::Refused(r) => refusal_code(r),
+    }
+}
+
+pub fn write_code(a: WriteAnswer) -> u64
+    requires { ⌜ WriteSmall 64_000 a ⌝ }
+    ensures { λ c. ⌜ c ≡ writeCode a ⌝ }
+{
+    match a {
+        WriteAnswer::Written(n) => n,
+        WriteAnswer::Refused(r) => refusal_code(r),
+    }
+}
+
+pub fn decide_code(a: DecideAnswer) -> u64
+    requires { ⌜ DecideSmall a ⌝ }
+    ensures { λ c. ⌜ c ≡ decideCode a ⌝ }
+{
+    match a {
+        DecideAnswer::Plan { layer: _, layers } => layers,
+        DecideAnswer::NoPlan { layers } => 2147483648 + layers,
+        DecideAnswer::Refused(r) => refusal_code(r),
+    }
+}
+
+pub fn plan_code(a: PlanAnswer, records: &mut u64, first: &mut u64) -> u64
+    requires { ⌜ PlanSmall a ⌝ }
+    ensures { λ c. ⌜ (c ≡ planCode a) × (now (records .exit) ≡ planRecordCount a (now (records .entry)))
+        × (now (first .exit) ≡ planFirstMoves a (now (first .entry))) ⌝ }
+{
+    match a {
+        PlanAnswer::Plan {
+            layer: _,
+            layers,
+            records: n,
+            first_moves: set,
+        } => {
+            *records = n;
+            *first = set;
+            layers
+        }
+        PlanAnswer::NoPlan {
+            layers,
+            records: n,
+            first_moves: set,
+        } => {
+            *records = n;
+            *first = set;
+            2147483648 + layers
+        }
+        PlanAnswer::Refused(r) => refusal_code(r),
+    }
+}
+
+// The part's length, or the refusal.
+pub fn part_code(len: u64, number: u64, place: u64) -> u64
+    requires { ⌜ (number ≤ lastNumber) × (place ≤ placeLimit) ⌝ }
+    ensures { λ c. ⌜ c ≡ partCode len number place ⌝ }
+{
+    if number == 0 {
+        len
+    } else {
+        number * 4294967296 + place
+    }
+}

@@ -1,0 +1,2 @@
+-- The specification of one layer down from layer memory.
+pub mod Layers

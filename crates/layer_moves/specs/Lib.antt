@@ -1,0 +1,4 @@
+pub mod Raising
+pub mod Applying
+pub mod Walking
+pub mod UsingMoves

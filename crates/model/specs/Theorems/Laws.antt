@@ -1,0 +1,4 @@
+-- Tests, searches and counts as facts.
+pub mod Booleans
+pub mod Searching
+pub mod Counting

@@ -1,0 +1,96 @@
+-- What stands in a lent memory whose start was written over, and when an output is too short (13). Assumes nothing.
+use Prim.Native.Nat.{ℕ, _+_, _-_, _≤_, _<_}
+use native.Mathlib.Nat.{zero-add}
+use native.Mathlib.Omega.{arith}
+use mathlib.Core.Path.{_≡_, refl, sym, ap, _∙_, subst}
+use mathlib.Core.List.{List, _++_}
+use borrow.Author.Tests.{lt-ltb, le-ltb}
+use lib.Dec.{not-T, ltb, ltb→lt, nltb→le}
+use lib.ListN.{length, getD, drop, length-append, length-drop, List·getD-append}
+use lib.Seq.{getD-drop, getD-append-add, drop-append-seam}
+use Rattle.integer.specs.Store.{put}
+use Rattle.model.specs.Memory.{overwrite, Built}
+use Rattle.model.specs.Plan.{Record}
+use Rattle.model.specs.declared.PlanAnswer.{PlanAnswer}
+use Rattle.model.specs.declared.PlanAnswer.the-variants as plan
+use Rattle.model.specs.Calls.{Output, writes, turns, onOutput, fitted, outputAfter, recordBytes, planned, planFitted}
+use Rattle.model.specs.Theorems.Laws.Booleans.{T-cases}
+
+-- ---- written over the start
+
+module _ {A : Type 0} (new old : List A) where
+  pub length-overwrite : length new ≤ length old → length (overwrite new old) ≡ length old
+  unfolding overwrite
+  length-overwrite h = length-append new (drop (length new) old) ∙ omega (arith, length-drop (length new) old)
+
+  -- once more changes nothing
+  pub overwrite-again : overwrite new (overwrite new old) ≡ overwrite new old
+  unfolding overwrite
+  overwrite-again = ap (λ (l : List A). new ++ l) (drop-append-seam new (drop (length new) old))
+
+  module _ (d : A) where
+    pub overwrite-at : (i : ℕ) → i < length new → getD (overwrite new old) i d ≡ getD new i d
+    unfolding overwrite
+    overwrite-at i h = List·getD-append new (drop (length new) old) d i h
+
+    pub overwrite-past : (i : ℕ) → length new ≤ i → getD (overwrite new old) i d ≡ getD old i d
+    unfolding overwrite
+    overwrite-past i h =
+        let e : i ≡ length new + (i - length new) = omega arith in
+        rw e
+        (getD-append-add new (drop (length new) old) (i - length new) d ∙ getD-drop (length new) old (i - length new) d)
+
+-- bytes stored from place 0 on
+pub put-first : (old bs : List ℕ) → put old 0 bs ≡ overwrite bs old
+unfolding overwrite put
+put-first old bs = rw (zero-add (length bs)) refl
+
+-- ---- "13 | output shorter than the result | 0"
+
+module _ (size : ℕ) (bs : List ℕ) where
+  pub fitted-whole : length bs ≤ size → fitted size (writes bs) ≡ writes bs
+  unfolding fitted
+  fitted-whole h = rw (le-ltb size (length bs) h, fitted) refl
+
+  pub fitted-short : size < length bs → fitted size (writes bs) ≡ turns (record { number = 13; place = 0 })
+  unfolding fitted
+  fitted-short h = rw (lt-ltb size (length bs) h, fitted) refl
+
+  -- what holds in both cases holds
+  pub fitted-cases :
+      (P : Output → Type 0)
+      → (length bs ≤ size → P (writes bs))
+      → (size < length bs → P (turns (record { number = 13; place = 0 })))
+      → P (fitted size (writes bs))
+  fitted-cases P whole short =
+      T-cases (ltb size (length bs))
+      (λ t. let h : size < length bs = ltb→lt size (length bs) t in subst P (sym (fitted-short h)) (short h))
+      (λ t.
+      let h : length bs ≤ size = nltb→le size (length bs) (not-T (ltb size (length bs)) t) in
+      subst P (sym (fitted-whole h)) (whole h))
+
+-- an output keeps its length
+pub fitted-length : (out : List ℕ) (o : Output) → length (outputAfter (fitted (length out) o) out) ≡ length out
+unfolding fitted outputAfter
+fitted-length out (turns r) = refl
+fitted-length out (writes bs) =
+    fitted-cases (length out) bs (λ (o : Output). length (outputAfter o out) ≡ length out) (λ h. length-overwrite bs out h) (λ h. refl)
+
+-- plan's answer
+module _ (size : ℕ) (rs : List Record) (b : Built) where
+  pub plan-whole : length (recordBytes rs) ≤ size → planFitted size rs b ≡ planned rs b
+  unfolding planFitted onOutput
+  plan-whole h = rw (fitted-whole size (recordBytes rs) h) refl
+
+  pub plan-short : size < length (recordBytes rs) → planFitted size rs b ≡ plan.Refused (record { number = 13; place = 0 })
+  unfolding planFitted onOutput
+  plan-short h = rw (fitted-short size (recordBytes rs) h) refl
+
+  pub plan-cases :
+      (P : PlanAnswer → Type 0)
+      → (length (recordBytes rs) ≤ size → P (planned rs b))
+      → P (plan.Refused (record { number = 13; place = 0 }))
+      → P (planFitted size rs b)
+  unfolding planFitted onOutput
+  plan-cases P whole short =
+      fitted-cases size (recordBytes rs) (λ (o : Output). P (onOutput o (λ bs. planned rs b) (λ r. plan.Refused r))) whole (λ h. short)

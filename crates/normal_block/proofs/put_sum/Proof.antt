@@ -1,0 +1,122 @@
+-- `put_sum` meets its contract. The invariant: what is left to be written are the terms from term `i` on. The measure is their
+-- number. Assumes nothing.
+use Prim.Native.Nat.{_+_, _*_, _-_, _≤_}
+use native.Mathlib.Omega.{arith}
+use mathlib.Core.Path.{ap, _∙_}
+use Rattle.integer.specs.Linear.{back}
+use Rattle.block.specs.Sums.{few-terms}
+use Rattle.output.specs.Writing.{written-not, Writing, writing-behind}
+use Rattle.normal_block.specs.Signs.{negateIf, sumBytes}
+use Rattle.normal_block.specs.Sums.{SumAt, termsAt, length-printed, sum-behind, sum-term, term-variable, term-weighs, sum-start, sum-step, sum-done}
+use Rattle.normal_block.proofs.put_sum.Statement.{statement}
+use Rattle.normal_block.proofs.put_sum.Tie as tie
+
+abbrev Inv-loop : tie.InvT-loop
+Inv-loop part from n negated out₀ at next to₀ i₀ out to i =
+    (i ≤ n)
+    × Writing out₀ at (sumBytes negated (termsAt part from n)) out to (sumBytes negated (termsAt part (from + 4 * i) (n - i)))
+
+abbrev μ-loop : tie.MeasureT-loop
+μ-loop part from n negated out₀ at next to₀ i₀ out to i = n - i
+
+abbrev start : tie.At-loop Inv-loop μ-loop → tie.Start Inv-loop μ-loop
+start c = c .before .before .before .before
+
+-- the terms that are left
+behind : (c : tie.At-loop Inv-loop μ-loop) → let a = start c .args in SumAt (a .part .now) (a .from + 4 * c .loop .i) (a .n - c .loop .i)
+behind c = sum-behind (c .loop .i) (start c .pre .0) (c .loop .inv .0)
+
+mul-next : tie.Need-mul-next Inv-loop μ-loop
+mul-next c = omega (arith, few-terms (c .before .before .pre .0 .terms))
+
+add-next : tie.Need-add-next Inv-loop μ-loop
+add-next c = omega (arith, few-terms (c .before .before .pre .0 .terms))
+
+returns : tie.Need-returns Inv-loop μ-loop
+returns c =
+    let a = c .before .before .before .args in
+    let n = length-printed (a .negated) (a .part .now) (a .from) (a .n) in
+    written-not _ (omega (arith, n)) (omega (arith, n))
+
+loop-holds : tie.Need-loop-holds Inv-loop μ-loop
+loop-holds c =
+    let a = c .before .before .before .args in
+    (omega arith, sum-start (a .negated) (a .part .now) (a .from) (a .n) (a .out .now) (a .at))
+
+mul-term : tie.Need-mul-term Inv-loop μ-loop
+mul-term c = omega arith
+
+add-term : tie.Need-add-term Inv-loop μ-loop
+add-term c = omega (arith, behind (c .before) .terms .bytes .within)
+
+variable-requires : tie.Need-variable-requires Inv-loop μ-loop
+variable-requires c κs = sum-term (behind (c .before)) (omega arith)
+
+weight-requires : tie.Need-weight-requires Inv-loop μ-loop
+weight-requires c κs = sum-term (behind (c .before .before)) (omega arith)
+
+negate-if-requires : tie.Need-negate-if-requires Inv-loop μ-loop
+negate-if-requires c κs = rw (back (c .weight .result) (c .weight .ok)) (omega (arith, c .weight .ensures .small))
+
+put-term-requires : tie.Need-put-term-requires Inv-loop μ-loop
+put-term-requires c κs =
+    let n = c .before in
+    let l = n .before .before .before .before in
+    let a = start l .args in
+    let told = rw (back (n .before .weight .result) (n .before .weight .ok)) at (n .negate-if .ensures) in
+    rw (back (n .negate-if .result) (n .negate-if .ok)) (
+      omega (arith, writing-behind (l .loop .inv .1), l .loop .inv .1 .so-far .kept, length-printed (a .negated) (a .part .now) (a .from) (a .n), length-printed (a .negated) (a .part .now) (a .from + 4 * l .loop .i) (a .n - l .loop .i), n .before .before .before .loop-test .taken, l .before .if1 .left),
+      omega (arith, term-variable (behind l) (omega arith) (n .before .before .variable .ensures) .1),
+      omega (arith, told .1, n .before .weight .ensures .small),
+    )
+
+add-i : tie.Need-add-i Inv-loop μ-loop
+add-i c = omega arith
+
+loop-less : tie.Need-loop-less Inv-loop μ-loop
+loop-less c = omega arith
+
+loop-again : tie.Need-loop-again Inv-loop μ-loop
+loop-again c =
+    let n = c .before .before .before .before in
+    let l = n .before .before .before .before in
+    let a = start l .args in
+    let s = behind l in
+    let told = rw (back (n .before .weight .result) (n .before .weight .ok)) at (n .negate-if .ensures .0) in
+    let stored = rw (back (n .negate-if .result) (n .negate-if .ok)) at (c .before .before .put-term .ensures) in (
+      omega arith,
+      sum-step (a .negated) (a .part .now) (a .from) (a .n) (l .loop .i) (n .before .before .before .loop-test .taken) (l .loop .inv .1)
+          (term-variable s (omega arith) (n .before .before .variable .ensures) .0)
+          (told ∙ ap (negateIf (a .negated)) (term-weighs s (omega arith) (n .before .weight .ensures)))
+          stored,
+    )
+
+same-length : tie.Need-same-length Inv-loop μ-loop
+same-length c = c .before .loop .inv .1 .so-far .kept
+
+returns-2 : tie.Need-returns-2 Inv-loop μ-loop
+returns-2 c =
+    let a = start (c .before) .args in
+    sum-done (a .negated) (a .part .now) (a .from) (a .n) (c .before .loop .i) (c .loop-test .left) (c .before .loop .inv .1)
+
+pub put-sum-spec : {M : Type 1} → statement M
+put-sum-spec =
+    tie.close
+    (tie.spec
+    Inv-loop
+    μ-loop
+    mul-next
+    add-next
+    returns
+    loop-holds
+    mul-term
+    add-term
+    variable-requires
+    weight-requires
+    negate-if-requires
+    put-term-requires
+    add-i
+    loop-less
+    loop-again
+    same-length
+    returns-2)

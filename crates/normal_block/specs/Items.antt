@@ -1,0 +1,147 @@
+-- The bytes of normal conditions and effects, in the terms of the written item (document 01, "Normal form").
+-- Assumes nothing.
+use Prim.Native.Nat.{ℕ, zero, suc, _+_, _*_, _≤_, _<_}
+use native.Mathlib.Omega.{arith}
+use mathlib.Core.Path.{_≡_, refl, sym, ap, _∙_}
+use mathlib.Core.Bool.{Bool, true, false, not}
+use mathlib.Core.List.{List, [], _∷_, _++_, append-nil}
+use lib.IntN.{ℤ, pos, negℤ, _+ℤ_, _-ℤ_}
+use lib.ListN.{length, length-append}
+use Rattle.integer.specs.BigEndian.{signedBytes, length-signedBytes}
+use Rattle.model.specs.Task.{Term, Comparison, atLeast, above, atMost, below, equal, Kind, assign, increase, decrease, Block}
+use Rattle.model.specs.Command.{codeOf, closeCondition, closeEffect, comparisonCode, kindCode, termBytes, itemBytes, itemsBytes}
+use Rattle.model.specs.Reading.{comparisonOf}
+use Rattle.model.specs.NormalForm.{negated, signedSum, least, normalCondition, mirrored, normalEffect}
+use Rattle.block.specs.Sums.{few-terms}
+use Rattle.normal_block.specs.Signs.{negateSumIf, negate-again, sumBytes, length-sum}
+use Rattle.normal_block.specs.Sums.{SumAt, termsAt, length-terms}
+
+-- the normal condition S ≥ c, or −S ≥ c
+unfoldable pub conditionBytes : Bool → List Term → ℤ → List ℕ
+conditionBytes m ts c = sumBytes m ts ++ codeOf closeCondition ∷ 0 ∷ signedBytes 4 c
+
+-- the normal effect on v with value S + c, or −S + c
+unfoldable pub effectBytes : Bool → ℕ → ℕ → List Term → ℤ → List ℕ
+effectBytes m kd v ts c = sumBytes m ts ++ codeOf closeEffect ∷ kd ∷ v ∷ signedBytes 4 c
+
+-- "Each effect on v_i is written on 2i, then mirrored on 2i+1."
+unfoldable pub mirrorBytes : Bool → ℕ → ℕ → List Term → ℤ → List ℕ
+mirrorBytes m kd v ts c = effectBytes m kd (2 * v) ts c ++ effectBytes (not m) kd (2 * v + 1) ts (negℤ c)
+
+length-condition : (m : Bool) (ts : List Term) (c : ℤ) → length (conditionBytes m ts c) ≡ 4 * length ts + 6
+unfolding conditionBytes
+length-condition m ts c =
+    omega (arith, length-append (sumBytes m ts) (codeOf closeCondition ∷ 0 ∷ signedBytes 4 c), length-sum m ts, length-signedBytes 4 c)
+
+length-effect : (m : Bool) (kd v : ℕ) (ts : List Term) (c : ℤ) → length (effectBytes m kd v ts c) ≡ 4 * length ts + 7
+unfolding effectBytes
+length-effect m kd v ts c =
+    omega (arith, length-append (sumBytes m ts) (codeOf closeEffect ∷ kd ∷ v ∷ signedBytes 4 c), length-sum m ts, length-signedBytes 4 c)
+
+length-mirror : (m : Bool) (kd v : ℕ) (ts : List Term) (c : ℤ) → length (mirrorBytes m kd v ts c) ≡ 2 * (4 * length ts + 7)
+unfolding mirrorBytes
+length-mirror m kd v ts c =
+    omega
+    (arith, length-append (effectBytes m kd (2 * v) ts c) (effectBytes (not m) kd (2 * v + 1) ts (negℤ c)), length-effect m kd (2 * v) ts c, length-effect (not m) kd (2 * v + 1) ts (negℤ c))
+
+-- ---- conditions
+
+-- a normal condition in front of others
+least-bytes : (m : Bool) (ts : List Term) (c : ℤ) (b : Block) → itemsBytes (least (negateSumIf m ts) c ∷ b) ≡ conditionBytes m ts c ++ itemsBytes b
+unfolding itemsBytes itemBytes least conditionBytes sumBytes comparisonCode
+least-bytes m ts c b = refl
+
+least-alone : (m : Bool) (ts : List Term) (c : ℤ) → itemsBytes (least (negateSumIf m ts) c ∷ []) ≡ conditionBytes m ts c
+unfolding itemsBytes
+least-alone m ts c = least-bytes m ts c [] ∙ append-nil (conditionBytes m ts c)
+
+-- "Sum S: ≥ c stays; > c is S ≥ c+1; ≤ c is −S ≥ −c; < c is −S ≥ 1−c; = c is S ≥ c, then −S ≥ −c."
+unfoldable pub conditionPrint : Comparison → List Term → ℤ → List ℕ
+conditionPrint atLeast ts c = conditionBytes false ts c
+conditionPrint above ts c = conditionBytes false ts (c +ℤ pos 1)
+conditionPrint atMost ts c = conditionBytes true ts (negℤ c)
+conditionPrint below ts c = conditionBytes true ts (pos 1 -ℤ c)
+conditionPrint equal ts c = conditionBytes false ts c ++ conditionBytes true ts (negℤ c)
+
+pub condition-print : (o : Comparison) (ts : List Term) (c : ℤ) → itemsBytes (normalCondition o ts c) ≡ conditionPrint o ts c
+unfolding conditionPrint normalCondition negateSumIf
+condition-print atLeast ts c = least-alone false ts c
+condition-print above ts c = least-alone false ts (c +ℤ pos 1)
+condition-print atMost ts c = least-alone true ts (negℤ c)
+condition-print below ts c = least-alone true ts (pos 1 -ℤ c)
+condition-print equal ts c =
+    least-bytes false ts c (least (negated ts) (negℤ c) ∷ [])
+    ∙ ap (λ (l : List ℕ). conditionBytes false ts c ++ l) (least-alone true ts (negℤ c))
+
+-- ---- effects
+
+mirrored-print : (m : Bool) (k : Kind) (v : ℕ) (ts : List Term) (c : ℤ) → itemsBytes (mirrored k v (negateSumIf m ts) c) ≡ mirrorBytes m (kindCode k) v ts c
+unfolding mirrored itemsBytes itemBytes mirrorBytes effectBytes sumBytes
+mirrored-print m k v ts c =
+    let first = termBytes (signedSum (negateSumIf m ts)) ++ codeOf closeEffect ∷ kindCode k ∷ (2 * v) ∷ signedBytes 4 c in
+    let close = codeOf closeEffect ∷ kindCode k ∷ (2 * v + 1) ∷ signedBytes 4 (negℤ c) in
+    ap (λ (l : List ℕ). first ++ l)
+    (append-nil (termBytes (signedSum (negated (negateSumIf m ts))) ++ close)
+    ∙ ap (λ (us : List Term). termBytes (signedSum us) ++ close) (sym (negate-again m ts)))
+
+-- "v −= e is v += −e."
+unfoldable pub effectPrint : Kind → ℕ → List Term → ℤ → List ℕ
+effectPrint assign v ts c = mirrorBytes false 0 v ts c
+effectPrint increase v ts c = mirrorBytes false 1 v ts c
+effectPrint decrease v ts c = mirrorBytes true 1 v ts (negℤ c)
+
+pub effect-print : (k : Kind) (v : ℕ) (ts : List Term) (c : ℤ) → itemsBytes (normalEffect k v ts c) ≡ effectPrint k v ts c
+unfolding effectPrint normalEffect negateSumIf kindCode
+effect-print assign v ts c = mirrored-print false assign v ts c
+effect-print increase v ts c = mirrored-print false increase v ts c
+effect-print decrease v ts c = mirrored-print true increase v ts (negℤ c)
+
+-- ---- lengths by the item's numbers
+
+unfoldable pub conditionSize : Comparison → ℕ → ℕ
+conditionSize atLeast n = 4 * n + 6
+conditionSize above n = 4 * n + 6
+conditionSize atMost n = 4 * n + 6
+conditionSize below n = 4 * n + 6
+conditionSize equal n = 2 * (4 * n + 6)
+
+pub condition-size : (o : Comparison) (ts : List Term) (c : ℤ) → length (conditionPrint o ts c) ≡ conditionSize o (length ts)
+unfolding conditionPrint conditionSize
+condition-size atLeast ts c = length-condition false ts c
+condition-size above ts c = length-condition false ts (c +ℤ pos 1)
+condition-size atMost ts c = length-condition true ts (negℤ c)
+condition-size below ts c = length-condition true ts (pos 1 -ℤ c)
+condition-size equal ts c =
+    omega
+    (arith, length-append (conditionBytes false ts c) (conditionBytes true ts (negℤ c)), length-condition false ts c, length-condition true ts (negℤ c))
+
+pub effect-size : (k : Kind) (v : ℕ) (ts : List Term) (c : ℤ) → length (effectPrint k v ts c) ≡ 2 * (4 * length ts + 7)
+unfolding effectPrint
+effect-size assign v ts c = length-mirror false 0 v ts c
+effect-size increase v ts c = length-mirror false 1 v ts c
+effect-size decrease v ts c = length-mirror true 1 v ts (negℤ c)
+
+-- of the terms that stand in a part, 8 at most
+module _ (m : Bool) {part : List ℕ} {from n : ℕ} (s : SumAt part from n) where
+  pub condition-long : (c : ℤ) → length (conditionBytes m (termsAt part from n) c) ≤ 38
+  condition-long c = omega (arith, length-condition m (termsAt part from n) c, length-terms part from n, few-terms (s .terms))
+
+  pub effect-long : (kd v : ℕ) (c : ℤ) → length (effectBytes m kd v (termsAt part from n) c) ≤ 39
+  effect-long kd v c = omega (arith, length-effect m kd v (termsAt part from n) c, length-terms part from n, few-terms (s .terms))
+
+-- every comparison but = is one condition
+pub single-size : (o n : ℕ) → o < 4 → conditionSize (comparisonOf o) n ≡ 4 * n + 6
+unfolding comparisonOf conditionSize
+single-size zero n h = refl
+single-size (suc zero) n h = refl
+single-size (suc (suc zero)) n h = refl
+single-size (suc (suc (suc zero))) n h = refl
+single-size (suc (suc (suc (suc o)))) n h = absurd (omega arith)
+
+pub condition-most : (o : Comparison) (n : ℕ) → conditionSize o n ≤ 2 * (4 * n + 6)
+unfolding conditionSize
+condition-most atLeast n = omega arith
+condition-most above n = omega arith
+condition-most atMost n = omega arith
+condition-most below n = omega arith
+condition-most equal n = omega arith

@@ -1,0 +1,2 @@
+-- The specification of one layer's records.
+pub mod Records

@@ -1,0 +1,2 @@
+-- The specification of reading a stored layer back.
+pub mod View
