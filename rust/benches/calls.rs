@@ -3,12 +3,12 @@
 //! Each figure is the median of repeated samples; the two engines take turns. Memories are
 //! lent again as the call before left them.
 
-use campaign::engine::{Engine, REFERENCE};
+use campaign::engine::{Engine, Lent, REFERENCE};
 use campaign::generate::{dense, m1, task_of, waves, Rng, Task};
-use campaign::harness::layer_bound;
 use campaign::proved::raw;
 use campaign::reference::semantics::saturate;
 use campaign::reference::table::Kind;
+use campaign::room;
 use std::hint::black_box;
 use std::time::{Duration, Instant};
 
@@ -35,12 +35,11 @@ struct Bench {
 
 impl Bench {
     fn new(name: &str, task: Task) -> Bench {
-        let [p, n, a] = [1, 2, 3].map(|i| usize::from(task.table[i]));
-        let bound = layer_bound(a, n);
+        let counts = [1, 2, 3].map(|i| usize::from(task.table[i]));
         Bench {
             name: name.into(),
-            layers: vec![0; p + a + n * (bound + 1)],
-            out: vec![0; 64_000 + 10 * a * bound],
+            layers: vec![0; room::layer_numbers(counts)],
+            out: vec![0; 64_000 + room::record_bytes(counts)],
             task,
         }
     }
@@ -120,15 +119,23 @@ impl Bench {
                     records: &mut records,
                     first_moves: &mut first_moves,
                 };
-                let (layers, out) = (&mut lent.layers, &mut lent.out);
-                raw::campaign(table, state, &mut self.out, layers, out, numbers).is_ok()
+                let lent = lent.lend(&mut self.out);
+                raw::campaign(table, state, lent, numbers).is_ok()
             },
             || {
-                let (layers, out) = (&mut other.layers, &mut other.out);
-                let campaign = REFERENCE.campaign(table, state, &mut others, layers, out);
-                campaign.plan.is_ok()
+                let lent = other.lend(&mut others);
+                REFERENCE.campaign(table, state, lent).plan.is_ok()
             },
         )
+    }
+
+    /// Its memories, beside one for the normal form.
+    fn lend<'l>(&'l mut self, normal: &'l mut [u8]) -> Lent<'l> {
+        Lent {
+            normal,
+            layers: &mut self.layers,
+            out: &mut self.out,
+        }
     }
 
     /// The layers that `decide` reports.

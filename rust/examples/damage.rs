@@ -5,7 +5,7 @@
 //!
 //! The first difference ends the run and is shown in hexadecimal.
 
-use campaign::call::Call;
+use campaign::call::{Call, CallKind};
 use campaign::fenced::Fenced;
 use campaign::generate::{call, damage, full_length, Rng, Task};
 use campaign::proved::PROVED;
@@ -48,15 +48,15 @@ fn long_call(rng: &mut Rng) -> Call {
     let kind = *rng.pick(&[Kind::Written, Kind::Normal]);
     let Task { table, state } = full_length(rng, kind, length);
     match rng.below(3) {
-        0 => Call::Read { table },
-        1 => Call::Normalise {
+        0 => Call {
+            table,
+            ..CallKind::Read.call()
+        },
+        1 => Call {
             table,
             room: 64_000,
+            ..CallKind::Normalise.call()
         },
-        _ => Call::Decide {
-            table,
-            state,
-            numbers: 1_000,
-        },
+        _ => Task { table, state }.decide(1_000),
     }
 }

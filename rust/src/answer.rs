@@ -141,6 +141,19 @@ impl Plan {
             layers: self.layers,
         }
     }
+
+    /// The moves and counts of its records, from the bytes that the call wrote.
+    ///
+    /// # Panics
+    /// If a record does not begin with 52.
+    pub fn list(self, out: &[u8]) -> impl Iterator<Item = (u64, u64)> + '_ {
+        let records = out.chunks_exact(10).take(self.records as usize);
+        records.map(|record| {
+            assert_eq!(record[0], 0x52, "a record begins with 52");
+            let count = record[2..].try_into().expect("a count has eight bytes");
+            (u64::from(record[1]), u64::from_be_bytes(count))
+        })
+    }
 }
 
 impl fmt::Display for Plan {

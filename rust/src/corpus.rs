@@ -33,7 +33,7 @@ pub fn recorded() -> Vec<Call> {
 
 /// The line of a call.
 pub fn line(call: &Call) -> String {
-    format!("{} {call}", call.kind().name())
+    format!("{} {call}", call.kind.name())
 }
 
 /// The call of a line.
@@ -49,9 +49,10 @@ mod tests {
 
     #[test]
     fn lines_are_read_back() {
-        let call = Call::Block {
+        let call = Call {
             table: vec![0x4E, 0, 0, 0, 0x47, 0x45],
-            block: 3,
+            index: 3,
+            ..CallKind::Block.call()
         };
         assert_eq!(line(&call), "block 4e0000004745 3");
         assert_eq!(parse(&line(&call)), Ok(call));

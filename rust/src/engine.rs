@@ -29,20 +29,33 @@ pub trait Engine {
 
     /// A written table from its normal form to its plan; by default made of `normalise`,
     /// `decide` and `plan`.
-    fn campaign(
-        &self,
-        table: &[u8],
-        state: &[u8],
-        normal: &mut [u8],
-        layers: &mut [i64],
-        out: &mut [u8],
-    ) -> Campaign {
-        made_campaign(self, table, state, normal, layers, out)
+    fn campaign(&self, table: &[u8], state: &[u8], lent: Lent) -> Campaign {
+        made_campaign(self, table, state, lent)
     }
 
     /// What the listing program prints; by default made of `campaign`.
     fn listing(&self, task: &[u8], state: &[u8]) -> String {
         made_listing(self, task, state)
+    }
+}
+
+/// The memories that are lent to `campaign`.
+pub struct Lent<'l> {
+    /// For the normal form.
+    pub normal: &'l mut [u8],
+    pub layers: &'l mut [i64],
+    /// For the records.
+    pub out: &'l mut [u8],
+}
+
+impl Lent<'_> {
+    /// The same memories, for a call before another use of them.
+    pub fn again(&mut self) -> Lent<'_> {
+        Lent {
+            normal: self.normal,
+            layers: self.layers,
+            out: self.out,
+        }
     }
 }
 
@@ -52,14 +65,12 @@ fn made_campaign<E: Engine + ?Sized>(
     engine: &E,
     table: &[u8],
     state: &[u8],
-    normal: &mut [u8],
-    layers: &mut [i64],
-    out: &mut [u8],
+    lent: Lent,
 ) -> Campaign {
-    match engine.normalise(table, normal) {
+    match engine.normalise(table, lent.normal) {
         Ok(length) => Campaign {
-            decision: engine.decide(&normal[..length], state, layers),
-            plan: engine.plan(&normal[..length], state, layers, out),
+            decision: engine.decide(&lent.normal[..length], state, lent.layers),
+            plan: engine.plan(&lent.normal[..length], state, lent.layers, lent.out),
         },
         Err(refusal) => Campaign::refused(refusal),
     }
@@ -75,11 +86,13 @@ fn listing_of<E: Engine + ?Sized>(
     task: &[u8],
     state: &[u8],
 ) -> Result<String, Refusal> {
-    let mut normal = vec![0; reference::NORMAL_ROOM];
-    let mut memory = vec![0; reference::MEMORY_ROOM];
     let mut out = vec![0; reference::PLAN_ROOM];
-    let campaign = engine.campaign(task, state, &mut normal, &mut memory, &mut out);
-    let plan = campaign.plan?;
+    let lent = Lent {
+        normal: &mut vec![0; reference::NORMAL_ROOM],
+        layers: &mut vec![0; reference::MEMORY_ROOM],
+        out: &mut out,
+    };
+    let plan = engine.campaign(task, state, lent).plan?;
     if plan.answer == Answer::NoPlan {
         return Ok(format!("no plan layers {}\n", plan.layers));
     }
@@ -112,7 +125,7 @@ type Step = fn(&[u8], &[u8], u64, &mut [u8]) -> Result<usize, Refusal>;
 type Decide = fn(&[u8], &[u8], &mut [i64]) -> Result<Decision, Refusal>;
 type Planning = fn(&[u8], &[u8], &mut [i64], &mut [u8]) -> Result<Plan, Refusal>;
 /// This and the next are given the other calls too.
-type Campaigning = fn(&Calls, &[u8], &[u8], &mut [u8], &mut [i64], &mut [u8]) -> Campaign;
+pub type Campaigning = fn(&Calls, &[u8], &[u8], Lent) -> Campaign;
 type Listing = fn(&Calls, &[u8], &[u8]) -> String;
 
 /// The reference implementation.
@@ -176,15 +189,8 @@ impl Engine for Calls {
         (self.plan)(table, state, layers, out)
     }
 
-    fn campaign(
-        &self,
-        table: &[u8],
-        state: &[u8],
-        normal: &mut [u8],
-        layers: &mut [i64],
-        out: &mut [u8],
-    ) -> Campaign {
-        (self.campaign)(self, table, state, normal, layers, out)
+    fn campaign(&self, table: &[u8], state: &[u8], lent: Lent) -> Campaign {
+        (self.campaign)(self, table, state, lent)
     }
 
     fn listing(&self, task: &[u8], state: &[u8]) -> String {

@@ -4,7 +4,7 @@
 #![allow(unsafe_code)]
 
 use crate::answer::{Campaign, Decision, Head, Plan, Refusal};
-use crate::engine::Engine;
+use crate::engine::{Engine, Lent};
 use crate::guarded::{Canary, MARGIN};
 use std::ffi::{c_int, c_long, c_void};
 use std::ops::{Deref, DerefMut};
@@ -129,6 +129,14 @@ impl<T> Drop for Fence<T> {
     }
 }
 
+/// Makes a call that writes to a copy behind a fence, and takes over what it wrote.
+fn writing<T: Canary, A>(memory: &mut [T], call: impl FnOnce(&mut [T]) -> A) -> A {
+    let mut lent = Fence::holding(memory);
+    let answer = call(&mut lent);
+    lent.give_back(memory);
+    answer
+}
+
 /// Lends an engine copies behind fences: inputs to read only, outputs to write.
 pub struct Fenced<E>(pub E);
 
@@ -145,26 +153,18 @@ impl<E: Engine> Engine for Fenced<E> {
     }
 
     fn normalise(&self, table: &[u8], out: &mut [u8]) -> Result<usize, Refusal> {
-        let mut lent = Fence::holding(out);
-        let answer = self.0.normalise(&Fence::reading(table), &mut lent);
-        lent.give_back(out);
-        answer
+        let table = Fence::reading(table);
+        writing(out, |out| self.0.normalise(&table, out))
     }
 
     fn step(&self, table: &[u8], state: &[u8], mv: u64, out: &mut [u8]) -> Result<usize, Refusal> {
         let [table, state] = [table, state].map(Fence::reading);
-        let mut lent = Fence::holding(out);
-        let answer = self.0.step(&table, &state, mv, &mut lent);
-        lent.give_back(out);
-        answer
+        writing(out, |out| self.0.step(&table, &state, mv, out))
     }
 
     fn decide(&self, table: &[u8], state: &[u8], layers: &mut [i64]) -> Result<Decision, Refusal> {
         let [table, state] = [table, state].map(Fence::reading);
-        let mut lent = Fence::holding(layers);
-        let answer = self.0.decide(&table, &state, &mut lent);
-        lent.give_back(layers);
-        answer
+        writing(layers, |layers| self.0.decide(&table, &state, layers))
     }
 
     fn plan(
@@ -175,37 +175,32 @@ impl<E: Engine> Engine for Fenced<E> {
         out: &mut [u8],
     ) -> Result<Plan, Refusal> {
         let [table, state] = [table, state].map(Fence::reading);
-        let (mut memory, mut records) = (Fence::holding(layers), Fence::holding(out));
-        let answer = self.0.plan(&table, &state, &mut memory, &mut records);
-        memory.give_back(layers);
-        records.give_back(out);
-        answer
+        writing(layers, |layers| {
+            writing(out, |out| self.0.plan(&table, &state, layers, out))
+        })
     }
 
-    fn campaign(
-        &self,
-        table: &[u8],
-        state: &[u8],
-        normal: &mut [u8],
-        layers: &mut [i64],
-        out: &mut [u8],
-    ) -> Campaign {
+    fn campaign(&self, table: &[u8], state: &[u8], lent: Lent) -> Campaign {
         let [table, state] = [table, state].map(Fence::reading);
-        let [mut form, mut records] = [&*normal, &*out].map(Fence::holding);
-        let mut memory = Fence::holding(layers);
-        let answer = (self.0).campaign(&table, &state, &mut form, &mut memory, &mut records);
-        form.give_back(normal);
-        memory.give_back(layers);
-        records.give_back(out);
-        answer
+        writing(lent.normal, |normal| {
+            writing(lent.layers, |layers| {
+                writing(lent.out, |out| {
+                    let lent = Lent {
+                        normal,
+                        layers,
+                        out,
+                    };
+                    self.0.campaign(&table, &state, lent)
+                })
+            })
+        })
     }
 }
 
 #[cfg(test)]
 mod tests {
     use super::*;
-    use crate::engine::{Calls, REFERENCE};
-    use crate::generate::m1;
+    use crate::engine::Calls;
     use std::env;
     use std::os::unix::process::ExitStatusExt;
     use std::process::Command;
@@ -228,21 +223,6 @@ mod tests {
         let mut lent = Fence::holding(b"state");
         lent.margin_mut()[MARGIN - 3] ^= 1;
         lent.give_back(&mut [0; 5]);
-    }
-
-    #[test]
-    fn blocks_are_parts_of_the_callers_table() {
-        let table = m1().table;
-        for b in 0..5 {
-            let [one, other] = [
-                REFERENCE.block(&table, b),
-                Fenced(REFERENCE).block(&table, b),
-            ];
-            assert_eq!(
-                one.map(<[u8]>::as_ptr_range),
-                other.map(<[u8]>::as_ptr_range)
-            );
-        }
     }
 
     /// Says to this program, run again, that it is to make the stray access.

@@ -2,18 +2,20 @@
 
 mod call;
 mod damage;
+mod maker;
 mod rng;
 mod sizes;
 mod task;
 mod tuned;
 
-pub use crate::call::hex;
+pub use crate::hex::hex;
 pub use call::{call, campaign_call, normal_length, sized_calls};
 pub use damage::{
     command_string, damage, deletions, insertions, random_bytes, single_byte_changes, spoil,
     truncations, wrong_state,
 };
+pub use maker::{state_for, task, task_of};
 pub use rng::Rng;
 pub use sizes::Sizes;
-pub use task::{state_for, task, task_of, Task};
+pub use task::Task;
 pub use tuned::{at_value_limit, dense, full_length, large_values, m1, many_records, steep, waves};

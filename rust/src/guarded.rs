@@ -29,7 +29,7 @@ impl Canary for u64 {
 }
 
 /// A buffer to lend, in the middle of canaries.
-#[derive(Clone, Debug)]
+#[derive(Clone, Debug, PartialEq, Eq)]
 pub struct Guarded<T> {
     all: Vec<T>,
 }

@@ -1,9 +1,10 @@
 //! Recorded outcomes, run line by line on any engine.
 
 use crate::answer::{Plan, Refusal};
-use crate::call::{Call, CallKind, Fill};
-use crate::engine::Engine;
+use crate::call::{Buffers, Call, CallKind, Fill, Outcome};
+use crate::engine::{Engine, Lent};
 use crate::guarded::Guarded;
+use crate::room;
 use std::fmt;
 use std::fs;
 use std::panic::{catch_unwind, AssertUnwindSafe};
@@ -53,7 +54,11 @@ pub fn check_lines(engine: &dyn Engine, kind: CallKind) {
 pub fn run_lines(engine: &dyn Engine, kind: CallKind, text: &str) -> Result<usize, Difference> {
     for (i, line) in text.lines().enumerate() {
         let (call, expected) = line.split_once(" -> ").unwrap_or((line, ""));
-        let outcome = Call::parse(kind, call).and_then(|call| run(&call, Fill::Recorded, engine));
+        let outcome = Call::parse(kind, call).and_then(|call| {
+            let buffers = Buffers::of(&call, Fill::Recorded);
+            run(&call, buffers, engine)
+        });
+        let outcome = outcome.map(|outcome| outcome.to_string());
         if outcome.as_deref() != Ok(expected) {
             return Err(Difference {
                 file: kind.file(),
@@ -72,22 +77,25 @@ pub fn compare(call: &Call, one: &dyn Engine, other: &dyn Engine) -> Result<(), 
     compare_over(call, Fill::Recorded, one, other).map(drop)
 }
 
-/// The same with other contents of all outputs before the call; answers the outcome.
+/// The same with other contents of all outputs before the call; answers what both answer.
 pub fn compare_over(
     call: &Call,
     fill: Fill,
     one: &dyn Engine,
     other: &dyn Engine,
 ) -> Result<String, Difference> {
-    let outcomes = [one, other].map(|engine| run(call, fill, engine));
+    let buffers = Buffers::of(call, fill);
+    let outcomes = [(one, buffers.clone()), (other, buffers)];
+    let outcomes = outcomes.map(|(engine, buffers)| run(call, buffers, engine));
     let [expected, got] = match outcomes {
-        [Ok(expected), Ok(got)] if expected == got => return Ok(got),
-        outcomes => {
-            outcomes.map(|outcome| outcome.unwrap_or_else(|error| format!("error: {error}")))
-        }
+        [Ok(expected), Ok(got)] if expected == got => return Ok(got.answer),
+        outcomes => outcomes.map(|outcome| match outcome {
+            Ok(outcome) => outcome.to_string(),
+            Err(error) => format!("error: {error}"),
+        }),
     };
     Err(Difference {
-        file: call.kind().file(),
+        file: call.kind.file(),
         line: 0,
         call: call.to_string(),
         expected,
@@ -96,8 +104,8 @@ pub fn compare_over(
 }
 
 /// Runs a call; a panic is an error.
-fn run(call: &Call, fill: Fill, engine: &dyn Engine) -> Result<String, String> {
-    let outcome = catch_unwind(AssertUnwindSafe(|| call.run_over(engine, fill)));
+fn run(call: &Call, buffers: Buffers, engine: &dyn Engine) -> Result<Outcome, String> {
+    let outcome = catch_unwind(AssertUnwindSafe(|| call.run_over(engine, buffers)));
     outcome.unwrap_or_else(|_| Err("the call panics".into()))
 }
 
@@ -124,11 +132,6 @@ pub struct Planned {
     pub memory: Vec<i64>,
 }
 
-/// The most layers that can be reported for a normal table with these counts.
-pub fn layer_bound(moves: usize, variables: usize) -> usize {
-    (moves + variables + 1) * (variables + 1)
-}
-
 /// Plans with room for as many layers as the bound allows.
 ///
 /// # Panics
@@ -148,7 +151,12 @@ pub fn campaigned(engine: &dyn Engine, table: &[u8], state: &[u8]) -> Result<Pla
     let [p, v, a] = [head.p, head.v_or_n, head.a].map(usize::from);
     let mut normal = Guarded::filled(2 * table.len(), |_| 0xA5);
     let planned = planned_by([p, 2 * v, a], |memory, out| {
-        let campaign = engine.campaign(table, state, normal.lend(), memory, out);
+        let lent = Lent {
+            normal: normal.lend(),
+            layers: memory,
+            out,
+        };
+        let campaign = engine.campaign(table, state, lent);
         assert_eq!(campaign.decision, campaign.plan.map(Plan::decision));
         campaign.plan
     });
@@ -161,24 +169,16 @@ fn planned_by(
     [p, n, a]: [usize; 3],
     call: impl FnOnce(&mut [i64], &mut [u8]) -> Result<Plan, Refusal>,
 ) -> Result<Planned, Refusal> {
-    let bound = layer_bound(a, n);
-    let mut memory = Guarded::filled(p + a + n * (bound + 1), |_| -7);
-    let mut out = Guarded::filled(10 * a * bound, |_| 0xA5);
+    let mut memory = Guarded::filled(room::layer_numbers([p, n, a]), |_| -7);
+    let mut out = Guarded::filled(room::record_bytes([p, n, a]), |_| 0xA5);
     let answer = call(memory.lend(), out.lend());
     memory.check("memory").expect("all canaries are whole");
     out.check("plan").expect("all canaries are whole");
     let plan = answer?;
     let used = p + a + n * (plan.layers as usize + 1);
-    let records = out.lent().chunks_exact(10).take(plan.records as usize);
     Ok(Planned {
         plan,
-        records: records.map(record).collect(),
+        records: plan.list(out.lent()).collect(),
         memory: memory.lent()[..used].to_vec(),
     })
-}
-
-fn record(bytes: &[u8]) -> (u64, u64) {
-    assert_eq!(bytes[0], 0x52, "a record begins with 52");
-    let count = bytes[2..10].try_into().expect("a count has eight bytes");
-    (u64::from(bytes[1]), u64::from_be_bytes(count))
 }

@@ -2,7 +2,7 @@
 
 use crate::answer::{Campaign, Reason, Refusal};
 use crate::call::CallKind;
-use crate::engine::{Calls, Engine, REFERENCE};
+use crate::engine::{Calls, Campaigning, Engine, REFERENCE};
 use crate::reference::{block, decide, normalise, parse_task, plan, read, step};
 
 /// The reference, with listings made of its other calls, as its campaigns are.
@@ -211,71 +211,61 @@ pub const IMPOSTORS: [Impostor; 17] = [
     },
     Impostor {
         trick: "the written table is decided",
-        engine: Calls {
-            campaign: |calls, table, state, normal, layers, out| Campaign {
-                decision: decide(table, state, layers),
-                ..(HONEST.campaign)(calls, table, state, normal, layers, out)
-            },
-            ..HONEST
-        },
+        engine: campaigning(|calls, table, state, mut lent| Campaign {
+            decision: decide(table, state, lent.again().layers),
+            ..(HONEST.campaign)(calls, table, state, lent)
+        }),
         kinds: &[CallKind::Campaign],
     },
     Impostor {
         trick: "a refused plan leaves no decision",
-        engine: Calls {
-            campaign: |calls, table, state, normal, layers, out| {
-                let campaign = (HONEST.campaign)(calls, table, state, normal, layers, out);
-                Campaign {
-                    decision: campaign.plan.and(campaign.decision),
-                    ..campaign
-                }
-            },
-            ..HONEST
-        },
+        engine: campaigning(|calls, table, state, lent| {
+            let campaign = (HONEST.campaign)(calls, table, state, lent);
+            Campaign {
+                decision: campaign.plan.and(campaign.decision),
+                ..campaign
+            }
+        }),
         kinds: &[CallKind::Campaign],
     },
     Impostor {
         trick: "a refused plan leaves no layers",
-        engine: Calls {
-            campaign: |calls, table, state, normal, layers, out| {
-                let before = layers.to_vec();
-                let campaign = (HONEST.campaign)(calls, table, state, normal, layers, out);
-                if campaign.plan.is_err() {
-                    layers.copy_from_slice(&before);
-                }
-                campaign
-            },
-            ..HONEST
-        },
+        engine: campaigning(|calls, table, state, mut lent| {
+            let before = lent.layers.to_vec();
+            let campaign = (HONEST.campaign)(calls, table, state, lent.again());
+            if campaign.plan.is_err() {
+                lent.layers.copy_from_slice(&before);
+            }
+            campaign
+        }),
         kinds: &[CallKind::Campaign],
     },
     Impostor {
         trick: "a refused decision leaves no normal form",
-        engine: Calls {
-            campaign: |calls, table, state, normal, layers, out| {
-                let before = normal.to_vec();
-                let campaign = (HONEST.campaign)(calls, table, state, normal, layers, out);
-                if campaign.decision.is_err() {
-                    normal.copy_from_slice(&before);
-                }
-                campaign
-            },
-            ..HONEST
-        },
+        engine: campaigning(|calls, table, state, mut lent| {
+            let before = lent.normal.to_vec();
+            let campaign = (HONEST.campaign)(calls, table, state, lent.again());
+            if campaign.decision.is_err() {
+                lent.normal.copy_from_slice(&before);
+            }
+            campaign
+        }),
         kinds: &[CallKind::Campaign],
     },
     Impostor {
         trick: "the state is checked before the room for the normal form",
-        engine: Calls {
-            campaign: |calls, table, state, normal, layers, out| match parse_task(table, state) {
-                Err(refusal) => Campaign::refused(refusal),
-                Ok(_) => (HONEST.campaign)(calls, table, state, normal, layers, out),
-            },
-            ..HONEST
-        },
+        engine: campaigning(|calls, table, state, lent| match parse_task(table, state) {
+            Err(refusal) => Campaign::refused(refusal),
+            Ok(_) => (HONEST.campaign)(calls, table, state, lent),
+        }),
         kinds: &[CallKind::Campaign],
     },
 ];
+
+/// Another `campaign` in an honest engine.
+const fn campaigning(campaign: Campaigning) -> Calls {
+    Calls { campaign, ..HONEST }
+}
 
 fn at_0(refusal: Refusal) -> Refusal {
     refusal.reason.at(0)

@@ -6,7 +6,7 @@
 pub mod raw;
 
 use crate::answer::{Answer, Campaign, Decision, Head, Plan, Refusal};
-use crate::engine::Calls;
+use crate::engine::{Calls, Lent};
 use crate::guarded::Guarded;
 
 /// The proved engine with all its calls.
@@ -17,7 +17,7 @@ pub const PROVED: Calls = Calls {
     step,
     decide,
     plan,
-    campaign: |_, table, state, normal, layers, out| campaign(table, state, normal, layers, out),
+    campaign: |_, table, state, lent| campaign(table, state, lent),
     ..Calls::NONE
 };
 
@@ -79,14 +79,8 @@ pub fn plan(
 
 /// # Panics
 /// As `plan`, for the decision's number too, and if that is not written.
-pub fn campaign(
-    table: &[u8],
-    state: &[u8],
-    normal: &mut [u8],
-    layers: &mut [i64],
-    out: &mut [u8],
-) -> Campaign {
-    both(|numbers| raw::campaign(table, state, normal, layers, out, numbers))
+pub fn campaign(table: &[u8], state: &[u8], lent: Lent) -> Campaign {
+    both(|numbers| raw::campaign(table, state, lent, numbers))
 }
 
 /// Plan's answer from a call that is lent the two further numbers.

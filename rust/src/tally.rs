@@ -67,26 +67,10 @@ fn refusal_number(outcome: &str) -> usize {
 #[cfg(test)]
 mod tests {
     use super::*;
-    use crate::engine::Calls;
 
     #[test]
     fn refusals_have_numbers() {
         assert_eq!(refusal_number("refusal 14 place 2 memory -"), 14);
         assert_eq!(refusal_number("ok 54 0 0 0"), 0);
-    }
-
-    #[test]
-    #[should_panic(expected = "540000004745")]
-    fn a_difference_shows_the_call() {
-        let call = Call::Read {
-            table: vec![0x54, 0, 0, 0, 0x47, 0x45],
-        };
-        Tally::new(&Calls::NONE, 1).check(&call);
-    }
-
-    #[test]
-    #[should_panic(expected = "refusal 2")]
-    fn a_missing_refusal_is_found() {
-        Tally::new(&REFERENCE, 1).expect(0, &[2]);
     }
 }

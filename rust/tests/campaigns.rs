@@ -1,11 +1,11 @@
 //! The trial campaigns of the specification.
 
 use campaign::answer::{Answer, Decision, Head, Plan, Reason, Refusal};
-use campaign::call::bytes;
 use campaign::engine::{Engine, REFERENCE};
 use campaign::generate;
 use campaign::guarded::Guarded;
 use campaign::harness::{self, Planned};
+use campaign::hex::bytes;
 use campaign::reference::semantics::{real_run, RealRun};
 
 const ENGINE: &dyn Engine = &REFERENCE;

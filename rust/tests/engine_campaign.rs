@@ -144,9 +144,10 @@ fn lengths_at_the_limits() {
 }
 
 fn check_listing(tally: &mut Tally, task: Task) {
-    tally.check(&Call::Listing {
-        task: task.table,
+    tally.check(&Call {
+        table: task.table,
         state: task.state,
+        ..CallKind::Listing.call()
     });
 }
 

@@ -1,7 +1,6 @@
 //! The proved engine's decide, over its C function.
 
-mod common;
-
+use crate::common::tasks;
 use campaign::answer::{Answer, Reason};
 use campaign::call::CallKind;
 use campaign::engine::{Calls, Engine};
@@ -56,7 +55,7 @@ fn check_meaning(task: &Task) -> u64 {
 fn memories_of_lengths_around_each_layer() {
     let mut rng = Rng::new(301);
     let mut tally = Tally::new(ENGINE, 302);
-    for task in common::normal_tasks(303, 11_000) {
+    for task in tasks::normal_tasks(303, 11_000) {
         check_memories(&mut tally, &mut rng, &task);
         check_meaning(&task);
     }
@@ -68,7 +67,7 @@ fn memories_of_every_length() {
     let mut rng = Rng::new(304);
     let mut tally = Tally::new(ENGINE, 305);
     let short = |task: &Task| Sizes::of(task).memory() < 100;
-    for task in common::normal_tasks(306, 1_500).filter(short) {
+    for task in tasks::normal_tasks(306, 1_500).filter(short) {
         for numbers in 0..Sizes::of(&task).memory() + 3 {
             tally.check(&task.decide(numbers));
         }
@@ -82,7 +81,7 @@ fn memories_of_every_length() {
 fn tasks_at_the_edges() {
     let mut rng = Rng::new(307);
     let mut tally = Tally::new(ENGINE, 308);
-    for task in common::edge_tasks(&mut rng) {
+    for task in tasks::edge_tasks(&mut rng) {
         check_memories(&mut tally, &mut rng, &task);
         check_meaning(&task);
     }
@@ -94,7 +93,7 @@ fn hundreds_of_layers() {
     let mut rng = Rng::new(309);
     let mut tally = Tally::new(ENGINE, 310);
     let mut most = 0;
-    for task in common::wave_tasks(&mut rng) {
+    for task in tasks::wave_tasks(&mut rng) {
         check_memories(&mut tally, &mut rng, &task);
         most = most.max(check_meaning(&task));
     }
@@ -112,7 +111,7 @@ fn damaged_tables() {
         let numbers = rng.below(24);
         tally.check(&Task { table, state }.decide(numbers));
     }
-    for task in common::spoilt_tasks(&mut rng, 8_000) {
+    for task in tasks::spoilt_tasks(&mut rng, 8_000) {
         tally.check(&task.decide(40));
     }
     tally.expect(25_000, &[0, 2, 3, 4, 5, 6, 7, 8, 14]);
@@ -122,7 +121,7 @@ fn damaged_tables() {
 fn lengths_at_the_limits() {
     let mut rng = Rng::new(315);
     let mut tally = Tally::new(ENGINE, 316);
-    for task in common::long_tasks(&mut rng) {
+    for task in tasks::long_tasks(&mut rng) {
         check_memories(&mut tally, &mut rng, &task);
     }
     tally.expect(100, &[0, 1, 3, 14]);

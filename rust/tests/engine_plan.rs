@@ -1,7 +1,6 @@
 //! The proved engine's plan, over its C function.
 
-mod common;
-
+use crate::common::tasks;
 use campaign::answer::Answer;
 use campaign::call::CallKind;
 use campaign::engine::{Calls, Engine};
@@ -37,7 +36,7 @@ fn memories_and_outputs_around_what_is_needed() {
     let mut rng = Rng::new(401);
     let mut tally = Tally::new(ENGINE, 402);
     let (mut plans, mut none, mut needed_counts) = (0, 0, 0);
-    for task in common::normal_tasks(403, 7_000) {
+    for task in tasks::normal_tasks(403, 7_000) {
         check_sizes(&mut tally, &mut rng, &task);
         let Some(planned) = check_meaning(&task, planned(ENGINE, &task.table, &task.state)) else {
             continue;
@@ -62,7 +61,7 @@ fn tasks_at_the_edges() {
     let mut rng = Rng::new(404);
     let mut tally = Tally::new(ENGINE, 405);
     let mut counts = Vec::new();
-    for task in common::edge_tasks(&mut rng) {
+    for task in tasks::edge_tasks(&mut rng) {
         check_sizes(&mut tally, &mut rng, &task);
         let planned = check_meaning(&task, planned(ENGINE, &task.table, &task.state));
         counts.extend(planned.iter().flat_map(|p| &p.records).map(|(_, c)| *c));
@@ -77,7 +76,7 @@ fn hundreds_of_layers() {
     let mut rng = Rng::new(406);
     let mut tally = Tally::new(ENGINE, 407);
     let mut most = 0;
-    for task in common::wave_tasks(&mut rng) {
+    for task in tasks::wave_tasks(&mut rng) {
         check_sizes(&mut tally, &mut rng, &task);
         let planned = check_meaning(&task, planned(ENGINE, &task.table, &task.state))
             .expect("all values are small");
@@ -112,10 +111,10 @@ fn damaged_tables_and_states() {
         let (numbers, room) = (rng.below(24), rng.below(40));
         tally.check(&Task { table, state }.plan(numbers, room));
     }
-    for task in common::spoilt_tasks(&mut rng, 4_000) {
+    for task in tasks::spoilt_tasks(&mut rng, 4_000) {
         tally.check(&task.plan(40, 40));
     }
-    for task in common::normal_tasks(411, 2_000) {
+    for task in tasks::normal_tasks(411, 2_000) {
         let state = wrong_state(&mut rng, &task.state);
         tally.check(&Task { state, ..task }.plan(200, 100));
     }
@@ -126,7 +125,7 @@ fn damaged_tables_and_states() {
 fn lengths_at_the_limits() {
     let mut rng = Rng::new(412);
     let mut tally = Tally::new(ENGINE, 413);
-    for task in common::long_tasks(&mut rng) {
+    for task in tasks::long_tasks(&mut rng) {
         check_sizes(&mut tally, &mut rng, &task);
     }
     tally.expect(100, &[0, 1, 3, 13, 14]);

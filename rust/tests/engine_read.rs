@@ -31,6 +31,21 @@ fn recorded_blocks() {
     check_lines(ENGINE, CallKind::Block);
 }
 
+fn read_call(table: Vec<u8>) -> Call {
+    Call {
+        table,
+        ..CallKind::Read.call()
+    }
+}
+
+fn block_call(table: &[u8], block: u64) -> Call {
+    Call {
+        table: table.to_vec(),
+        index: block,
+        ..CallKind::Block.call()
+    }
+}
+
 /// Reads a table and one of its blocks, or one that it does not have.
 fn check_read_and_block(tally: &mut Tally, rng: &mut Rng, table: Vec<u8>) {
     let moves = table.get(3).copied().unwrap_or(0);
@@ -38,11 +53,8 @@ fn check_read_and_block(tally: &mut Tally, rng: &mut Rng, table: Vec<u8>) {
         0 => *rng.pick(&[65, 255, 256, 1 << 32, u64::MAX]),
         _ => rng.below(usize::from(moves) + 2) as u64,
     };
-    tally.check(&Call::Block {
-        table: table.clone(),
-        block,
-    });
-    tally.check(&Call::Read { table });
+    tally.check(&block_call(&table, block));
+    tally.check(&read_call(table));
 }
 
 /// Every block of a table, and the numbers past the last.
@@ -50,8 +62,7 @@ fn check_all_blocks(tally: &mut Tally, table: &[u8]) {
     let moves = u64::from(table[3]);
     let past = [moves + 1, moves + 257, (1 << 32) + moves, u64::MAX];
     for block in (0..=moves).chain(past) {
-        let table = table.to_vec();
-        tally.check(&Call::Block { table, block });
+        tally.check(&block_call(table, block));
     }
 }
 
@@ -63,7 +74,7 @@ fn valid_tables_of_all_sizes() {
         for kind in KINDS {
             let table = task(&mut rng, kind).table;
             check_all_blocks(&mut tally, &table);
-            tally.check(&Call::Read { table });
+            tally.check(&read_call(table));
         }
     }
     for kind in KINDS {
@@ -72,7 +83,7 @@ fn valid_tables_of_all_sizes() {
             let counts = [0, 1, 2].map(|i| limits[i] * (chosen >> i & 1));
             let table = task_of(&mut rng, kind, counts).table;
             check_all_blocks(&mut tally, &table);
-            tally.check(&Call::Read { table });
+            tally.check(&read_call(table));
         }
     }
     tally.expect(40_000, &[0, 10]);
@@ -185,10 +196,7 @@ fn check_copy(rng: &mut Rng, table: &[u8], block: u64, room: usize) {
     lent.check_unchanged("table", table).unwrap();
     out.check("copy").unwrap();
     let expected = REFERENCE.block(table, block);
-    let task = Call::Block {
-        table: table.to_vec(),
-        block,
-    };
+    let task = block_call(table, block);
     assert_eq!(
         answer,
         expected.map(|part| part.len() as u32),

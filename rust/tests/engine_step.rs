@@ -41,7 +41,11 @@ fn rooms(rng: &mut Rng, length: usize) -> Vec<usize> {
 fn check_normalise(tally: &mut Tally, rng: &mut Rng, table: &[u8]) {
     for room in rooms(rng, normal_length(table)) {
         let table = table.to_vec();
-        tally.check(&Call::Normalise { table, room });
+        tally.check(&Call {
+            table,
+            room,
+            ..CallKind::Normalise.call()
+        });
     }
 }
 
@@ -71,12 +75,20 @@ fn normal_forms_of_damaged_tables() {
         .chain(insertions(&table));
     for table in damaged {
         let room = 80 + rng.below(20);
-        tally.check(&Call::Normalise { table, room });
+        tally.check(&Call {
+            table,
+            room,
+            ..CallKind::Normalise.call()
+        });
     }
     for _ in 0..25_000 {
         let table = command_string(&mut rng);
         let room = (normal_length(&table) + rng.below(3)).saturating_sub(1);
-        tally.check(&Call::Normalise { table, room });
+        tally.check(&Call {
+            table,
+            room,
+            ..CallKind::Normalise.call()
+        });
     }
     for _ in 0..2_000 {
         let mut table = parse_table(&task(&mut rng, Kind::Written).table).unwrap();
@@ -127,11 +139,12 @@ fn usable_move(rng: &mut Rng, table: &[u8], state: &[u8]) -> u64 {
 fn check_steps(tally: &mut Tally, rng: &mut Rng, table: &[u8], state: &[u8]) {
     let mv = usable_move(rng, table, state);
     for room in rooms(rng, state.len()) {
-        tally.check(&Call::Step {
+        tally.check(&Call {
             table: table.to_vec(),
             state: state.to_vec(),
-            mv,
+            index: mv,
             room,
+            ..CallKind::Step.call()
         });
     }
 }
@@ -161,11 +174,12 @@ fn steps_of_damaged_and_of_normal_tables() {
     let mut tally = Tally::new(ENGINE, 210);
     let Task { table, state } = m1();
     for table in single_byte_changes(&table).chain(truncations(&table)) {
-        tally.check(&Call::Step {
-            mv: any_move(&mut rng, &table),
+        tally.check(&Call {
+            index: any_move(&mut rng, &table),
             room: rng.below(12),
             state: state.clone(),
             table,
+            ..CallKind::Step.call()
         });
     }
     for _ in 0..400 {

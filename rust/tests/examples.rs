@@ -1,21 +1,9 @@
 //! The example campaigns: each commented listing is its binary table, and each prints what is expected.
 
-use std::fs;
-use std::path::{Path, PathBuf};
-
+use crate::common::folder::examples;
 use campaign::reference;
-
-fn examples() -> Vec<PathBuf> {
-    let folder = Path::new(env!("CARGO_MANIFEST_DIR")).join("../examples");
-    let mut found: Vec<PathBuf> = fs::read_dir(folder)
-        .expect("the examples")
-        .map(|entry| entry.expect("an example").path())
-        .filter(|path| path.is_dir())
-        .collect();
-    found.sort();
-    assert!(found.len() >= 4, "examples are missing");
-    found
-}
+use std::fs;
+use std::path::Path;
 
 fn read(path: &Path, name: &str) -> Vec<u8> {
     fs::read(path.join(name)).unwrap_or_else(|e| panic!("{}/{name}: {e}", path.display()))

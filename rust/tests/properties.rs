@@ -1,18 +1,17 @@
-//! Properties of the specification on generated inputs.
+//! Properties of the specification on generated inputs: real lists, plans and layers.
 
-use campaign::answer::{Answer, Head, Reason, Refusal};
-use campaign::call::Call;
+mod memory;
+mod tables;
+
+use campaign::answer::{Answer, Head, Reason};
 use campaign::engine::{Engine, REFERENCE};
-use campaign::generate::{
-    self, at_value_limit, call, command_string, deletions, full_length, insertions, random_bytes,
-    single_byte_changes, sized_calls, state_for, task, truncations, waves, wrong_state, Rng, Task,
-};
-use campaign::harness::{compare, layer_bound, normalised, planned, Planned};
-use campaign::reference::semantics::{
-    real_run, relaxed_solves, relaxed_solves_one_by_one, saturate, RealRun, RealState, Saturation,
-};
-use campaign::reference::table::{Block, Change, Condition, Effect, Kind, Table, Term};
-use campaign::reference::{parse_table, parse_task, State};
+use campaign::generate::{at_value_limit, task, waves, Rng, Task};
+use campaign::harness::{normalised, planned, Planned};
+use campaign::meaning::{check_meaning, solves};
+use campaign::reference::semantics::{real_run, saturate, RealRun, RealState, Saturation};
+use campaign::reference::table::{Kind, Table};
+use campaign::reference::{parse_table, parse_task};
+use memory::check_memory;
 
 const ENGINE: &dyn Engine = &REFERENCE;
 
@@ -33,10 +32,6 @@ fn normal_task(written: &Task) -> Task {
 fn normal_tasks(seed: u64, count: usize) -> impl Iterator<Item = Task> {
     let written = tasks(seed, count / 2, Kind::Written).map(|task| normal_task(&task));
     written.chain(tasks(seed + 1, count / 2, Kind::Normal))
-}
-
-fn m1() -> Vec<u8> {
-    generate::m1().table
 }
 
 #[test]
@@ -186,54 +181,24 @@ fn exceeds_a_million(state: &RealState) -> bool {
 
 /// Checks an answer, its plan and the layers in memory.
 fn check_plan(task: &Task) -> Planned {
-    let planned = planned(ENGINE, &task.table, &task.state).unwrap();
-    let bound = saturate(&task.table, &task.state).unwrap();
-    let [n, a] = [2, 3].map(|i| usize::from(task.table[i]));
-    assert!(planned.plan.layers as usize <= layer_bound(a, n), "{task}");
+    let planned = planned(ENGINE, &task.table, &task.state);
+    let planned = check_meaning(task, planned).expect("all values are small");
     match planned.plan.answer {
         Answer::NoPlan => {
-            assert!(!bound.goal, "{task}");
-            assert_eq!((planned.plan.records, planned.plan.first), (0, 0));
-            assert_eq!(last_layer(&planned, n), bound.values, "{task}");
+            let bound = saturate(&task.table, &task.state).unwrap();
+            assert_eq!(last_layer(task, &planned), bound.values, "{task}");
         }
-        Answer::Layer(m) => {
-            assert!(bound.goal, "{task}");
-            assert_eq!(m, planned.plan.layers);
-            assert!(solves(task, &planned.records), "{task}");
-            check_first_moves(&planned);
-        }
+        Answer::Layer(m) => assert_eq!(m, planned.plan.layers, "{task}"),
     }
     check_memory(task, &planned);
     planned
 }
 
-fn solves(task: &Task, records: &[(u64, u64)]) -> bool {
-    let fast = relaxed_solves(&task.table, &task.state, records).unwrap();
-    if records.iter().map(|(_, count)| count).sum::<u64>() < 300 {
-        let slow = relaxed_solves_one_by_one(&task.table, &task.state, records).unwrap();
-        assert_eq!(fast, slow, "{task}");
-    }
-    fast
-}
-
 /// The values of the last layer in memory, none for unbounded ones.
-fn last_layer(planned: &Planned, n: usize) -> Vec<Option<i128>> {
-    let start = planned.memory.len() - n;
+fn last_layer(task: &Task, planned: &Planned) -> Vec<Option<i128>> {
+    let start = planned.memory.len() - usize::from(task.table[2]);
     let value = |v: &i64| (*v != i64::MAX).then_some(i128::from(*v));
     planned.memory[start..].iter().map(value).collect()
-}
-
-/// The moves taken at layer 0 are those of the first records, rising.
-fn check_first_moves(planned: &Planned) {
-    let first = planned.plan.first;
-    let members: Vec<u64> = (0..64).filter(|b| first >> b & 1 == 1).collect();
-    let records = planned.records.iter().map(|(mv, _)| *mv);
-    let beginning: Vec<u64> = records.take(members.len()).collect();
-    assert_eq!(members, beginning);
-    assert_eq!(
-        first == 0,
-        planned.plan.layers == 0 || planned.records.is_empty()
-    );
 }
 
 #[test]
@@ -254,119 +219,6 @@ fn plans_solve_and_no_plan_is_sure() {
         }
     }
     assert!(plans > 1_000 && deep > 100 && none > 200 && needed_counts > 200);
-}
-
-/// The layers in memory, read as the specification says.
-struct Memory<'m> {
-    propositions: &'m [i64],
-    moves: &'m [i64],
-    layers: Vec<&'m [i64]>,
-}
-
-impl<'m> Memory<'m> {
-    fn new(table: &Table, numbers: &'m [i64], layers: usize) -> Memory<'m> {
-        let (propositions, rest) = numbers.split_at(table.propositions);
-        let (moves, values) = rest.split_at(table.moves.len());
-        let n = table.variables;
-        Memory {
-            propositions,
-            moves,
-            layers: (0..=layers).map(|t| &values[n * t..n * (t + 1)]).collect(),
-        }
-    }
-
-    fn has(&self, p: usize, layer: usize) -> bool {
-        (0..=layer as i64).contains(&self.propositions[p])
-    }
-
-    /// A sum in a layer; the largest number stands for unbounded.
-    fn sum(&self, terms: &[Term], constant: i128, layer: usize) -> i128 {
-        let values = self.layers[layer];
-        if terms.iter().any(|t| values[t.variable] == i64::MAX) {
-            return i128::MAX;
-        }
-        let value = |t: &Term| t.weight * i128::from(values[t.variable]);
-        terms.iter().map(value).sum::<i128>() + constant
-    }
-
-    fn meets(&self, block: &Block, layer: usize) -> bool {
-        let met = |c: &Condition| self.sum(&c.terms, 0, layer) >= c.constant;
-        block.required().all(|p| self.has(p, layer)) && block.conditions().all(met)
-    }
-
-    /// Whether an effect of a usable move makes this value of its variable.
-    fn makes(&self, effect: &Effect, value: i64, layer: usize) -> bool {
-        let given = self.sum(&effect.terms, effect.constant, layer);
-        match effect.change {
-            Change::Assign => given == i128::from(value) || given == i128::MAX && value == i64::MAX,
-            _ => given > 0 && value == i64::MAX,
-        }
-    }
-
-    /// Whether an effect leaves this value of its variable possible in the next layer.
-    fn allows(&self, effect: &Effect, value: i64, layer: usize) -> bool {
-        let given = self.sum(&effect.terms, effect.constant, layer);
-        value == i64::MAX
-            || match effect.change {
-                Change::Assign => given <= i128::from(value),
-                _ => given <= 0,
-            }
-    }
-
-    /// Checks the step from a layer to the next, or to itself after the last.
-    fn check_step(&self, table: &Table, layer: usize, next: usize) {
-        let usable: Vec<&Block> = table
-            .moves
-            .iter()
-            .filter(|block| self.meets(block, layer))
-            .collect();
-        for p in 0..table.propositions {
-            let added = usable.iter().any(|block| block.added().any(|q| q == p));
-            assert_eq!(self.has(p, next), self.has(p, layer) || added);
-        }
-        for v in 0..table.variables {
-            let (old, new) = (self.layers[layer][v], self.layers[next][v]);
-            let effects: Vec<&Effect> = usable
-                .iter()
-                .flat_map(|block| block.effects())
-                .filter(|effect| effect.variable == v)
-                .collect();
-            let made = effects.iter().any(|e| self.makes(e, new, layer));
-            assert!(effects.iter().all(|e| self.allows(e, new, layer)));
-            assert!(new == old || new > old && made);
-        }
-    }
-}
-
-/// Checks all of the layer memory against the text, layer by layer.
-fn check_memory(task: &Task, planned: &Planned) {
-    let (table, state) = parse_task(&task.table, &task.state).unwrap();
-    let last = planned.plan.layers as usize;
-    let memory = Memory::new(&table, &planned.memory, last);
-    let start: Vec<i128> = memory.layers[0].iter().map(|v| i128::from(*v)).collect();
-    assert_eq!(start, state.signed_values());
-    for (p, truth) in state.propositions.iter().enumerate() {
-        assert_eq!(memory.has(p, 0), *truth);
-    }
-    let no_plan = planned.plan.answer == Answer::NoPlan;
-    let steps = if no_plan { last + 1 } else { last };
-    for layer in 0..steps {
-        let next = last.min(layer + 1);
-        assert!(!memory.meets(&table.goal, layer), "{task}");
-        memory.check_step(&table, layer, next);
-        assert!(layer == last || differ(&memory, &table, layer), "{task}");
-    }
-    assert_eq!(memory.meets(&table.goal, last), !no_plan, "{task}");
-    for (b, block) in table.moves.iter().enumerate() {
-        let first = (0..steps).find(|layer| memory.meets(block, *layer));
-        assert_eq!(memory.moves[b], first.map_or(-1, |t| t as i64), "{task}");
-    }
-}
-
-/// Whether a layer and the next one differ.
-fn differ(memory: &Memory, table: &Table, layer: usize) -> bool {
-    memory.layers[layer] != memory.layers[layer + 1]
-        || (0..table.propositions).any(|p| memory.has(p, layer) != memory.has(p, layer + 1))
 }
 
 #[test]
@@ -489,208 +341,6 @@ fn values_past_a_trillion_are_refused() {
         }
     }
     assert!(at > 50 && past > 50);
-}
-
-#[test]
-fn full_tables_are_accepted_and_longer_ones_are_not() {
-    let mut rng = Rng::new(16);
-    for (kind, limit) in [(Kind::Written, 32_000), (Kind::Normal, 64_000)] {
-        for length in [limit - 1, limit] {
-            let task = full_length(&mut rng, kind, length);
-            assert_eq!(task.table.len(), length);
-            assert!(ENGINE.read(&task.table).is_ok());
-            if kind == Kind::Written {
-                assert!(check_plan(&normal_task(&task)).records.is_empty());
-            }
-        }
-        let task = full_length(&mut rng, kind, limit + 1);
-        assert_eq!(ENGINE.read(&task.table), Err(Reason::TableTooLong.at(0)));
-    }
-}
-
-#[test]
-fn blocks_make_up_the_table() {
-    for kind in [Kind::Written, Kind::Normal] {
-        for task in tasks(17, 500, kind) {
-            let moves = u64::from(task.table[3]);
-            let mut joined = task.table[..4].to_vec();
-            for b in 0..=moves {
-                let block = ENGINE.block(&task.table, b).unwrap();
-                assert_eq!(block[0], if b < moves { 0x41 } else { 0x47 });
-                joined.extend(block);
-            }
-            joined.push(0x45);
-            assert_eq!(joined, task.table);
-            let beyond = ENGINE.block(&task.table, moves + 1);
-            assert_eq!(beyond, Err(Reason::NoSuchBlock.at(0)));
-        }
-    }
-}
-
-/// An accepted table is what its data encode to; a refusal lies within the table, and
-/// one for a command or for a move count needs no byte after that command.
-fn check_read(table: &[u8]) -> Option<Refusal> {
-    match ENGINE.read(table) {
-        Ok(head) => {
-            let data = parse_table(table).unwrap();
-            assert_eq!(data.encode(), table);
-            assert_eq!(head.kind, data.kind.byte());
-            None
-        }
-        Err(refusal) => {
-            let place = refusal.place as usize;
-            assert!(place <= table.len());
-            if matches!(refusal.reason, Reason::Misplaced | Reason::MoveCount) {
-                assert_eq!(ENGINE.read(&table[..=place]), Err(refusal));
-            }
-            Some(refusal)
-        }
-    }
-}
-
-#[test]
-fn damaged_tables_are_refused_within_themselves() {
-    let written = m1();
-    let normal = normalised(ENGINE, &written).unwrap();
-    let mut seen = [0; 16];
-    for table in [&written, &normal] {
-        let damaged = single_byte_changes(table)
-            .chain(insertions(table))
-            .chain(deletions(table));
-        for table in damaged {
-            let number = check_read(&table).map_or(0, |r| r.reason.number());
-            seen[usize::from(number)] += 1;
-        }
-    }
-    for number in [0, 2, 3, 4, 5, 6] {
-        assert!(seen[number] > 10, "refusal {number}: {}", seen[number]);
-    }
-}
-
-/// The offsets of all commands of an accepted table, by their widths.
-fn command_offsets(table: &[u8]) -> Vec<usize> {
-    let mut offsets = Vec::new();
-    let mut at = 0;
-    while at < table.len() {
-        offsets.push(at);
-        at += match table[at] {
-            0x54 | 0x4E | 0x57 => 4,
-            0x50 | 0x2B | 0x2D => 2,
-            0x43 => 6,
-            0x46 => 7,
-            _ => 1,
-        };
-    }
-    offsets
-}
-
-/// A beginning of a table is cut at the command it ends in, or has none where one is due.
-#[test]
-fn truncated_tables_are_cut() {
-    let tables = tasks(18, 150, Kind::Written).chain(tasks(18, 150, Kind::Normal));
-    for task in tables.filter(|task| task.table.len() < 600) {
-        let offsets = command_offsets(&task.table);
-        for cut in truncations(&task.table) {
-            let next = offsets.partition_point(|offset| *offset < cut.len());
-            let place = match offsets[next] == cut.len() {
-                true => cut.len(),
-                false => offsets[next - 1],
-            };
-            assert_eq!(ENGINE.read(&cut), Err(Reason::Cut.at(place)), "{task}");
-        }
-    }
-}
-
-#[test]
-fn random_commands_are_read_or_refused_within_themselves() {
-    let mut rng = Rng::new(19);
-    let mut seen = [0; 16];
-    for _ in 0..20_000 {
-        let table = command_string(&mut rng);
-        let number = check_read(&table).map_or(0, |r| r.reason.number());
-        seen[usize::from(number)] += 1;
-    }
-    for number in [0, 2, 3, 4, 5, 6, 7] {
-        assert!(seen[number] > 10, "{seen:?}");
-    }
-    for _ in 0..2_000 {
-        check_read(&random_bytes(&mut rng, 80));
-    }
-}
-
-#[test]
-fn wrong_states_are_refused() {
-    let mut rng = Rng::new(20);
-    let (mut length, mut range) = (0, 0);
-    for task in normal_tasks(21, 1_000) {
-        let table = parse_table(&task.table).unwrap();
-        let state = state_for(&mut rng, &table);
-        let wrong = wrong_state(&mut rng, &state);
-        assert!(State::parse(&table, &state).is_ok());
-        let mut memory = [];
-        let answer = ENGINE.decide(&task.table, &wrong, &mut memory);
-        if wrong.len() != state.len() {
-            assert_eq!(answer, Err(Reason::StateLength.at(0)));
-            length += 1;
-        } else if let Err(refusal) = State::parse(&table, &wrong) {
-            let place = refusal.place as usize;
-            let mut right = wrong.clone();
-            right[..place].copy_from_slice(&state[..place]);
-            assert_eq!(refusal.reason, Reason::StateRange);
-            assert_eq!(answer, Err(refusal));
-            assert_eq!(ENGINE.decide(&task.table, &right, &mut memory), answer);
-            range += 1;
-        }
-    }
-    assert!(length > 200 && range > 100);
-}
-
-/// The part of an outcome after a word, up to the next word.
-fn field<'o>(outcome: &'o str, name: &str) -> Option<&'o str> {
-    let (_, rest) = outcome.split_once(name)?;
-    Some(rest.split(" memory ").next().unwrap_or(rest))
-}
-
-/// Refusals keep outputs, and all but 13 to 15 keep layer memory.
-#[test]
-fn refused_calls_keep_their_buffers() {
-    let mut rng = Rng::new(22);
-    let (mut refused, mut memories) = (0, 0);
-    for _ in 0..4_000 {
-        let call = call(&mut rng);
-        let outcome = call.run(ENGINE).unwrap();
-        let Some(refusal) = outcome.strip_prefix("refusal ") else {
-            continue;
-        };
-        refused += 1;
-        if let Some(out) = field(&outcome, " out ") {
-            assert!(out == "-" || out.replace("a5", "").is_empty(), "{call}");
-        }
-        let number: u8 = refusal.split(' ').next().unwrap().parse().unwrap();
-        let keeps = number < 13 || refusal.starts_with("14 place 0 ");
-        if let Some((_, memory)) = outcome.split_once(" memory ").filter(|_| keeps) {
-            let kept = |(i, n): (usize, &str)| n == "-" || n == (-1000 - i as i64).to_string();
-            assert!(memory.split(' ').enumerate().all(kept), "{call}");
-            memories += 1;
-        }
-    }
-    assert!(refused > 1_000 && memories > 300);
-}
-
-/// Calls are printed as they are read, and have one outcome.
-#[test]
-fn calls_are_repeatable() {
-    let mut rng = Rng::new(23);
-    for _ in 0..500 {
-        let one = call(&mut rng);
-        assert_eq!(Call::parse(one.kind(), &one.to_string()), Ok(one.clone()));
-        compare(&one, ENGINE, ENGINE).unwrap();
-    }
-    for task in normal_tasks(24, 100) {
-        for call in sized_calls(&task) {
-            compare(&call, ENGINE, ENGINE).unwrap();
-        }
-    }
 }
 
 /// No list of real moves exceeds the bound.

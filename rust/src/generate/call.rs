@@ -1,35 +1,46 @@
 //! Calls with inputs of all sorts, for comparing engines.
 
 use super::damage::{command_string, random_bytes, spoil, wrong_state};
+use super::maker::{state_for, task};
 use super::rng::Rng;
-use super::task::{state_for, task, Task};
+use super::sizes::Sizes;
+use super::task::Task;
 use super::tuned::{at_value_limit, waves};
-use crate::answer::Plan;
-use crate::call::Call;
-use crate::reference::table::{Kind, Table};
-use crate::reference::{normal_form, parse_table, plan};
+use crate::call::{Call, CallKind};
+use crate::reference::table::Kind;
+use crate::reference::{normal_form, parse_table};
 
 /// A call of any kind.
 pub fn call(rng: &mut Rng) -> Call {
     let kind = *rng.pick(&[Kind::Written, Kind::Normal]);
     let Task { table, state } = any_task(rng, kind);
     match (kind, rng.below(10)) {
-        (_, 0) => Call::Read { table },
-        (_, 1) => Call::Block {
-            block: any_index(rng, &table),
+        (_, 0) => Call {
             table,
+            ..CallKind::Read.call()
         },
-        (Kind::Written, 2 | 3) => Call::Listing { task: table, state },
-        (Kind::Written, 4 | 5) => Call::Normalise {
+        (_, 1) => Call {
+            index: any_index(rng, &table),
+            table,
+            ..CallKind::Block.call()
+        },
+        (Kind::Written, 2 | 3) => Call {
+            table,
+            state,
+            ..CallKind::Listing.call()
+        },
+        (Kind::Written, 4 | 5) => Call {
             room: around(rng, normal_length(&table)),
             table,
+            ..CallKind::Normalise.call()
         },
         (Kind::Written, 6 | 7) => campaign_of(rng, &Task { table, state }),
-        (Kind::Written, _) => Call::Step {
-            mv: any_index(rng, &table),
+        (Kind::Written, _) => Call {
+            index: any_index(rng, &table),
             room: around(rng, state.len()),
             table,
             state,
+            ..CallKind::Step.call()
         },
         (Kind::Normal, _) => planning_call(rng, &Task { table, state }),
     }
@@ -44,11 +55,12 @@ pub fn campaign_call(rng: &mut Rng) -> Call {
 /// `decide` and `plan` of a task with every size of memory and of output that matters:
 /// one short of each layer and of the records, exactly enough, and more.
 pub fn sized_calls(task: &Task) -> Vec<Call> {
-    let Needs {
+    let Sizes {
         entries,
         layer,
         plan,
-    } = Needs::of(task);
+        ..
+    } = Sizes::of(task);
     let layers = plan.map_or(0, |plan| plan.layers as usize);
     let records = plan.map_or(0, |plan| 10 * plan.records as usize);
     let exact = entries + layer * (layers + 1);
@@ -169,11 +181,12 @@ fn campaign_of(rng: &mut Rng, task: &Task) -> Call {
 
 /// Numbers of memory and bytes of output at or around what a normal table needs.
 fn planning_sizes(rng: &mut Rng, task: &Task) -> (usize, usize) {
-    let Needs {
+    let Sizes {
         entries,
         layer,
         plan,
-    } = Needs::of(task);
+        ..
+    } = Sizes::of(task);
     let layers = plan.map_or(4, |plan| plan.layers as usize + 1);
     let numbers = match rng.below(6) {
         0 => around(rng, entries + layer),
@@ -191,26 +204,5 @@ fn around(rng: &mut Rng, needed: usize) -> usize {
         1 => rng.below(needed + 1),
         2..=4 => needed,
         _ => needed + rng.below(20),
-    }
-}
-
-/// The memory a task needs: the entries, each layer, and its plan if it has an answer.
-struct Needs {
-    entries: usize,
-    layer: usize,
-    plan: Option<Plan>,
-}
-
-impl Needs {
-    fn of(Task { table, state }: &Task) -> Needs {
-        let counts = |table: Table| (table.propositions + table.moves.len(), table.variables);
-        let (entries, layer) = parse_table(table).map_or((3, 2), counts);
-        let mut memory = vec![0; entries + layer * 4_000];
-        let mut out = vec![0; 10 * 64 * 4_000];
-        Needs {
-            entries,
-            layer,
-            plan: plan(table, state, &mut memory, &mut out).ok(),
-        }
     }
 }

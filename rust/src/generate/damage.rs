@@ -1,7 +1,7 @@
 //! Inputs that are wrong, or likely to be.
 
 use super::rng::Rng;
-use crate::call::Call;
+use crate::call::{Call, Field};
 use crate::reference::table::{
     Block, Change, Effect, Item, Kind, Table, Term, MOVE_LIMIT, NUMBER_LIMIT, PROPOSITION_LIMIT,
     WEIGHT_LIMIT,
@@ -259,19 +259,11 @@ pub fn wrong_state(rng: &mut Rng, state: &[u8]) -> Vec<u8> {
 
 /// Damages the table, and now and then the state.
 pub fn damage(rng: &mut Rng, call: &mut Call) {
-    match call {
-        Call::Read { table } | Call::Block { table, .. } | Call::Normalise { table, .. } => {
-            damage_bytes(rng, table);
-        }
-        Call::Step { table, state, .. }
-        | Call::Decide { table, state, .. }
-        | Call::Plan { table, state, .. }
-        | Call::Campaign { table, state, .. }
-        | Call::Listing { task: table, state } => {
-            let bytes = if rng.chance(1, 4) { state } else { table };
-            damage_bytes(rng, bytes);
-        }
-    }
+    let damaged = match call.kind.has(Field::State) && rng.chance(1, 4) {
+        true => &mut call.state,
+        false => &mut call.table,
+    };
+    damage_bytes(rng, damaged);
 }
 
 /// Up to four changes: a byte set, stepped, put in, taken out, or a stretch moved.

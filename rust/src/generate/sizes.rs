@@ -2,8 +2,9 @@
 
 use super::rng::Rng;
 use super::task::Task;
-use crate::harness::layer_bound;
+use crate::answer::Plan;
 use crate::reference::{parse_table, plan};
+use crate::room;
 
 /// Up to this many layers, lengths around the end of each are tried.
 const ALL_LAYERS: usize = 40;
@@ -12,9 +13,11 @@ const ALL_LAYERS: usize = 40;
 #[derive(Clone, Copy, Debug, PartialEq, Eq)]
 pub struct Sizes {
     /// Numbers before layer 0.
-    entries: usize,
+    pub entries: usize,
     /// Numbers of a layer.
-    layer: usize,
+    pub layer: usize,
+    /// Plan's answer, if it is no refusal.
+    pub plan: Option<Plan>,
     /// Layers stored with room for all.
     stored: usize,
     /// Bytes of the plan.
@@ -28,22 +31,23 @@ impl Sizes {
             return Sizes {
                 entries: 3,
                 layer: 2,
+                plan: None,
                 stored: 1,
                 records: 0,
             };
         };
-        let [a, n] = [table.moves.len(), table.variables];
-        let entries = table.propositions + a;
-        let bound = layer_bound(a, n);
-        let mut memory = vec![0; entries + n * (bound + 1)];
-        let mut out = vec![0; 10 * a * bound];
-        let (last, records) = match plan(&task.table, &task.state, &mut memory, &mut out) {
+        let [p, n, a] = [table.propositions, table.variables, table.moves.len()];
+        let mut memory = vec![0; room::layer_numbers([p, n, a])];
+        let mut out = vec![0; room::record_bytes([p, n, a])];
+        let answer = plan(&task.table, &task.state, &mut memory, &mut out);
+        let (last, records) = match answer {
             Ok(plan) => (plan.layers, plan.records),
             Err(refusal) => (refusal.place, 0),
         };
         Sizes {
-            entries,
+            entries: p + a,
             layer: n,
+            plan: answer.ok(),
             stored: last as usize + 1,
             records: 10 * records as usize,
         }

@@ -2,7 +2,7 @@
 
 use super::rng::Rng;
 use super::task::Task;
-use crate::call::bytes;
+use crate::hex::bytes;
 use crate::reference::table::{
     Block, Change, Comparison, Condition, Effect, Item, Kind, Table, Term, MOVE_LIMIT,
     NUMBER_LIMIT, PROPOSITION_LIMIT, WEIGHT_LIMIT,

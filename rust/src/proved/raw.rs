@@ -4,6 +4,7 @@
 #![allow(unsafe_code)]
 
 use crate::answer::{Reason, Refusal};
+use crate::engine::Lent;
 
 extern "C" {
     fn lapyndo_read(table: *const u8, table_len: usize) -> u64;
@@ -166,26 +167,19 @@ pub struct Numbers<'n> {
 }
 
 /// Answers what plan does.
-pub fn campaign(
-    table: &[u8],
-    state: &[u8],
-    normal: &mut [u8],
-    layers: &mut [i64],
-    out: &mut [u8],
-    numbers: Numbers,
-) -> Result<u32, Refusal> {
+pub fn campaign(table: &[u8], state: &[u8], lent: Lent, numbers: Numbers) -> Result<u32, Refusal> {
     answered(unsafe {
         lapyndo_campaign(
             table.as_ptr(),
             table.len(),
             state.as_ptr(),
             state.len(),
-            normal.as_mut_ptr(),
-            normal.len(),
-            layers.as_mut_ptr(),
-            layers.len(),
-            out.as_mut_ptr(),
-            out.len(),
+            lent.normal.as_mut_ptr(),
+            lent.normal.len(),
+            lent.layers.as_mut_ptr(),
+            lent.layers.len(),
+            lent.out.as_mut_ptr(),
+            lent.out.len(),
             numbers.decision,
             numbers.records,
             numbers.first_moves,

@@ -99,7 +99,7 @@ impl RealState {
 #[cfg(test)]
 mod tests {
     use super::*;
-    use crate::call::unhex;
+    use crate::hex::unhex;
 
     fn run(table: &str, state: &str, moves: &[u64]) -> RealRun {
         real_run(&unhex(table).unwrap(), &unhex(state).unwrap(), moves).unwrap()

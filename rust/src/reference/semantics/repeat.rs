@@ -302,8 +302,8 @@ fn product(one: &[i128], other: &[i128]) -> i128 {
 #[cfg(test)]
 mod tests {
     use super::*;
-    use crate::call::unhex;
     use crate::generate::{task, Rng};
+    use crate::hex::unhex;
     use crate::reference::parse_task;
     use crate::reference::semantics::real::RealState;
     use crate::reference::semantics::relaxed::relaxed_after;

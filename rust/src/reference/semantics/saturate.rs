@@ -119,7 +119,7 @@ impl Saturation {
 #[cfg(test)]
 mod tests {
     use super::*;
-    use crate::call::unhex;
+    use crate::hex::unhex;
 
     fn bound(table: &str, state: &str) -> Saturation {
         saturate(&unhex(table).unwrap(), &unhex(state).unwrap()).unwrap()

@@ -1,0 +1,199 @@
+//! A refusal in words: its number, what it means, where it stands and why it stands there.
+
+use crate::evaluate::{effects, Standing};
+use crate::files::{STATE, TASK};
+use crate::refused;
+use crate::scan::{Block, Code, Line, Scan};
+use crate::state::{value, value_count, State};
+use crate::words;
+use campaign::answer::{Reason, Refusal};
+
+/// Lines of an explanation: what each is about, and its text.
+pub type Rows = Vec<(&'static str, String)>;
+
+/// What the refused call was given.
+#[derive(Default)]
+pub struct Case<'c> {
+    /// The name of the table's file, where that is not task.bin.
+    pub file: Option<String>,
+    pub table: &'c [u8],
+    pub state: &'c [u8],
+    pub mv: u64,
+    /// The normal table that layers were built of.
+    pub normal: &'c [u8],
+    /// The layer memory after the call.
+    pub layers: &'c [i64],
+}
+
+impl Case<'_> {
+    pub fn explain(&self, refusal: Refusal) -> String {
+        let number = refusal.reason.number();
+        let place = usize::try_from(refusal.place).unwrap_or(usize::MAX);
+        let rows = match number {
+            1..=7 => refused::rows(&self.file(), &Scan::of(self.table), refusal.reason, place),
+            8..=9 => self.state_rows(refusal.reason, place),
+            10..=12 => self.step_rows(refusal.reason),
+            14..=15 => self.layer_rows(place),
+            _ => Rows::new(),
+        };
+        let mut text = format!("{refusal}: {}\n", meaning(refusal.reason));
+        for (about, row) in rows {
+            text += &format!("  {about:7}  {row}\n");
+        }
+        text
+    }
+
+    fn file(&self) -> String {
+        self.file.clone().unwrap_or_else(|| TASK.into())
+    }
+
+    fn state_rows(&self, reason: Reason, place: usize) -> Rows {
+        let scan = Scan::of(self.table);
+        let [p, _, _] = scan.counts();
+        let v = value_count(&scan);
+        if reason == Reason::StateLength {
+            let [length, wanted] =
+                [self.state.len(), p + 4 * v].map(|number| words::count(number, "byte"));
+            let (p, v) = (words::count(p, "proposition"), words::count(v, "variable"));
+            return vec![
+                ("where", format!("{STATE} as a whole: {length}")),
+                (
+                    "why",
+                    format!("the table wants {wanted}: 1 for each of {p}, 4 for each of {v}"),
+                ),
+            ];
+        }
+        let (name, width, why) = match place < p {
+            true => (format!("p{place}"), 1, "it must be 0 (false) or 1 (true)"),
+            false => {
+                let name = format!("v{}", (place - p) / 4);
+                (name, 4, "it must be -1000000 to 1000000")
+            }
+        };
+        let bytes = &self.state[place..place + width];
+        let found = match bytes {
+            [byte] => i64::from(*byte),
+            _ => value(bytes),
+        };
+        vec![
+            ("where", format!("byte {place} of {STATE}: {name}")),
+            ("bytes", words::hex(bytes, [width])),
+            ("why", format!("{name} is {found}: {why}")),
+        ]
+    }
+
+    fn step_rows(&self, reason: Reason) -> Rows {
+        let scan = Scan::of(self.table);
+        let [_, _, moves] = scan.counts();
+        let mut rows = vec![("where", format!("move a{}", self.mv))];
+        if reason == Reason::NoSuchBlock {
+            let last = moves.checked_sub(1);
+            let named = last.map_or_else(String::new, |last| format!(": a0 to a{last}"));
+            let moves = words::count(moves, "move");
+            rows.push(("why", format!("{} has {moves}{named}", self.file())));
+            return rows;
+        }
+        let state = State::of(&scan, self.state);
+        let standing = Standing {
+            proposition: &|p| state.propositions[p],
+            variable: &|v| Some(state.values[v].into()),
+        };
+        let block = Block::Move(self.mv as usize);
+        let why = match reason {
+            Reason::ConditionsFail => failing(&scan, block, &standing),
+            _ => beyond(&scan, block, &standing),
+        };
+        rows.extend(why.into_iter().map(|why| ("why", why)));
+        rows
+    }
+
+    /// Of a layer that could not be made: what the layer before it would give.
+    fn layer_rows(&self, layer: usize) -> Rows {
+        let Some(before) = layer.checked_sub(1) else {
+            return vec![("where", "layer 0".into())];
+        };
+        let mut rows = vec![("where", format!("layer {layer}, made from layer {before}"))];
+        let scan = Scan::of(self.normal);
+        let [p, n, a] = scan.counts();
+        let values = &self.layers[p + a + n * before..];
+        let standing = Standing {
+            proposition: &|p| (0..=before as i64).contains(&self.layers[p]),
+            variable: &|v| (values[v] != i64::MAX).then(|| values[v].into()),
+        };
+        for block in (0..a).map(Block::Move) {
+            if standing.failing(&scan, block).is_empty() {
+                rows.extend(too_large(&scan, block, &standing).map(|why| ("why", why)));
+            }
+        }
+        rows
+    }
+}
+
+/// Each condition that fails, and what stands against it.
+fn failing(scan: &Scan, block: Block, standing: &Standing) -> Vec<String> {
+    let found = |line: &Line| match (line.form.code, standing.sum(line)) {
+        (Code::Condition, Some(sum)) if line.terms.len() == 1 && line.terms[0].weight == 1 => {
+            format!("v{} is {sum}", line.terms[0].variable)
+        }
+        (Code::Condition, Some(sum)) => format!("the sum is {sum}"),
+        _ => format!("p{} is false", line.index(0)),
+    };
+    let lines = standing.failing(scan, block).into_iter();
+    lines
+        .map(|line| format!("{}, and {}", stands(scan, line), found(line)))
+        .collect()
+}
+
+/// Each effect whose result is beyond 1,000,000.
+fn beyond(scan: &Scan, block: Block, standing: &Standing) -> Vec<String> {
+    let results = effects(scan, block).filter_map(|line| {
+        let result = standing
+            .result(line)
+            .filter(|result| result.abs() > 1_000_000)?;
+        Some(format!("{} gives {result}", stands(scan, line)))
+    });
+    results.collect()
+}
+
+/// Each := whose value is finite and above 10^12.
+fn too_large<'l>(
+    scan: &'l Scan,
+    block: Block,
+    standing: &'l Standing,
+) -> impl Iterator<Item = String> + 'l {
+    let assignments = effects(scan, block).filter(|line| line.operand(0) == 0);
+    assignments.filter_map(move |line| {
+        let value = standing
+            .sum(line)
+            .filter(|value| *value > 1_000_000_000_000)?;
+        let effect = words::line(scan.is_normal(), line);
+        Some(format!("{} gives {value}: {effect}", words::block(block)))
+    })
+}
+
+/// A command in words, with its offset.
+fn stands(scan: &Scan, line: &Line) -> String {
+    let text = words::line(scan.is_normal(), line);
+    format!("byte {}: {text}", line.at)
+}
+
+/// What the numbers of document 01 mean.
+fn meaning(reason: Reason) -> &'static str {
+    match reason {
+        Reason::TableTooLong => "the table is too long",
+        Reason::Cut => "the table is cut: bytes or a command are missing",
+        Reason::Misplaced => "a command is unknown, or stands where it may not stand",
+        Reason::OperandRange => "an operand is out of range",
+        Reason::NamedAgain => "a name is used again, a sum does not rise, or it has a ninth term",
+        Reason::MoveCount => "there are more or fewer moves than the head says",
+        Reason::Circle => "a variable is set (:=) from itself, in one effect or through others",
+        Reason::StateLength => "the state has the wrong length",
+        Reason::StateRange => "a byte or a value of the state is out of range",
+        Reason::NoSuchBlock => "there is no such move",
+        Reason::ConditionsFail => "the move's conditions fail in this state",
+        Reason::ResultRange => "the move takes a variable beyond 1000000 or -1000000",
+        Reason::OutputShort => "the memory for the result is too short",
+        Reason::MemoryShort => "the memory for layers is too short for this layer",
+        Reason::ValueRange => "a value of this layer is above 1000000000000 and not unbounded",
+    }
+}

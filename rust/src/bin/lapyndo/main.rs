@@ -1,0 +1,28 @@
+//! `lapyndo COMMAND ..`: a campaign's table, plan and steps in words, for people.
+//!
+//! Every answer comes from the proved engine. This program reads files, calls it, and puts
+//! answers and refusals into words.
+
+#![forbid(unsafe_code)]
+
+mod circle;
+mod commands;
+mod evaluate;
+mod explain;
+mod files;
+mod outcome;
+mod planning;
+mod refused;
+mod scan;
+mod show;
+mod state;
+mod step;
+mod words;
+
+use std::env;
+use std::process::ExitCode;
+
+fn main() -> ExitCode {
+    let words: Vec<_> = env::args_os().skip(1).collect();
+    outcome::report(commands::run(&words))
+}

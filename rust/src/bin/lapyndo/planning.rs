@@ -1,0 +1,161 @@
+//! `decide FOLDER` and `plan FOLDER`.
+
+use crate::commands::Command;
+use crate::explain::Case;
+use crate::files::Folder;
+use crate::outcome::{Done, Outcome};
+use crate::scan::{Block, Scan, NORMAL};
+use crate::words;
+use campaign::answer::{Answer, Decision, Plan, Refusal};
+use campaign::{proved, room};
+use std::ffi::OsString;
+
+pub const DECIDE: Command = Command {
+    name: "decide",
+    arguments: &["FOLDER"],
+    summary: "\"no plan\", or the layer that meets the goal",
+    help: "\
+A written table is brought into normal form first; a normal one is taken as it is.
+\"No plan\" means that no list of moves, of any length, reaches the goal.
+Otherwise the goal is met in a layer of the relaxed task, in which nothing is deleted and no
+signed value (v or -v) falls. That does not promise a list that can be carried out.
+",
+    run: |words| {
+        planned(words, &|task, layers| {
+            let decision = proved::decide(&task.normal, &task.folder.state, layers)?;
+            Ok(decided(decision))
+        })
+    },
+};
+
+pub const PLAN: Command = Command {
+    name: "plan",
+    arguments: &["FOLDER"],
+    summary: "the decision, and which moves to make and how often",
+    help: "\
+A written table is brought into normal form first; a normal one is taken as it is.
+The plan has a line for each record: a move, how often it is made, and what it needs and does.
+First moves are those taken at layer 0, the state. A plan solves the relaxed task, in which
+nothing is deleted and no signed value (v or -v) falls: it guides, and need not be a list that
+can be carried out as it stands.
+\"No plan\" means that no list of moves, of any length, reaches the goal.
+",
+    run: |words| {
+        planned(words, &|task, layers| {
+            let mut out = vec![0; room::record_bytes(task.counts())];
+            let plan = proved::plan(&task.normal, &task.folder.state, layers, &mut out)?;
+            Ok(decided(plan.decision()) + &task.plan(plan, &out))
+        })
+    },
+};
+
+/// The longest normal form.
+const NORMAL_ROOM: usize = 64_000;
+
+/// A campaign and its normal table.
+struct Task {
+    folder: Folder,
+    normal: Vec<u8>,
+}
+
+/// A call that answers text, lent layer memory.
+type Call<'c> = &'c dyn Fn(&Task, &mut [i64]) -> Result<String, Refusal>;
+
+fn planned(words: &[OsString], call: Call) -> Done {
+    let folder = Folder::read(&words[0])?;
+    let normal = match normal_table(&folder.table) {
+        Ok(normal) => normal,
+        Err(refusal) => return Ok(refused(&folder, &[], &[], refusal)),
+    };
+    let task = Task { folder, normal };
+    // No more than (A + N + 1)(N + 1) layers are ever reported, which is proved. There is room for
+    // all of them and for their records, so that refusals 13 and 14 never come up here.
+    let mut layers = vec![0; room::layer_numbers(task.counts())];
+    Ok(match call(&task, &mut layers) {
+        Ok(text) => Outcome::Answer(task.heading() + &text),
+        Err(refusal) => refused(&task.folder, &task.normal, &layers, refusal),
+    })
+}
+
+fn refused(folder: &Folder, normal: &[u8], layers: &[i64], refusal: Refusal) -> Outcome {
+    let case = Case {
+        table: &folder.table,
+        state: &folder.state,
+        normal,
+        layers,
+        ..Case::default()
+    };
+    Outcome::Refused(case.explain(refusal))
+}
+
+/// The table itself if it is a normal one, or its normal form.
+fn normal_table(table: &[u8]) -> Result<Vec<u8>, Refusal> {
+    if table.first() == Some(&NORMAL) {
+        // Its counts set the size of the memories, and so it is checked first.
+        proved::read(table)?;
+        return Ok(table.to_vec());
+    }
+    let mut normal = vec![0; NORMAL_ROOM];
+    let length = proved::normalise(table, &mut normal)?;
+    normal.truncate(length);
+    Ok(normal)
+}
+
+impl Task {
+    /// P, N and A of the normal table.
+    fn counts(&self) -> [usize; 3] {
+        Scan::of(&self.normal).counts()
+    }
+
+    fn heading(&self) -> String {
+        let [table, normal] = [&self.folder.table, &self.normal].map(Vec::len);
+        match self.folder.table.first() {
+            Some(&NORMAL) => format!("table     normal, {table} bytes, taken as it is\n"),
+            _ => format!("table     written, {table} bytes; its normal form has {normal} bytes\n"),
+        }
+    }
+
+    /// A plan in words, a line for each record.
+    fn plan(&self, plan: Plan, out: &[u8]) -> String {
+        if plan.answer == Answer::NoPlan {
+            return String::new();
+        }
+        if plan.records == 0 {
+            return "plan      no move is needed: the state meets the goal\n".into();
+        }
+        let records = words::count(plan.records as usize, "record");
+        let first = (0..64).filter(|b| plan.first >> b & 1 == 1);
+        let first: Vec<String> = first.map(|b| format!("a{b}")).collect();
+        format!(
+            "plan      {records}: a move, how often, what it needs and does\n{}first     {}\n{GUIDES}",
+            self.records(plan, out),
+            first.join(", "),
+        )
+    }
+
+    fn records(&self, plan: Plan, out: &[u8]) -> String {
+        let times = |count: u64| words::count(count as usize, "time");
+        let widths = plan.list(out).map(|(_, count)| times(count).len());
+        let width = widths.max().unwrap_or(0);
+        let scan = Scan::of(&self.folder.table);
+        let lines = plan.list(out).map(|(mv, count)| {
+            let (name, times) = (format!("a{mv}"), times(count));
+            let items = words::items(&scan, Block::Move(mv as usize));
+            format!("  {name:3}  {times:width$}  {items}\n")
+        });
+        lines.collect()
+    }
+}
+
+/// What is to be known of every plan.
+const GUIDES: &str = "\
+A plan guides: it solves the relaxed task, in which nothing is deleted and no value falls.
+";
+
+fn decided(decision: Decision) -> String {
+    let said = match decision.answer {
+        Answer::Layer(layer) => format!("plan: layer {layer} meets the goal"),
+        Answer::NoPlan => "no plan: no list of moves, of any length, reaches the goal".into(),
+    };
+    format!("decision  {said}\nlayers    {}\n", decision.layers)
+}

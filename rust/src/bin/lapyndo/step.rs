@@ -1,0 +1,90 @@
+//! `step FOLDER MOVE`: the state after one real move.
+
+use crate::commands::Command;
+use crate::explain::Case;
+use crate::files::Folder;
+use crate::outcome::{Done, Misuse, Outcome};
+use crate::scan::{Block, Scan};
+use crate::state::State;
+use crate::words;
+use campaign::proved;
+use std::ffi::{OsStr, OsString};
+use std::fmt::Display;
+
+pub const STEP: Command = Command {
+    name: "step",
+    arguments: &["FOLDER", "MOVE"],
+    summary: "the state after one real move",
+    help: "\
+MOVE is a move's number, such as 3 or a3; the table in FOLDER is a written one.
+Every variable is shown, and of the propositions those that changed and those that are true.
+Where the move changes something, the line has what was before and what is now.
+No file is changed.
+",
+    run,
+};
+
+fn run(words: &[OsString]) -> Done {
+    let mv = number(&words[1])?;
+    let Folder { table, state } = Folder::read(&words[0])?;
+    let mut after = vec![0; state.len()];
+    if let Err(refusal) = proved::step(&table, &state, mv, &mut after) {
+        let case = Case {
+            table: &table,
+            state: &state,
+            mv,
+            ..Case::default()
+        };
+        return Ok(Outcome::Refused(case.explain(refusal)));
+    }
+    let scan = Scan::of(&table);
+    let items = words::items(&scan, Block::Move(mv as usize));
+    let changes = changes(&State::of(&scan, &state), &State::of(&scan, &after));
+    Ok(Outcome::Answer(format!(
+        "move a{mv}: {items}\nthe state after it:\n{changes}"
+    )))
+}
+
+/// A move's number, with or without its a.
+fn number(word: &OsStr) -> Result<u64, Misuse> {
+    let text = word.to_string_lossy();
+    let digits = text.strip_prefix('a').unwrap_or(&text);
+    let is_number = digits.bytes().all(|byte| byte.is_ascii_digit());
+    let number = digits.parse().ok().filter(|_| is_number);
+    number.ok_or_else(|| {
+        Misuse(format!(
+            "'{text}' is no move: a move is a number, such as 3 or a3"
+        ))
+    })
+}
+
+fn changes(before: &State, after: &State) -> String {
+    let mut text = String::new();
+    let propositions = before.propositions.iter().zip(&after.propositions);
+    for (p, (old, new)) in propositions
+        .enumerate()
+        .filter(|(_, (old, new))| old != new)
+    {
+        text += &line(&format!("p{p}"), old, new);
+    }
+    for (v, (old, new)) in before.values.iter().zip(&after.values).enumerate() {
+        text += &line(&format!("v{v}"), old, new);
+    }
+    let all = after.propositions.iter().enumerate();
+    let held: Vec<String> = all
+        .filter(|(_, held)| **held)
+        .map(|(p, _)| format!("p{p}"))
+        .collect();
+    let held = match held.is_empty() {
+        true => "none".into(),
+        false => held.join(", "),
+    };
+    text + &format!("  true  {held}\n")
+}
+
+fn line<T: Display + PartialEq>(name: &str, old: &T, new: &T) -> String {
+    match old == new {
+        true => format!("  {name:4}  {new}\n"),
+        false => format!("  {name:4}  {old} -> {new}\n"),
+    }
+}

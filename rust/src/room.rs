@@ -1,0 +1,16 @@
+//! How much memory always suffices, for a normal table with the counts P, N and A.
+
+/// The most layers that are ever reported: a theorem about the definitions.
+pub fn layer_bound([_, n, a]: [usize; 3]) -> usize {
+    (a + n + 1) * (n + 1)
+}
+
+/// Numbers of layer memory for as many layers as the bound allows.
+pub fn layer_numbers([p, n, a]: [usize; 3]) -> usize {
+    p + a + n * (layer_bound([p, n, a]) + 1)
+}
+
+/// Bytes of a plan for as many layers: one record of ten bytes a move and layer at most.
+pub fn record_bytes([p, n, a]: [usize; 3]) -> usize {
+    10 * a * layer_bound([p, n, a])
+}

@@ -1,0 +1,89 @@
+//! The harness itself: calls as a fuzzer's inputs, fences, tallies.
+
+use campaign::call::{Call, CallKind};
+use campaign::engine::{Calls, Engine, REFERENCE};
+use campaign::fenced::Fenced;
+use campaign::generate::{call, m1, random_bytes, Rng};
+use campaign::input::{decode, encode, ROOM};
+use campaign::tally::Tally;
+
+#[test]
+fn calls_are_encoded_and_decoded() {
+    let mut rng = Rng::new(501);
+    let mut encoded = [0; CallKind::ALL.len()];
+    for _ in 0..3_000 {
+        let call = call(&mut rng);
+        if let Some(input) = encode(&call) {
+            assert_eq!(decode(&input), call);
+            encoded[call.kind as usize] += 1;
+        }
+    }
+    let (exported, listing) = encoded.split_at(CallKind::EXPORTED.len());
+    assert!(exported.iter().all(|count| *count > 100), "{encoded:?}");
+    assert_eq!(listing, [0]);
+}
+
+#[test]
+fn every_input_is_a_call() {
+    let mut rng = Rng::new(502);
+    for _ in 0..3_000 {
+        let call = decode(&random_bytes(&mut rng, 20));
+        let input = encode(&call).expect("a decoded call is encoded");
+        assert_eq!(decode(&input), call);
+    }
+}
+
+#[test]
+fn calls_that_no_input_stands_for() {
+    let table = vec![0x45];
+    let state = vec![0; 256];
+    let wide = Call {
+        table: table.clone(),
+        room: ROOM,
+        ..CallKind::Normalise.call()
+    };
+    let far = Call {
+        table: table.clone(),
+        index: 0xFF,
+        ..CallKind::Block.call()
+    };
+    let stated = Call {
+        table,
+        state,
+        ..CallKind::Decide.call()
+    };
+    for call in [wide, far, stated] {
+        assert_eq!(encode(&call), None, "{call}");
+    }
+}
+
+#[test]
+fn blocks_are_parts_of_the_callers_table() {
+    let table = m1().table;
+    for b in 0..5 {
+        let [one, other] = [
+            REFERENCE.block(&table, b),
+            Fenced(REFERENCE).block(&table, b),
+        ];
+        assert_eq!(
+            one.map(<[u8]>::as_ptr_range),
+            other.map(<[u8]>::as_ptr_range)
+        );
+    }
+}
+
+#[test]
+#[should_panic(expected = "540000004745")]
+fn a_difference_shows_the_call() {
+    let call = Call {
+        table: vec![0x54, 0, 0, 0, 0x47, 0x45],
+        ..CallKind::Read.call()
+    };
+    Tally::new(&Calls::NONE, 1).check(&call);
+}
+
+#[test]
+#[should_panic(expected = "refusal 2")]
+fn a_missing_refusal_is_found() {
+    Tally::new(&REFERENCE, 1).expect(0, &[2]);
+}

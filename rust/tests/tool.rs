@@ -1,0 +1,198 @@
+//! The program `lapyndo`: every command on every example, every refusal explained, and what it
+//! says of damaged tables.
+//!
+//! A session in `data/tool/` has the files of a folder, as hexadecimal or as the name of an
+//! example; then for each `$` line the words given, all that is printed, and `=` with the status.
+
+use crate::common::folder::{examples, repository, run, Folder, Printed};
+use crate::common::tasks::{normal_tasks, spoilt_tasks};
+use campaign::answer::Refusal;
+use campaign::generate::{full_length, m1, task, wrong_state, Rng, Task};
+use campaign::harness::{normalised, planned};
+use campaign::hex::bytes;
+use campaign::proved::{self, PROVED};
+use campaign::reference::table::Kind;
+use std::path::Path;
+
+const EXAMPLES: &str = include_str!("data/tool/examples.txt");
+const REFUSALS: &str = include_str!("data/tool/refusals.txt");
+const ANSWERS: &str = include_str!("data/tool/answers.txt");
+
+/// Runs `lapyndo` in a folder.
+pub fn lapyndo(folder: &Path, words: &[&str]) -> Printed {
+    run(Path::new(env!("CARGO_BIN_EXE_lapyndo")), folder, words)
+}
+
+/// Runs a session in a folder and answers how many commands it has.
+///
+/// # Panics
+/// At the first command that prints anything else.
+fn check_session(folder: &Path, session: &str) -> usize {
+    let mut commands = session.split("$ ");
+    let name = commands.next().expect("a session begins with its files");
+    let mut count = 0;
+    for command in commands {
+        let (words, expected) = command.split_once('\n').expect("a line of words");
+        let (expected, status) = expected.rsplit_once("= ").expect("a status");
+        let printed = lapyndo(folder, &words.split(' ').collect::<Vec<_>>());
+        assert_eq!(printed.out, expected, "{name}$ {words}");
+        assert_eq!(printed.error, "", "{name}$ {words}");
+        assert_eq!(printed.status.to_string(), status.trim(), "{name}$ {words}");
+        count += 1;
+    }
+    count
+}
+
+/// The bytes of a session's line `task ..` or `state ..`.
+fn file(session: &str, name: &str) -> Vec<u8> {
+    let mut lines = session.lines();
+    bytes(
+        lines
+            .find_map(|line| line.strip_prefix(name))
+            .expect("a file"),
+    )
+}
+
+fn check_sessions(text: &str) -> usize {
+    let sessions = text.trim_end().split("\n\n# ");
+    let checked = sessions.map(|session| {
+        let folder = Folder::of(&file(session, "task"), &file(session, "state"));
+        check_session(&folder.0, session)
+    });
+    checked.sum()
+}
+
+#[test]
+fn every_command_on_every_example() {
+    let mut sessions = EXAMPLES.trim_end().split("\n\nin ");
+    for example in examples() {
+        let session = sessions.next().expect("each example has a session");
+        let name = session.trim_start_matches("in ").lines().next();
+        assert_eq!(name, example.file_name().and_then(|name| name.to_str()));
+        assert_eq!(check_session(&example, session), 5);
+    }
+    assert_eq!(sessions.next(), None);
+}
+
+#[test]
+fn answers_that_no_example_has() {
+    assert!(check_sessions(ANSWERS) >= 14);
+}
+
+/// 13 and 14 never come up, and 1 needs a long table.
+#[test]
+fn refusals_are_explained() {
+    assert!(check_sessions(REFUSALS) >= 50);
+    for number in [2, 3, 4, 5, 6, 7, 8, 9, 10, 11, 12, 15] {
+        assert!(
+            REFUSALS.contains(&format!("refusal {number} place ")),
+            "{number}"
+        );
+    }
+}
+
+#[test]
+fn a_long_written_table_is_refused() {
+    let long = full_length(&mut Rng::new(701), Kind::Written, 32_001);
+    let folder = Folder::of(&long.table, &long.state);
+    let text = "\
+refusal 1 place 0: the table is too long
+  where    task.bin as a whole: 32001 bytes
+  why      a written table has 32000 bytes at most
+";
+    for words in [&["show", "task.bin"], &["decide", "."], &["plan", "."]] {
+        let printed = lapyndo(&folder.0, words);
+        assert_eq!((printed.status, &*printed.out), (1, text), "{words:?}");
+    }
+}
+
+#[test]
+fn the_longest_tables_are_shown_and_planned() {
+    let mut rng = Rng::new(702);
+    for (kind, length) in [(Kind::Written, 32_000), (Kind::Normal, 64_000)] {
+        let task = full_length(&mut rng, kind, length);
+        let folder = Folder::of(&task.table, &task.state);
+        let shown = lapyndo(&folder.0, &["show", "task.bin"]);
+        assert_eq!(shown.status, 0);
+        let last = format!("{:6}  end\n", length - 1);
+        assert!(shown.out.ends_with(&last), "{:?}", shown.out.lines().last());
+        check_printed(&task, &folder);
+    }
+}
+
+/// What the proved engine answers is what is printed, whatever the table and the state are.
+#[test]
+fn damaged_campaigns() {
+    let mut rng = Rng::new(703);
+    let mut tasks = spoilt_tasks(&mut rng, 80);
+    tasks.extend((0..40).map(|_| task(&mut rng, Kind::Written)));
+    tasks.extend(normal_tasks(704, 20));
+    for i in 0..tasks.len() {
+        let state = wrong_state(&mut rng, &tasks[i].state);
+        if state.len() <= 184 && i % 4 == 0 {
+            tasks[i].state = state;
+        }
+    }
+    let mut refused = 0;
+    for task in tasks.iter().chain([&m1()]) {
+        refused += check_printed(task, &Folder::of(&task.table, &task.state));
+    }
+    assert!(refused > 100, "{refused} refusals");
+}
+
+/// Compares what is printed with what the engine answers; answers how many calls were refused.
+fn check_printed(task: &Task, folder: &Folder) -> usize {
+    let Task { table, state } = task;
+    let normal = match table.first() {
+        Some(0x4E) => proved::read(table).map(|_| table.clone()),
+        _ => normalised(&PROVED, table),
+    };
+    let plan = normal.and_then(|normal| planned(&PROVED, &normal, state));
+    let after = proved::step(table, state, 0, &mut vec![0; state.len()]);
+    let answers: [(&[&str], Option<Refusal>); 4] = [
+        (&["show", "task.bin"], proved::read(table).err()),
+        (&["decide", "."], plan.as_ref().err().copied()),
+        (&["plan", "."], plan.as_ref().err().copied()),
+        (&["step", ".", "a0"], after.err()),
+    ];
+    for (words, refusal) in &answers {
+        let printed = lapyndo(&folder.0, words);
+        assert_eq!(printed.error, "", "{task} {words:?}");
+        assert_eq!(
+            printed.status,
+            i32::from(refusal.is_some()),
+            "{task} {words:?}"
+        );
+        if let Some(refusal) = refusal {
+            let line = format!("{refusal}: ");
+            let found = printed.out.lines().any(|found| found.starts_with(&line));
+            assert!(found, "{task} {words:?}\n{}", printed.out);
+        }
+    }
+    answers
+        .iter()
+        .filter(|(_, refusal)| refusal.is_some())
+        .count()
+}
+
+/// The script finds the program and the campaign from any folder, through a link and with a
+/// path that has blanks, and says nothing of building.
+#[test]
+fn the_script_runs_from_another_folder() {
+    let script = repository().join("lapyndo");
+    let folder = Folder::of(&m1().table, &m1().state);
+    let inner = folder.0.join("a campaign");
+    std::fs::create_dir(&inner).expect("a folder");
+    let link = inner.join("link to it");
+    std::os::unix::fs::symlink(&script, &link).expect("a link");
+    let expected = lapyndo(&folder.0, &["plan", "."]);
+    assert_eq!(expected.status, 0);
+    for program in [&script, &link] {
+        assert_eq!(run(program, &inner, &["plan", ".."]), expected);
+        assert_eq!(
+            run(program, &folder.0, &["plan", "a campaign/.."]),
+            expected
+        );
+        assert_eq!(run(program, &folder.0, &["plan"]).status, 2);
+    }
+}

@@ -1,0 +1,220 @@
+//! The program `lapyndo`: help, wrong use, and output that nobody reads.
+
+use crate::common::folder::{Folder, Printed};
+use crate::tool::lapyndo;
+use campaign::generate::m1;
+use std::fs::{self, File};
+use std::io;
+use std::process::{Command, Stdio};
+
+const COMMANDS: [(&str, &str); 4] = [
+    ("show", "FILE"),
+    ("decide", "FOLDER"),
+    ("plan", "FOLDER"),
+    ("step", "FOLDER MOVE"),
+];
+
+fn here() -> Folder {
+    Folder::of(&m1().table, &m1().state)
+}
+
+/// What is printed where the use is right.
+fn answer(words: &[&str]) -> String {
+    let printed = lapyndo(&here().0, words);
+    assert_eq!((printed.status, &*printed.error), (0, ""), "{words:?}");
+    printed.out
+}
+
+/// The one line on standard error where it is wrong.
+fn complaint(printed: Printed) -> String {
+    assert_eq!(
+        (printed.status, &*printed.out),
+        (2, ""),
+        "{}",
+        printed.error
+    );
+    assert_eq!(printed.error.lines().count(), 1, "{}", printed.error);
+    let line = printed.error.strip_prefix("lapyndo: ");
+    line.expect("the program's name").trim_end().into()
+}
+
+#[test]
+fn help_of_all() {
+    let help = answer(&["--help"]);
+    for (name, arguments) in COMMANDS {
+        assert!(
+            help.contains(&format!("lapyndo {name} {arguments} ")),
+            "{help}"
+        );
+    }
+    for said in [
+        "Exit status: 0",
+        "1 a refusal",
+        "2 wrong use",
+        "standard output",
+    ] {
+        assert!(help.contains(said), "{help}");
+    }
+    assert_eq!(answer(&["help"]), help);
+    assert_eq!(answer(&["-h"]), help);
+}
+
+#[test]
+fn help_of_each() {
+    for (name, arguments) in COMMANDS {
+        let help = answer(&[name, "--help"]);
+        assert!(
+            help.starts_with(&format!("usage: lapyndo {name} {arguments}\n")),
+            "{help}"
+        );
+        assert!(help.contains("Exit status: 0"), "{help}");
+        assert!(help.lines().all(|line| line.len() <= 100), "{help}");
+        for words in [
+            vec!["help", name],
+            vec![name, "-h"],
+            vec![name, ".", "--help"],
+        ] {
+            assert_eq!(answer(&words), help, "{words:?}");
+        }
+    }
+}
+
+#[test]
+fn no_command_at_all() {
+    let printed = lapyndo(&here().0, &[]);
+    assert_eq!((printed.status, &*printed.out), (2, ""));
+    assert!(printed.error.starts_with("lapyndo: a command is missing\n"));
+    assert!(
+        printed.error.contains("lapyndo plan FOLDER "),
+        "{}",
+        printed.error
+    );
+}
+
+#[test]
+fn wrong_words() {
+    let here = here();
+    let no_move = "is no move: a move is a number, such as 3 or a3";
+    for (words, expected) in [
+        ("pan .", "there is no command 'pan'; see lapyndo --help"),
+        ("help pan", "there is no command 'pan'; see lapyndo --help"),
+        ("help plan .", "usage: lapyndo help [COMMAND]"),
+        ("plan", "0 arguments given; usage: lapyndo plan FOLDER"),
+        (
+            "show task.bin x",
+            "2 arguments given; usage: lapyndo show FILE",
+        ),
+        (
+            "step .",
+            "1 argument given; usage: lapyndo step FOLDER MOVE",
+        ),
+        ("step . b1", &format!("'b1' {no_move}")),
+        ("step . a", &format!("'a' {no_move}")),
+        ("step . +1", &format!("'+1' {no_move}")),
+        ("step . -1", &format!("'-1' {no_move}")),
+        ("plan ", ": there is no such folder"),
+    ] {
+        let words: Vec<&str> = words.split(' ').collect();
+        assert_eq!(complaint(lapyndo(&here.0, &words)), expected, "{words:?}");
+    }
+}
+
+#[test]
+fn files_that_cannot_be_read() {
+    let here = here();
+    let complain = |words: &[&str]| complaint(lapyndo(&here.0, words));
+    assert_eq!(
+        complain(&["show", "none.bin"]),
+        "none.bin: there is no such file"
+    );
+    assert_eq!(
+        complain(&["show", "."]),
+        ".: this is a folder, and not a file"
+    );
+    assert_eq!(complain(&["plan", "none"]), "none: there is no such folder");
+    assert_eq!(
+        complain(&["plan", "task.bin"]),
+        "task.bin: there is no such folder"
+    );
+    fs::remove_file(here.0.join("state.bin")).expect("the state is there");
+    for words in [
+        vec!["decide", "."],
+        vec!["plan", "."],
+        vec!["step", ".", "0"],
+    ] {
+        assert_eq!(complain(&words), "./state.bin: there is no such file");
+    }
+    fs::create_dir(here.0.join("state.bin")).expect("a folder");
+    assert_eq!(
+        complain(&["plan", "."]),
+        "./state.bin: this is a folder, and not a file"
+    );
+    fs::remove_file(here.0.join("task.bin")).expect("the table is there");
+    assert_eq!(
+        complain(&["plan", "."]),
+        "./task.bin: there is no such file"
+    );
+}
+
+#[test]
+fn files_that_are_too_long() {
+    let table = "the file has more than 64000 bytes, and no table has more";
+    let long = Folder::of(&vec![0x4E; 64_001], &[]);
+    let complain = |words: &[&str]| complaint(lapyndo(&long.0, words));
+    assert_eq!(
+        complain(&["show", "task.bin"]),
+        format!("task.bin: {table}")
+    );
+    assert_eq!(complain(&["plan", "."]), format!("./task.bin: {table}"));
+    // A file without end is not read to its end.
+    assert_eq!(
+        complain(&["show", "/dev/zero"]),
+        format!("/dev/zero: {table}")
+    );
+    let state = Folder::of(&m1().table, &[0; 185]);
+    let said = complaint(lapyndo(&state.0, &["step", ".", "0"]));
+    assert_eq!(
+        said,
+        "./state.bin: the file has more than 184 bytes, and no state has more"
+    );
+    let accepted = Folder::of(&m1().table, &[0; 184]);
+    let printed = lapyndo(&accepted.0, &["step", ".", "0"]);
+    assert!(
+        printed.out.starts_with("refusal 8 place 0: "),
+        "{printed:?}"
+    );
+}
+
+/// The exit status and the errors of `lapyndo` with another standard output.
+fn writing_to(out: impl Into<Stdio>, words: &[&str]) -> (Option<i32>, String) {
+    let here = here();
+    let mut command = Command::new(env!("CARGO_BIN_EXE_lapyndo"));
+    let command = command.args(words).current_dir(&here.0).stdout(out);
+    let output = command.stderr(Stdio::piped()).spawn();
+    let output = output.and_then(|child| child.wait_with_output());
+    let output = output.expect("the program runs");
+    let error = String::from_utf8(output.stderr).expect("text");
+    (output.status.code(), error)
+}
+
+#[test]
+fn a_closed_pipe_is_no_error() {
+    let closed = || io::pipe().expect("a pipe").1;
+    assert_eq!(
+        writing_to(closed(), &["show", "task.bin"]),
+        (Some(0), "".into())
+    );
+    assert_eq!(
+        writing_to(closed(), &["step", ".", "1"]),
+        (Some(1), "".into())
+    );
+    assert_eq!(writing_to(closed(), &["--help"]), (Some(0), "".into()));
+}
+
+#[test]
+fn a_full_disk_is_an_error() {
+    let full = File::options().write(true).open("/dev/full");
+    let (status, error) = writing_to(full.expect("a full device"), &["show", "task.bin"]);
+    assert_eq!(status, Some(2));
+    assert!(error.starts_with("lapyndo: standard output: "), "{error}");
+}
