@@ -3,12 +3,12 @@ use Prim.Native.Nat.{ℕ, suc, _+_, _*_, _/_, _≤_, _<_}
 use native.Mathlib.Numerals.{add-one}
 use native.Mathlib.Omega.{arith}
 use mathlib.Core.Path.{_≡_, refl, sym, ap, _∙_, subst}
-use mathlib.Core.Bool.{Bool, false, _||_}
-use mathlib.Core.List.{List, [], _++_}
+use mathlib.Core.Bool.{false}
+use mathlib.Core.List.{List, []}
 use mathlib.Core.Option.{none}
 use borrow.Author.Tests.{le-ltb, ltb-false}
 use lib.IntN.{ℤ}
-use lib.ListN.{length, drop}
+use lib.ListN.{length}
 use Rattle.integer.specs.Store.{put}
 use Rattle.model.specs.declared.Refusal.{Refusal}
 use Rattle.model.specs.declared.PlanAnswer.{PlanAnswer}
@@ -17,7 +17,7 @@ use Rattle.model.specs.Limits.{paper}
 use Rattle.model.specs.Task.{normal, Task}
 use Rattle.model.specs.Move.{State, moveAt}
 use Rattle.model.specs.Layer.{Outcome, reached, exhausted, reported, outcome}
-use Rattle.model.specs.Memory.{room, wrong15, wrong14, overwrite, Built, answered, stopped, stopAt, build, builtMemory}
+use Rattle.model.specs.Memory.{room, wrong15, wrong14, refuses, overwrite, Built, answered, stopped, stopAt, build, builtMemory}
 use Rattle.model.specs.StateTable.{stateRefusal}
 use Rattle.model.specs.Plan.{Record, firstMoves}
 use Rattle.model.specs.Calls.{writes, fitted, outputAfter, Ready, ready, unready, prepared, memoryOf, decideMemory, recordBytes, planRecords, planned, planFitted, planOf, planAnswer, planMemory, planOutOf, planOut, Output}
@@ -29,7 +29,7 @@ use Rattle.model.specs.Theorems.Layers.Building.{built-outcome}
 use Rattle.model.specs.Theorems.Layers.Memories.{Holds, size, memory-holds}
 use Rattle.model.specs.Theorems.Sizes.States.{SmallState, accepted-small, normalState-small}
 use Rattle.model.specs.Theorems.Campaigns.Demand3.{planLayers}
-use Rattle.model.specs.Theorems.Printing.Outputs.{fitted-whole, fitted-short, plan-whole, plan-short}
+use Rattle.model.specs.Theorems.Printing.Outputs.{fitted-whole, fitted-short, plan-whole, plan-short, put-first}
 use Rattle.model.specs.Theorems.Campaigns.EndToEnd.{LayersWithin, plan-within}
 use Rattle.model.specs.Theorems.Sizes.Plans.{answered-passes, reported-most}
 use Rattle.table.specs.Outlines.{Outline}
@@ -43,11 +43,6 @@ use Rattle.layers.specs.Preparing.{ReadyIn}
 use Rattle.achievers.specs.Search.{Parts}
 use Rattle.descent.specs.Layers.{Stored}
 use Rattle.passes.specs.Passes.{planRecords as storedRecords}
-
--- what is stored at the start is what an answered call leaves
-pub put-overwrite : (l bs : List ℕ) → put l 0 bs ≡ overwrite bs l
-unfolding put overwrite
-put-overwrite l bs = let none : 0 + length bs ≡ length bs = omega arith in ap (λ (i : ℕ). bs ++ drop i l) none
 
 -- ---- what building leaves
 
@@ -69,13 +64,10 @@ answered-room :
     → wrong14 k n u ≡ false
 unfolding build stopAt
 answered-room k s n {o} e u h =
-    firstFrom-cases refused (λ f. stopAt paper k s f (outcome k s) ≡ answered o → wrong14 k n u ≡ false) 0 (suc (reported (outcome k s)))
+    firstFrom-cases (refuses paper k s n) (λ f. stopAt paper k s f (outcome k s) ≡ answered o → wrong14 k n u ≡ false) 0 (suc (reported (outcome k s)))
     (λ t low high bad before stopped-is. cc)
     (λ never same. not-false (wrong14 k n u) (λ short. never u (omega arith) (omega arith) (or-right (wrong15 paper k s u) (wrong14 k n u) short)))
     e
-  where
-    refused : ℕ → Bool
-    refused t = wrong15 paper k s t || wrong14 k n t
 
 -- "N even": the signed variables of an accepted state
 start-small : {k : Task} (props : ℕ) {vars : ℕ} (bs : List ℕ) → TaskOk paper normal k → vars ≡ k .vars → stateRefusal paper props (vars / 2) bs ≡ none → SmallState (k .vars) (startOf props bs)
@@ -206,7 +198,7 @@ module _ (rs : List Record) (m : ℕ) (out : List ℕ) {n first : ℕ} (total : 
       record {
         answers = rw (total, firsts) (sym (plan-whole (length out) rs (answered (reached m)) fits));
         writes-is =
-            e ∙ put-overwrite out (recordBytes rs)
+            e ∙ put-first out (recordBytes rs)
             ∙ sym (ap (λ (o : Output). outputAfter o out) (fitted-whole (length out) (recordBytes rs) fits));
       }
 
