@@ -4,5 +4,7 @@ pub mod Bytes
 pub mod Items
 pub mod Closing
 pub mod Sums
+pub mod Terms
+pub mod Remaining
 pub mod Blocks
 pub mod Parts

@@ -2,7 +2,7 @@
 ghost use mathlib.Core.Path.{_≡_};
 ghost use Prim.Native.Nat.{_<_, _≤_};
 ghost use Rattle.model.specs.Exports.{refusalCode, readCode, writeCode, decideCode, planCode, planRecordCount, planFirstMoves};
-ghost use Rattle.model.specs.Theorems.Sizes.Answers.{placeLimit, ReadSmall, WriteSmall, DecideSmall, PlanSmall};
+ghost use Rattle.model.specs.Theorems.Sizes.Answers.{placeLimit, resultLimit, ReadSmall, WriteSmall, DecideSmall, PlanSmall};
 ghost use Rattle.model.specs.Limits.{lastNumber};
 ghost use Rattle.codes.specs.Parts.{partCode};
 use model::DecideAnswer;
@@ -42,7 +42,7 @@ pub fn read_code(a: ReadAnswer) -> u64
 }
 
 pub fn write_code(a: WriteAnswer) -> u64
-    requires { ⌜ WriteSmall 64_000 a ⌝ }
+    requires { ⌜ WriteSmall resultLimit a ⌝ }
     ensures { λ c. ⌜ c ≡ writeCode a ⌝ }
 {
     match a {

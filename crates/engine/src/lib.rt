@@ -3,6 +3,7 @@ ghost use mathlib.Core.Path.{_≡_};
 ghost use Rattle.model.specs.Exports.{readCode, writeCode, decideCode, planCode, planRecordCount, planFirstMoves, blockAnswer, blockCopy};
 ghost use Rattle.model.specs.Limits.{paper};
 ghost use Rattle.model.specs.Calls.{readAnswer, planAnswer, planMemory, planOut, stepAnswer, stepOut, normaliseAnswer, normaliseOut, decideAnswer, decideMemory, blockPart, blockRefusal, campaignDecision, campaignPlan, campaignMemory, campaignOut};
+ghost use Rattle.model.specs.Pddl.{pddlAnswer, pddlOut};
 ghost use Rattle.model.specs.Theorems.Campaigns.OneCall.{Promise};
 
 #[no_mangle]
@@ -39,6 +40,15 @@ pub extern "C" fn lapyndo_step(table: &[u8], state: &[u8], chosen: u64, out: &mu
         × (now (out .exit) ≡ stepOut paper (now (table .entry)) (now (state .entry)) chosen (now (out .entry))) ⌝ }
 {
     codes::write_code(transition::step(table, state, chosen, out))
+}
+
+// A written table and a state as PDDL 2.1 text.
+#[no_mangle]
+pub extern "C" fn lapyndo_pddl(table: &[u8], state: &[u8], out: &mut [u8]) -> u64
+    ensures { λ c. ⌜ (c ≡ writeCode (pddlAnswer paper (now (table .entry)) (now (state .entry)) (now (out .entry))))
+        × (now (out .exit) ≡ pddlOut paper (now (table .entry)) (now (state .entry)) (now (out .entry))) ⌝ }
+{
+    codes::write_code(pddl::pddl(table, state, out))
 }
 
 // Decide, for tests.

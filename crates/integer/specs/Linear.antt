@@ -259,6 +259,15 @@ abs-sum a b = omega (arith, natAbs-split a, natAbs-split b, natAbs-split (a +ℤ
 pub abs-neg : (a : ℤ) → natAbs (negℤ a) ≡ natAbs a
 abs-neg a = omega (arith, natAbs-split a, natAbs-split (negℤ a), neg-up a, neg-dn a)
 
+-- the number without its sign, by the sign
+pub abs-negative : (a : ℤ) → a <ℤ pos 0 → negℤ a ≡ pos (natAbs a)
+abs-negative (pos n) h = absurd (omega (arith, lt-in (pos n) (pos 0) h))
+abs-negative (negsuc n) h = refl
+
+pub abs-nonneg : (a : ℤ) → pos 0 ≤ℤ a → a ≡ pos (natAbs a)
+abs-nonneg (pos n) h = refl
+abs-nonneg (negsuc n) h = absurd (h .le)
+
 pub abs-sub : (a b : ℤ) → natAbs (a -ℤ b) ≤ natAbs a + natAbs b
 abs-sub a b = omega (arith, abs-sum a (negℤ b), abs-neg b)
 

@@ -34,6 +34,17 @@ pub fn neg(a: i64) -> i64
     0 - a
 }
 
+// The number without its sign.
+pub fn magnitude(z: i64) -> u64
+    requires { ⌜ natAbs z < 2 ^ 63 ⌝ }
+    ensures { λ r. ⌜ r ≡ natAbs z ⌝ }
+{
+    if z < 0 {
+        return neg(z) as u64;
+    }
+    z as u64
+}
+
 // The value `a` times the weight `w`.
 pub fn mul(a: i64, w: i64) -> i64
     requires { ⌜ (natAbs a ≤ 2 ^ 50) × (natAbs w ≤ 1000) ⌝ }

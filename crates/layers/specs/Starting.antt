@@ -31,7 +31,7 @@ use Rattle.block.specs.Parts.{rangesOf}
 use Rattle.block.specs.Sums.{Encoded}
 use Rattle.block.specs.Blocks.{LayerState}
 use Rattle.state.specs.Overwriting.{written-at}
-use Rattle.state.specs.Checking.{accepted-state}
+use Rattle.model.specs.Theorems.Reading.States.{accepted-state}
 use Rattle.state.specs.Loading.{accepted-signed}
 use Rattle.layer_memory.specs.Filling.{Filled, cleared, notedAt, rowAt}
 use Rattle.layer_memory.specs.Arrays.{Values}
@@ -76,7 +76,7 @@ module _ {table marks : List ℕ} {props vars moves : ℕ} {bs : List ℕ} (p : 
   half-vars = rw (p .counts .vars-is) (even-half (p .outlined .ok))
 
   pub state-long : props + 4 * (vars / 2) ≤ length bs
-  state-long = omega (arith, accepted-state props (vars / 2) bs (p .accepted) .length-is)
+  state-long = omega (arith, accepted-state paper props (vars / 2) bs (p .accepted) .length-is)
 
 -- the arrays hold layer 0
 module _ {k : Task} {props vars moves : ℕ} (ok : TaskOk paper normal k) (n : Counts k props vars moves) (bs : List ℕ) (accepted : stateRefusal paper props (vars / 2) bs ≡ none) where

@@ -12,5 +12,8 @@ pub mod StateTable
 pub mod Memory
 pub mod Calls
 pub mod Listing
+pub mod Ascii
+pub mod Pddl
+pub mod PddlMeaning
 pub mod Exports
 pub mod Theorems

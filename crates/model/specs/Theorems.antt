@@ -1,10 +1,11 @@
 -- Theorems about the definitions, a room for each subject, in reading order: what a room proves, and its main statements.
 --
--- Laws: tests, searches and counts as facts.
+-- Laws: tests, searches, counts and lists as facts.
 --
--- Reading: what the checks of a table give: an accepted table is the print of its task, which is within every limit, and its marks are
--- where its blocks begin; a refusal's number and place; check 7 finds a closed walk exactly where there is one.
---   Accepted.reading-accepted, reading-canonical; Circles.no-circle
+-- Reading: what the checks of a table and of a state give: an accepted table is the print of its task, which is within every limit, and
+-- its marks are where its blocks begin; an accepted state is the bytes of its state; a refusal's number and place; check 7 finds a closed
+-- walk exactly where there is one; a task looks at its own propositions and variables alone.
+--   Accepted.reading-accepted, reading-canonical; States.state-canonical; Circles.no-circle; Agreeing.agree-solves
 --
 -- Printing: what is written is read back: a task that meets every check is accepted as that task; records and decimal digits too. What a
 -- lent output then holds.
@@ -25,6 +26,12 @@
 --
 -- Campaigns: the trial campaigns by computation; demand 2 and demand 3 from bytes to answers; the codes of answers.
 --   Trials; Demand2.demand2; EndToEnd.demand3; Codes
+--
+-- Pddl: the PDDL text of a table and a state: what stands in it, that its names are declared, how long it is, that the same text comes
+-- from the same state, moves and goal, and that each form means what its command means, by PDDL 2.1: the plans of the text are the lists
+-- that solve the table.
+--   Meaning.condition-true, block-true; Changes.follows-real; Declared.text-declared; Plans.plan-solves; Text.one-text, same-one-text;
+--   Sizes.text-size; Calls.text-fits, text-too-long, text-always, same-output, declared, text-plans, no-plan-text; MeaningCases; Cases
 -- Assumes nothing.
 pub mod Laws
 pub mod Reading
@@ -34,3 +41,4 @@ pub mod Layers
 pub mod Plans
 pub mod Sizes
 pub mod Campaigns
+pub mod Pddl

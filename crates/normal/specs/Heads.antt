@@ -10,7 +10,7 @@ use Rattle.model.specs.declared.WriteAnswer.{WriteAnswer}
 use Rattle.model.specs.declared.WriteAnswer.the-variants as write
 use Rattle.model.specs.Calls.{writes, normalBytes, normalOf, normalised, normaliseAnswer, normaliseOut}
 use Rattle.table.specs.Outlines.{HeadRead}
-use Rattle.normal.specs.Tables.{taskIn, readTask, Source, Heads}
+use Rattle.reader.specs.Written.{readTask, task-is}
 use Rattle.output.specs.Answers.{Answered, answered-same, answered-refused}
 
 normalise-answered :
@@ -21,23 +21,9 @@ unfolding normaliseAnswer normaliseOut normalised
 normalise-answered t a = (a .answer, a .output)
 
 module _ {t marks : List ℕ} {props vars moves : ℕ} (h : HeadRead written t marks props vars moves) where
-  pub task-is : readTask t ≡ h .table .task
-  unfolding readTask taskIn
-  task-is = ap taskIn (h .is)
-
-  pub head-source : Source t marks moves
-  head-source =
-      record {
-        outline = rw task-is (h .outline);
-        count = rw task-is (h .count);
-      }
-
-  pub head-heads : Heads t props vars
-  head-heads = record { props-is = rw task-is (h .props-is); vars-is = rw task-is (h .vars-is) }
-
   normal-is : normalOf (reading paper (only written) t) ≡ writes (normalBytes (readTask t))
   unfolding normalOf
-  normal-is = ap normalOf (h .is) ∙ ap (λ k. writes (normalBytes k)) (sym task-is)
+  normal-is = ap normalOf (h .is) ∙ ap (λ k. writes (normalBytes k)) (sym (task-is h))
 
   -- the call's answer is what was written
   pub normalise-written :

@@ -7,78 +7,19 @@ use mathlib.Core.List.{List, [], _∷_, _++_, map, append-assoc}
 use lib.ListN.{length, getD, drop, length-append, length-map}
 use lib.Seq.{drop-cons, drop-length}
 use Rattle.model.specs.Limits.{paper}
-use Rattle.model.specs.Task.{written, normal, Block, Task}
+use Rattle.model.specs.Task.{normal, Block, Task}
 use Rattle.model.specs.Command.{head, openMove, openGoal, endTable, codeOf, itemsBytes, movesBytes, taskBytes}
-use Rattle.model.specs.Reading.{Verdict, accepted, refused, only, lengthLimit, reading}
+use Rattle.model.specs.Reading.{lengthLimit}
 use Rattle.model.specs.NormalForm.{normalBlock, normalTask}
 use Rattle.model.specs.Calls.{normalBytes}
 use Rattle.model.specs.Theorems.NormalForm.Print.{normal-fits}
-use Rattle.table.specs.Outlines.{partAt, Outline}
-use Rattle.reader.specs.Parts.{PartIn, outline-part}
-use Rattle.block.specs.Parts.{move-left, goal-left}
+use Rattle.reader.specs.Written.{readTask, Source}
 use Rattle.output.specs.Writing.{Written, written-join, written-same, Writing, writing-start, writing-rest, writing-behind, writing-step, writing-end}
-use Rattle.normal_block.specs.Blocks.{Remaining, blockPrint}
+use Rattle.normal_block.specs.Blocks.{blockPrint}
 
--- the task that a written table stands for
-unfoldable pub taskIn : Verdict → Task
-taskIn (accepted k) = k .task
-taskIn (refused r) = record { props = 0; vars = 0; moves = []; goal = [] }
-
-unfoldable pub readTask : List ℕ → Task
-readTask t = taskIn (reading paper (only written) t)
-
--- an accepted written table, with the offsets of its blocks
-pub record Source (t marks : List ℕ) (moves : ℕ) : Type 0 where
-  pub outline : Outline written t marks (readTask t)
-  pub count : moves ≡ length (readTask t .moves)
-
--- its head
-pub record Heads (t : List ℕ) (props vars : ℕ) : Type 0 where
-  pub props-is : props ≡ readTask t .props
-  pub vars-is : vars ≡ readTask t .vars
-
-module _ {t marks : List ℕ} {moves : ℕ} (s : Source t marks moves) where
-  pub few-props : readTask t .props ≤ 120
-  unfolding paper
-  few-props = s .outline .ok .props
-
-  pub few-vars : readTask t .vars ≤ 16
-  unfolding paper
-  few-vars = s .outline .ok .vars
-
-  pub few-moves : moves ≤ 64
-  unfolding paper
-  few-moves = omega (arith, s .count, s .outline .ok .moves)
-
-  pub move-remaining : (b : ℕ) → b < moves → {part : List ℕ} → part ≡ partAt t marks b → Remaining part 1 (getD (readTask t .moves) b [])
-  move-remaining b h e =
-      rw e
-      (record {
-        props = readTask t .props;
-        vars = readTask t .vars;
-        few-props = few-props;
-        few-vars = few-vars;
-        left = let i : b < length (readTask t .moves) = omega (arith, s .count) in move-left (s .outline .ok) b i (s .outline .move b i);
-      })
-
-  pub goal-remaining : {part : List ℕ} → part ≡ partAt t marks moves → Remaining part 1 (readTask t .goal)
-  goal-remaining e =
-      rw e
-      (record {
-        props = readTask t .props;
-        vars = readTask t .vars;
-        few-props = few-props;
-        few-vars = few-vars;
-        left = rw (s .count) (goal-left (s .outline .ok) (s .outline .goal));
-      })
-
-  -- the offsets of a block
-  pub block-in : (b : ℕ) → b ≤ moves → PartIn t marks b
-  block-in b h = outline-part (s .outline) b (omega (arith, s .count))
-
-  -- "normal 64,000 bytes at most"
-  pub source-small : length (normalBytes (readTask t)) ≤ 64_000
-  source-small = normal-fits (readTask t) (unfold paper lengthLimit in (s .outline .short))
+-- "normal 64,000 bytes at most"
+pub source-small : {t marks : List ℕ} {moves : ℕ} → Source t marks moves → length (normalBytes (readTask t)) ≤ 64_000
+source-small {t} s = normal-fits (readTask t) (unfold paper lengthLimit in (s .outline .short))
 
 -- ---- the bytes of the moves
 

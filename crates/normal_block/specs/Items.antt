@@ -14,7 +14,7 @@ use Rattle.model.specs.Reading.{comparisonOf}
 use Rattle.model.specs.NormalForm.{negated, signedSum, least, normalCondition, mirrored, normalEffect}
 use Rattle.block.specs.Sums.{few-terms}
 use Rattle.normal_block.specs.Signs.{negateSumIf, negate-again, sumBytes, length-sum}
-use Rattle.normal_block.specs.Sums.{SumAt, termsAt, length-terms}
+use Rattle.block.specs.Terms.{SumAt, termsAt, length-terms}
 
 -- the normal condition S ≥ c, or −S ≥ c
 unfoldable pub conditionBytes : Bool → List Term → ℤ → List ℕ

@@ -12,9 +12,10 @@ ghost use Rattle.model.specs.Task.{Block};
 ghost use Rattle.block.specs.Items.{firstTerm};
 ghost use Rattle.output.specs.Writing.{Written};
 ghost use Rattle.normal_block.specs.Signs.{negateIf, sumBytes};
-ghost use Rattle.normal_block.specs.Sums.{SumAt, termsAt};
+ghost use Rattle.block.specs.Terms.{SumAt, termsAt};
 ghost use Rattle.normal_block.specs.Items.{conditionBytes, effectBytes, mirrorBytes, conditionPrint, conditionSize, effectPrint};
-ghost use Rattle.normal_block.specs.Blocks.{Writable, printOf, sizeOf, Remaining, Printable, blockPrint};
+ghost use Rattle.block.specs.Remaining.{Writable, Remaining};
+ghost use Rattle.normal_block.specs.Blocks.{printOf, sizeOf, Printable, blockPrint};
 use block::ItemAt;
 
 // The term of weight `weight` on variable `var`, for which there is room.

@@ -1,7 +1,7 @@
 -- Bytes written into a lent output, one store behind the other. A store answers the offset behind its bytes, and writes them only
 -- where they fit: so one walk answers the length over an output of no bytes, and writes over one that is long enough.
 -- Assumes nothing.
-use Prim.Native.Nat.{ℕ, suc, _+_, _≤_, _<_}
+use Prim.Native.Nat.{ℕ, suc, _+_, _^_, _≤_, _<_}
 use native.Mathlib.Numerals.{add-one}
 use native.Mathlib.Omega.{arith}
 use mathlib.Core.Path.{_≡_, refl, sym, ap, ap₂, _∙_, subst}
@@ -60,6 +60,20 @@ written-join {old} {mid} {new} {bs} {cs} {at} {a} {b} v w =
           ∙ put-append old at bs cs (omega (arith, v .behind));
     }
 
+-- the bytes from `at` on end below any offset that could overflow
+pub record Room (at : ℕ) (bs : List ℕ) : Type 0 where
+  pub short : at + length bs < 2 ^ 62
+
+pub room-same : {at : ℕ} {bs cs : List ℕ} → Room at bs → bs ≡ cs → Room at cs
+room-same {at} r e = subst (Room at) e r
+
+-- of bytes in two pieces, there is room for the first, and for the second once the first is written
+pub room-first : {at : ℕ} (bs cs : List ℕ) → Room at (bs ++ cs) → Room at bs
+room-first bs cs r = record { short = omega (arith, r .short, length-append bs cs) }
+
+pub room-next : {old mid bs : List ℕ} {at to : ℕ} (cs : List ℕ) → Written old at bs mid to → Room at (bs ++ cs) → Room to cs
+room-next {bs = bs} cs w r = record { short = omega (arith, r .short, w .behind, length-append bs cs) }
+
 -- one byte, two bytes
 pub byte-written : (l : List ℕ) (at b : ℕ) → at < length l → Written l at (b ∷ []) (set l at b) (at + 1)
 byte-written l at b h = written-whole (omega arith) (put-one l at b h) refl
@@ -98,6 +112,10 @@ module _ {old : List ℕ} {at : ℕ} {bs new : List ℕ} {to : ℕ} where
   -- the offset behind all of it
   pub writing-behind : {rest : List ℕ} → Writing old at bs new to rest → to + length rest ≡ at + length bs
   writing-behind {rest} p = omega (arith, p .so-far .behind, ap length (p .whole), length-append (p .done) rest)
+
+  -- there is room for the next piece
+  pub writing-room : (cs ds : List ℕ) → Writing old at bs new to (cs ++ ds) → Room at bs → Room to cs
+  writing-room cs ds p r = record { short = omega (arith, writing-behind p, length-append cs ds, r .short) }
 
   pub writing-step :
       {cs ds next : List ℕ} {on : ℕ} → Writing old at bs new to (cs ++ ds) → Written new to cs next on → Writing old at bs next on ds

@@ -4,7 +4,7 @@ use native.Mathlib.Omega.{arith}
 use mathlib.Core.Path.{_≡_, refl, sym, ap, _∙_}
 use mathlib.Core.List.{List, [], _++_, append-assoc}
 use lib.ListN.{length, length-append}
-use Rattle.output.specs.Digits.{decimal-byte, decimal-word}
+use Rattle.model.specs.Theorems.Printing.Decimals.{decimal-byte, decimal-word}
 use Rattle.model.specs.declared.Refusal.{Refusal}
 use Rattle.model.specs.Listing.{decimal, planWord, layersWord, noPlanWord, refusalWord, placeWord, space, newline, refusalText}
 

@@ -1,4 +1,4 @@
--- The answer of a state's check as an optional refusal; the search of the first wrong place; what an accepted state is.
+-- The answer of a state's check as an optional refusal; the search of the first wrong place; what is accepted.
 -- Assumes nothing.
 use Prim.Native.Nat.{ℕ, suc, _+_, _-_, _*_, _≤_, _<_}
 use native.Mathlib.Numerals.{add-one}
@@ -7,8 +7,8 @@ use mathlib.Core.Path.{_≡_, refl, sym, ap, _∙_}
 use mathlib.Core.Bool.{Bool, true, false, not}
 use mathlib.Core.List.{List}
 use mathlib.Core.Option.{Option, none, some}
-use borrow.Author.Tests.{leb-true, not-false, le-leb, lt-leb, eq-eqb, ne-eqb}
-use lib.Dec.{eqb, leb, eqb→eq}
+use borrow.Author.Tests.{leb-true, le-leb, lt-leb, eq-eqb, ne-eqb}
+use lib.Dec.{leb}
 use lib.IntN.{ℤ, pos, negsuc, natAbs}
 use lib.ListN.{length, getD}
 use lib.Signed.{leZ, _≤ℤ_, _<ℤ_}
@@ -19,8 +19,9 @@ use Rattle.model.specs.declared.Refusal.{Refusal}
 use Rattle.model.specs.Limits.{paper}
 use Rattle.model.specs.Lists.{firstFrom}
 use Rattle.model.specs.StateTable.{valueOffset, stateValue, valueInRange, refusedValue, refusedByte, stateRefusal}
-use Rattle.model.specs.Theorems.Laws.Booleans.{true-T, T-cases, false-not, not-false as fails}
+use Rattle.model.specs.Theorems.Laws.Booleans.{false-not}
 use Rattle.model.specs.Theorems.Laws.Searching.{firstFrom-cases}
+use Rattle.model.specs.Theorems.Reading.States.{AcceptedState}
 
 unfoldable pub checkOf : StateCheck → Option Refusal
 checkOf Accepted = none
@@ -95,20 +96,11 @@ module _ (bs : List ℕ) (p : ℕ) where
   unfolding wrongTruth
   truth-right h = rw (le-leb (getD bs p 0) 1 h) refl
 
-  truth-small : wrongTruth bs p ≡ false → getD bs p 0 ≤ 1
-  unfolding wrongTruth
-  truth-small e = leb-true (getD bs p 0) 1 (not-false (leb (getD bs p 0) 1) e)
-
 module _ (props : ℕ) (bs : List ℕ) (v : ℕ) where
   -- by a flag that tells whether the value is in range
   pub value-flag : (t : Bool) → t ≡ valueInRange paper (stateValue props bs v) → wrongValue props bs v ≡ not t
   unfolding wrongValue
   value-flag t e = ap not (sym e)
-
-  value-small : wrongValue props bs v ≡ false → natAbs (stateValue props bs v) ≤ 1_000_000
-  unfolding wrongValue
-  value-small e =
-      range-size (stateValue props bs v) (not-false (valueInRange paper (stateValue props bs v)) e)
 
   value-right : natAbs (stateValue props bs v) ≤ 1_000_000 → wrongValue props bs v ≡ false
   unfolding wrongValue valueInRange paper
@@ -182,13 +174,7 @@ truths-accepted props bs a e = by (firstFrom (wrongTruth bs) 0 props) e
     by none h = refl
     by (some p) h = absurd (some-none (sym h))
 
--- ---- what an accepted state is
-
-none-all : (f : ℕ → Bool) (n : ℕ) → firstFrom f 0 n ≡ none → (i : ℕ) → i < n → f i ≡ false
-none-all f n =
-    firstFrom-cases f (λ (o : Option ℕ). o ≡ none → (i : ℕ) → i < n → f i ≡ false) 0 n
-    (λ j h k t before e i l. absurd (some-none e))
-    (λ all-fail e i l. fails (f i) (all-fail i (omega arith) (omega arith)))
+-- ---- what is accepted
 
 all-none : (f : ℕ → Bool) (n : ℕ) → ((i : ℕ) → i < n → f i ≡ false) → firstFrom f 0 n ≡ none
 all-none f n h =
@@ -196,59 +182,16 @@ all-none f n h =
     (λ j k l t before. absurd (false-not (h j (omega arith)) t))
     (λ all-fail. refl)
 
--- the length, the truth bytes and the values of an accepted state
-pub record AcceptedState (props vars : ℕ) (bs : List ℕ) : Type 0 where
-  pub length-is : length bs ≡ props + 4 * vars
-  pub truths : (p : ℕ) → p < props → getD bs p 0 ≤ 1
-  pub values : (v : ℕ) → v < vars → natAbs (stateValue props bs v) ≤ 1_000_000
-
-module _ (props vars : ℕ) (bs : List ℕ) where
-  parts :
-      truthsRefusal props bs (valuesRefusal props vars bs) ≡ none
-      → (firstFrom (wrongTruth bs) 0 props ≡ none) × (firstFrom (wrongValue props bs) 0 vars ≡ none)
-  unfolding truthsRefusal valuesRefusal refusedByte refusedValue
-  parts e = by (firstFrom (wrongTruth bs) 0 props) (firstFrom (wrongValue props bs) 0 vars) e
-    where
-      by : (o v : Option ℕ) → refusedByte o (refusedValue props v) ≡ none → (o ≡ none) × (v ≡ none)
-      by none none h = (refl, refl)
-      by none (some v) h = absurd (some-none h)
-      by (some p) v h = absurd (some-none h)
-
-  pub accepted-state : stateRefusal paper props vars bs ≡ none → AcceptedState props vars bs
-  accepted-state e =
-      T-cases (eqb (length bs) (props + 4 * vars))
-      (λ t.
-      let l : length bs ≡ props + 4 * vars = eqb→eq (length bs) (props + 4 * vars) t in
-      let q = parts (sym (length-right props vars bs l) ∙ e) in
-      record {
-        length-is = l;
-        truths = λ p h. truth-small bs p (none-all (wrongTruth bs) props (q .0) p h);
-        values = λ v h. value-small props bs v (none-all (wrongValue props bs) vars (q .1) v h);
-      })
-      (λ no-t.
-      absurd
-      (some-none
-      (sym (length-refused props vars bs (λ l. no-t (true-T (eq-eqb (length bs) (props + 4 * vars) l)))) ∙ e)))
-
-  pub accepted-length : stateRefusal paper props vars bs ≡ none → length bs ≡ props + 4 * vars
-  accepted-length e = accepted-state e .length-is
-
-  pub accepted-truths : stateRefusal paper props vars bs ≡ none → (p : ℕ) → p < props → getD bs p 0 ≤ 1
-  accepted-truths e = accepted-state e .truths
-
-  pub accepted-values :
-      stateRefusal paper props vars bs ≡ none
-      → (v : ℕ)
-      → v < vars
-      → natAbs (stateValue props bs v) ≤ 1_000_000
-  accepted-values e = accepted-state e .values
-
-  -- and nothing else is asked
-  pub state-accepted : AcceptedState props vars bs → stateRefusal paper props vars bs ≡ none
-  state-accepted a =
-      length-right props vars bs (a .length-is)
-      ∙ sym
-      (truths-none props bs (valuesRefusal props vars bs)
-      (all-none (wrongTruth bs) props (λ p h. truth-right bs p (a .truths p h))))
-      ∙ sym
-      (values-none props bs vars (all-none (wrongValue props bs) vars (λ v h. value-right props bs v (a .values v h))))
+-- a state with the right length, truth bytes and values: nothing else is asked
+pub state-accepted :
+    (props vars : ℕ) (bs : List ℕ)
+    → AcceptedState paper props vars bs
+    → stateRefusal paper props vars bs ≡ none
+unfolding paper
+state-accepted props vars bs a =
+    length-right props vars bs (a .length-is)
+    ∙ sym
+    (truths-none props bs (valuesRefusal props vars bs)
+    (all-none (wrongTruth bs) props (λ p h. truth-right bs p (a .truths p h))))
+    ∙ sym
+    (values-none props bs vars (all-none (wrongValue props bs) vars (λ v h. value-right props bs v (a .values v h))))

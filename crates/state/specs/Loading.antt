@@ -5,19 +5,16 @@ use native.Mathlib.Omega.{arith}
 use mathlib.Core.Path.{_≡_, refl, sym, ap, _∙_}
 use mathlib.Core.List.{List}
 use mathlib.Core.Option.{none}
-use lib.Dec.{eqb}
 use lib.IntN.{ℤ, negℤ, natAbs}
 use lib.ListN.{length, set, take, drop}
 use Rattle.integer.specs.BigEndian.{signed}
-use Rattle.integer.specs.Linear.{abs-neg}
 use Rattle.model.specs.Limits.{paper}
 use Rattle.model.specs.Lists.{tabulate}
 use Rattle.model.specs.Memory.{overwrite}
 use Rattle.model.specs.Move.{State}
 use Rattle.model.specs.NormalForm.{normalState}
 use Rattle.model.specs.StateTable.{valueOffset, stateValue, stateOf, stateRefusal}
-use Rattle.model.specs.Theorems.Laws.Booleans.{cond-cases}
-use Rattle.state.specs.Checking.{accepted-values}
+use Rattle.model.specs.Theorems.Sizes.States.{accepted-small, normalState-small}
 use Rattle.state.specs.Overwriting.{length-written, written-none, written-next}
 
 -- a value read from its place
@@ -42,26 +39,14 @@ module _ (s : State) (v : ℕ) where
       rw (m, d) refl
 
 -- the signed variables of an accepted state are as small as its values
-half-small :
-    (s : State) (vars j : ℕ)
-    → ((v : ℕ) → v < vars → natAbs (s .val v) ≤ 1_000_000)
-    → j / 2 < vars
-    → natAbs (normalState s .val j) ≤ 1_000_000
-unfolding normalState
-half-small s vars j h k =
-    cond-cases (λ (z : ℤ). natAbs z ≤ 1_000_000) (eqb (j % 2) 0) (s .val (j / 2)) (negℤ (s .val (j / 2)))
-    (λ t. h (j / 2) k)
-    (λ t. rw (abs-neg (s .val (j / 2))) (h (j / 2) k))
-
 pub accepted-signed :
     (props vars : ℕ) (bs : List ℕ)
     → stateRefusal paper props vars bs ≡ none
     → (j : ℕ)
     → j < 2 * vars
     → natAbs (normalState (stateOf props bs) .val j) ≤ 1_000_000
-unfolding stateOf
-accepted-signed props vars bs e j h =
-    half-small (stateOf props bs) vars j (accepted-values props vars bs e) (omega arith)
+accepted-signed props vars bs e =
+    normalState-small {signed = 2 * vars} (omega arith) (accepted-small props vars bs e) .values
 
 -- the first i of n entries of a table are written
 pub record Written {A : Type 0} (f : ℕ → A) (n : ℕ) (old new : List A) (i : ℕ) : Type 0 where

@@ -24,16 +24,6 @@ module _ {A : Type 0} (f : ℕ → A) where
   tabulate-last i (suc n) =
       ap (λ (l : List A). f i ∷ l) (tabulate-last (suc i) n ∙ rw (suc-add i n, add-suc i n) refl)
 
--- two tables are equal if their entries are
-pub tabulate-same :
-    {A : Type 0} (f g : ℕ → A) (i n : ℕ)
-    → ((j : ℕ) → i ≤ j → j < i + n → f j ≡ g j)
-    → tabulate f i n ≡ tabulate g i n
-unfolding tabulate
-tabulate-same f g i zero h = refl
-tabulate-same {A} f g i (suc n) h =
-    rw (h i (omega arith) (omega arith), tabulate-same f g (suc i) n (λ j a b. h j (omega arith) (omega arith))) refl
-
 -- ---- tables written over the start of a list
 
 module _ {A : Type 0} (f : ℕ → A) (old : List A) where

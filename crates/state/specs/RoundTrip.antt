@@ -18,8 +18,8 @@ use Rattle.model.specs.Lists.{tabulate}
 use Rattle.model.specs.Move.{State}
 use Rattle.model.specs.StateTable.{valueOffset, stateValue, stateOf, stateRefusal, truthByte, valuesBytes, stateBytes}
 use Rattle.model.specs.Theorems.Laws.Searching.{length-tabulate, getD-tabulate}
+use Rattle.model.specs.Theorems.Reading.States.{length-stateBytes}
 use Rattle.state.specs.Checking.{state-accepted}
-use Rattle.state.specs.Storing.{length-stateBytes}
 
 -- ---- one truth, one value
 
@@ -94,6 +94,7 @@ module _ (props vars : ℕ) (s : State) where
   pub bytes-accepted :
       ((v : ℕ) → v < vars → natAbs (s .val v) ≤ 1_000_000)
       → stateRefusal paper props vars (stateBytes props vars s) ≡ none
+  unfolding paper
   bytes-accepted small =
       state-accepted props vars (stateBytes props vars s)
       (record {

@@ -7,15 +7,16 @@ use mathlib.Core.Path.{_≡_, refl, sym, ap, ap₂, _∙_}
 use mathlib.Core.Bool.{Bool, false}
 use mathlib.Core.List.{List, [], _∷_, _++_, append-assoc, append-nil}
 use lib.IntN.{ℤ, pos, natAbs}
-use lib.ListN.{length, getD, length-append}
-use Rattle.integer.specs.BigEndian.{signedBytes, length-signedBytes}
+use lib.ListN.{length, getD}
+use Rattle.integer.specs.BigEndian.{signedBytes}
 use Rattle.integer.specs.Store.{put, put-nil, put-append, length-put}
 use Rattle.model.specs.Lists.{tabulate}
 use Rattle.model.specs.Memory.{overwrite}
 use Rattle.model.specs.Move.{State}
 use Rattle.model.specs.StateTable.{truthByte, valuesBytes, stateBytes}
 use Rattle.model.specs.Theorems.Laws.Searching.{length-tabulate}
-use Rattle.state.specs.Overwriting.{tabulate-last, tabulate-same, overwrite-put}
+use Rattle.model.specs.Theorems.Reading.States.{length-valuesBytes, stateBytes-same}
+use Rattle.state.specs.Overwriting.{tabulate-last, overwrite-put}
 
 -- the state whose truths and values stand in two arrays
 unfoldable pub stateIn : List Bool → List ℤ → State
@@ -25,36 +26,7 @@ stateIn has values = record { has = λ p. getD has p false; val = λ v. getD val
 unfoldable pub truthBytes : ℕ → State → List ℕ
 truthBytes props s = tabulate (λ p. truthByte (s .has p)) 0 props
 
--- ---- lengths
-
-pub length-valuesBytes : (zs : List ℤ) → length (valuesBytes zs) ≡ 4 * length zs
-unfolding valuesBytes
-length-valuesBytes [] = refl
-length-valuesBytes (z ∷ zs) =
-    rw (length-append (signedBytes 4 z) (valuesBytes zs), length-signedBytes 4 z, length-valuesBytes zs) (omega arith)
-
-pub length-stateBytes : (props vars : ℕ) (s : State) → length (stateBytes props vars s) ≡ props + 4 * vars
-unfolding stateBytes
-length-stateBytes props vars s =
-    rw (
-      length-append (tabulate (λ p. truthByte (s .has p)) 0 props) (valuesBytes (tabulate (s .val) 0 vars)),
-      length-tabulate (λ p. truthByte (s .has p)) 0 props,
-      length-valuesBytes (tabulate (s .val) 0 vars),
-      length-tabulate (s .val) 0 vars,
-    ) refl
-
--- ---- only the truths below props and the values below vars count
-
-pub stateBytes-same :
-    (props vars : ℕ) (s t : State)
-    → ((p : ℕ) → p < props → s .has p ≡ t .has p)
-    → ((v : ℕ) → v < vars → s .val v ≡ t .val v)
-    → stateBytes props vars s ≡ stateBytes props vars t
-unfolding stateBytes
-stateBytes-same props vars s t f g =
-    ap₂ _++_
-    (tabulate-same (λ p. truthByte (s .has p)) (λ p. truthByte (t .has p)) 0 props (λ p h k. ap truthByte (f p (omega arith))))
-    (ap valuesBytes (tabulate-same (s .val) (t .val) 0 vars (λ v h k. g v (omega arith))))
+-- ---- the bytes stored from two arrays
 
 -- what was stored from two arrays are the bytes of each state that they hold
 pub stored-state :

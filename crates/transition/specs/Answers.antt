@@ -17,7 +17,8 @@ use Rattle.model.specs.Calls.{writes, turns, resultOf}
 use Rattle.model.specs.Theorems.Laws.Booleans.{T-true, T-equal, true-T, false-not, not-false}
 use Rattle.model.specs.Theorems.Laws.Searching.{allBelow-at, at-allBelow}
 use Rattle.state.specs.Checking.{range-size}
-use Rattle.state.specs.Storing.{stateIn, stateBytes-same}
+use Rattle.model.specs.Theorems.Reading.States.{stateBytes-same}
+use Rattle.state.specs.Storing.{stateIn}
 
 -- ---- 12: "a result beyond ±1,000,000"
 

@@ -15,7 +15,7 @@ use Rattle.model.specs.Theorems.Reading.WellFormed.{Once}
 use Rattle.block.specs.Items.{Ranges, Left}
 use Rattle.block.specs.Sums.{Row}
 use Rattle.block.specs.Blocks.{StateRow, Testable, IsApplicable}
-use Rattle.state.specs.Checking.{AcceptedState}
+use Rattle.model.specs.Theorems.Reading.States.{AcceptedState}
 use Rattle.state.specs.Storing.{stateIn}
 use Rattle.transition.specs.Running.{Runs, Runnable, Ran}
 use Rattle.transition.specs.Answers.{result-same}
@@ -33,7 +33,7 @@ pub record Movable (part state : List ℕ) (props vars : ℕ) : Type 0 where
   pub chosen : Chosen part state props vars block
   pub few-props : props ≤ 120
   pub few-vars : vars ≤ 16
-  pub state-ok : AcceptedState props vars state
+  pub state-ok : AcceptedState paper props vars state
 
 -- the state's values, its propositions
 pub record Valued (state : List ℕ) (props vars : ℕ) (values : List ℤ) : Type 0 where
@@ -46,7 +46,7 @@ module _ {part state : List ℕ} {props vars : ℕ} (m : Movable part state prop
 
   module _ {values : List ℤ} (w : Valued state props vars values) where
     values-row : Row vars values (stateOf props state .val)
-    unfolding stateOf
+    unfolding stateOf paper
     values-row =
         record {
           long = omega (arith, w .long, m .few-vars);

@@ -15,7 +15,7 @@ use Rattle.model.specs.Reading.{Verdict, refused, only, reading}
 use Rattle.model.specs.StateTable.{stateOf, stateRefusal}
 use Rattle.model.specs.Calls.{turns, moved, stepWithState, stepOf, stepped, stepAnswer, stepOut}
 use Rattle.model.specs.Theorems.Layers.NextLayer.{move-ok}
-use Rattle.state.specs.Checking.{accepted-state}
+use Rattle.model.specs.Theorems.Reading.States.{accepted-state}
 use Rattle.table.specs.Outlines.{partAt, HeadRead}
 use Rattle.reader.specs.Parts.{PartIn, outline-part}
 use Rattle.block.specs.Parts.{move-left}
@@ -83,7 +83,7 @@ module _ {t marks : List ℕ} {props vars moves : ℕ} (h : Read t marks props v
           chosen = step-chosen l f;
           few-props = few-props;
           few-vars = few-vars;
-          state-ok = accepted-state props vars bs e;
+          state-ok = accepted-state paper props vars bs e;
         }
 
   -- the offsets of the move

@@ -3,7 +3,7 @@ use borrow.Author.Needs.{needs}
 use mathlib.Core.Path.{sym, ap, subst, _∙_}
 use Rattle.model.specs.Exports.{writeCode}
 use Rattle.model.specs.Theorems.Reading.Places.{Small}
-use Rattle.model.specs.Theorems.Sizes.Answers.{placeLimit, WriteSmall}
+use Rattle.model.specs.Theorems.Sizes.Answers.{placeLimit, resultLimit, WriteSmall}
 use Rattle.codes.proofs.write_code.Statement.{statement}
 use Rattle.codes.proofs.write_code.Tie as tie
 
@@ -16,7 +16,7 @@ enum-known-a-2 c = search needs
 refusal-code-requires : tie.Need-refusal-code-requires
 refusal-code-requires c κs =
     let small : Small placeLimit (c .before .a2 .given .0 .0) =
-    subst (WriteSmall 64_000) (c .before .a2 .given .1) (c .before .before .before .pre) in
+    subst (WriteSmall resultLimit) (c .before .a2 .given .1) (c .before .before .before .pre) in
     (small .number, small .place)
 
 returns : tie.Need-returns

@@ -6,12 +6,12 @@ use native.Mathlib.Omega.{arith}
 use Rattle.model.specs.Exports.{writeCode}
 use Rattle.model.specs.Limits.{paper}
 use Rattle.model.specs.Calls.{stepAnswer}
-use Rattle.model.specs.Theorems.Sizes.Answers.{WriteSmall, write-wider, step-small}
+use Rattle.model.specs.Theorems.Sizes.Answers.{resultLimit, WriteSmall, write-wider, step-small}
 use borrow.Author.Needs.{needs}
 use Rattle.engine.proofs.lapyndo_step.Statement.{statement}
 use Rattle.engine.proofs.lapyndo_step.Tie as tie
 
-step-fits : (t bs : List ℕ) (b : ℕ) (out : List ℕ) → WriteSmall 64_000 (stepAnswer paper t bs b out)
+step-fits : (t bs : List ℕ) (b : ℕ) (out : List ℕ) → WriteSmall resultLimit (stepAnswer paper t bs b out)
 step-fits t bs b out = write-wider (stepAnswer paper t bs b out) (omega arith) (step-small t bs b out)
 
 step-requires : tie.Need-step-requires

@@ -1,4 +1,5 @@
--- Tests, searches and counts as facts.
+-- Tests, searches, counts and lists as facts.
 pub mod Booleans
 pub mod Searching
 pub mod Counting
+pub mod Listed

@@ -1,5 +1,6 @@
--- What the checks of a table give: an accepted table is the print of its task, which is within every limit, and its marks are
--- where its blocks begin; a refusal's number and place; check 7 finds a closed walk exactly where there is one.
+-- What the checks of a table and of a state give: an accepted table is the print of its task, which is within every limit, and its
+-- marks are where its blocks begin; an accepted state is the bytes of its state; a refusal's number and place; check 7 finds a closed
+-- walk exactly where there is one; a task looks at its own propositions and variables alone.
 pub mod WellFormed
 pub mod Ranges
 pub mod Commands
@@ -10,5 +11,7 @@ pub mod Reads
 pub mod Circles
 pub mod Marks
 pub mod Accepted
+pub mod States
 pub mod Parts
 pub mod Places
+pub mod Agreeing

@@ -6,8 +6,10 @@ use mathlib.Core.Path.{_≡_}
 use mathlib.Core.List.{[]}
 use lib.ListN.{length, getD}
 use denote.Ref.{now}
-use Rattle.normal_block.specs.Blocks.{Remaining, blockPrint}
-use Rattle.normal.specs.Tables.{readTask, MovesCounting, move-remaining, block-in, source-small, normal-size, few-moves, moves-counted, moves-count, move-small, moves-total}
+use Rattle.block.specs.Remaining.{Remaining}
+use Rattle.normal_block.specs.Blocks.{blockPrint}
+use Rattle.reader.specs.Written.{readTask, move-remaining, block-in, few-moves}
+use Rattle.normal.specs.Tables.{MovesCounting, source-small, normal-size, moves-counted, moves-count, move-small, moves-total}
 use Rattle.normal.proofs.moves_length.Statement.{statement}
 use Rattle.normal.proofs.moves_length.Tie as tie
 

@@ -4,7 +4,8 @@ use borrow.Author.Needs.{needs}
 use Rattle.model.specs.Task.{written}
 use Rattle.table.specs.Names.{wantedOf}
 use Rattle.table.specs.Outlines.{head-read, head-refused}
-use Rattle.normal.specs.Heads.{head-source, head-heads, normalise-written, normalise-refused}
+use Rattle.reader.specs.Written.{head-source, head-heads}
+use Rattle.normal.specs.Heads.{normalise-written, normalise-refused}
 use Rattle.normal.proofs.normalise.Statement.{statement}
 use Rattle.normal.proofs.normalise.Tie as tie
 

@@ -6,8 +6,9 @@ use mathlib.Core.List.{[]}
 use lib.ListN.{length, getD}
 use denote.Ref.{now}
 use Rattle.model.specs.Command.{codeOf}
-use Rattle.normal_block.specs.Blocks.{Remaining}
-use Rattle.normal.specs.Tables.{readTask, MovesWriting, move-remaining, block-in, few-moves, moves-start, moves-short, moves-step, moves-end}
+use Rattle.block.specs.Remaining.{Remaining}
+use Rattle.reader.specs.Written.{readTask, move-remaining, block-in, few-moves}
+use Rattle.normal.specs.Tables.{MovesWriting, moves-start, moves-short, moves-step, moves-end}
 use Rattle.normal.proofs.put_moves.Statement.{statement}
 use Rattle.normal.proofs.put_moves.Tie as tie
 

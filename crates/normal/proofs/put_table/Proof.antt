@@ -4,8 +4,10 @@ use native.Mathlib.Omega.{arith}
 use lib.ListN.{length}
 use denote.Ref.{now}
 use Rattle.model.specs.Command.{codeOf}
-use Rattle.normal_block.specs.Blocks.{Remaining, blockPrint}
-use Rattle.normal.specs.Tables.{readTask, movesPrint, goal-remaining, block-in, normal-size, few-props, few-vars, few-moves, whole-written, source-small}
+use Rattle.block.specs.Remaining.{Remaining}
+use Rattle.normal_block.specs.Blocks.{blockPrint}
+use Rattle.reader.specs.Written.{readTask, goal-remaining, block-in, few-props, few-vars, few-moves}
+use Rattle.normal.specs.Tables.{movesPrint, normal-size, whole-written, source-small}
 use Rattle.normal.proofs.put_table.Statement.{statement}
 use Rattle.normal.proofs.put_table.Tie as tie
 

@@ -5,8 +5,9 @@ use mathlib.Core.Path.{_≡_}
 use lib.ListN.{length}
 use denote.Ref.{now}
 use Rattle.model.specs.Calls.{normalBytes}
-use Rattle.normal_block.specs.Blocks.{Remaining}
-use Rattle.normal.specs.Tables.{readTask, goal-remaining, block-in, source-small, normal-size}
+use Rattle.block.specs.Remaining.{Remaining}
+use Rattle.reader.specs.Written.{readTask, goal-remaining, block-in}
+use Rattle.normal.specs.Tables.{source-small, normal-size}
 use Rattle.normal.proofs.table_length.Statement.{statement}
 use Rattle.normal.proofs.table_length.Tie as tie
 

@@ -2,7 +2,8 @@
 use native.Mathlib.Omega.{arith}
 use mathlib.Core.Path.{sym, ap, _∙_, subst}
 use borrow.Author.Needs.{needs}
-use Rattle.normal_block.specs.Blocks.{Writable, sizeOf}
+use Rattle.block.specs.Remaining.{Writable}
+use Rattle.normal_block.specs.Blocks.{sizeOf}
 use Rattle.normal_block.proofs.item_size.Statement.{statement}
 use Rattle.normal_block.proofs.item_size.Tie as tie
 

@@ -6,7 +6,8 @@ use mathlib.Core.Path.{sym, ap, subst₂}
 use lib.ListN.{length}
 use Rattle.model.specs.Task.{Block}
 use Rattle.block.specs.Items.{next-ahead}
-use Rattle.normal_block.specs.Blocks.{Remaining, Counting, remaining-readable, counting-start, counting-split, counting-room, counting-step, counting-end}
+use Rattle.block.specs.Remaining.{Remaining, remaining-readable}
+use Rattle.normal_block.specs.Blocks.{Counting, counting-start, counting-split, counting-room, counting-step, counting-end}
 use Rattle.normal_block.proofs.items_length.Statement.{statement}
 use Rattle.normal_block.proofs.items_length.Tie as tie
 

@@ -7,7 +7,7 @@ use mir.Val.{toZ, ofZ}
 use Rattle.integer.specs.Linear.{back}
 use Rattle.model.specs.Reading.{comparisonOf}
 use Rattle.output.specs.Writing.{written-same}
-use Rattle.normal_block.specs.Sums.{termsAt}
+use Rattle.block.specs.Terms.{termsAt}
 use Rattle.normal_block.specs.Items.{conditionPrint}
 use Rattle.normal_block.proofs.put_comparison.Statement.{statement}
 use Rattle.normal_block.proofs.put_comparison.Tie as tie

@@ -5,7 +5,8 @@ use borrow.Author.Needs.{needs}
 use Rattle.integer.specs.Linear.{back-small}
 use Rattle.model.specs.Command.{codeOf}
 use Rattle.output.specs.Writing.{written-same, written-none}
-use Rattle.normal_block.specs.Blocks.{Writable, printOf}
+use Rattle.block.specs.Remaining.{Writable}
+use Rattle.normal_block.specs.Blocks.{printOf}
 use Rattle.normal_block.proofs.put_item.Statement.{statement}
 use Rattle.normal_block.proofs.put_item.Tie as tie
 

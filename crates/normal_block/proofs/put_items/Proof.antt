@@ -7,7 +7,8 @@ use lib.ListN.{length}
 use Rattle.model.specs.Task.{Block}
 use Rattle.block.specs.Items.{next-ahead}
 use Rattle.output.specs.Writing.{Written, written-not, written-at}
-use Rattle.normal_block.specs.Blocks.{printOf, print-size, size-small, Remaining, ItemsWriting, remaining-readable, items-start, items-split, items-short, items-step, items-end}
+use Rattle.block.specs.Remaining.{Remaining, remaining-readable}
+use Rattle.normal_block.specs.Blocks.{printOf, print-size, size-small, ItemsWriting, items-start, items-split, items-short, items-step, items-end}
 use Rattle.normal_block.proofs.put_items.Statement.{statement}
 use Rattle.normal_block.proofs.put_items.Tie as tie
 

@@ -7,7 +7,8 @@ use Rattle.integer.specs.Linear.{back}
 use Rattle.block.specs.Sums.{few-terms}
 use Rattle.output.specs.Writing.{written-not, Writing, writing-behind}
 use Rattle.normal_block.specs.Signs.{negateIf, sumBytes}
-use Rattle.normal_block.specs.Sums.{SumAt, termsAt, length-printed, sum-behind, sum-term, term-variable, term-weighs, sum-start, sum-step, sum-done}
+use Rattle.block.specs.Terms.{SumAt, termsAt, sum-behind, sum-term, term-variable, term-weighs}
+use Rattle.normal_block.specs.Sums.{length-printed, sum-start, sum-step, sum-done}
 use Rattle.normal_block.proofs.put_sum.Statement.{statement}
 use Rattle.normal_block.proofs.put_sum.Tie as tie
 

@@ -1,7 +1,8 @@
 -- `decimal_len` meets its contract. The invariant: the digits passed are counted. The measure is the number that is left.
 -- Assumes nothing.
 use native.Mathlib.Omega.{arith}
-use Rattle.output.specs.Digits.{Counted, counted-none, counted-next, counted-all, decimal-word}
+use Rattle.model.specs.Theorems.Printing.Decimals.{decimal-word}
+use Rattle.output.specs.Digits.{Counted, counted-none, counted-next, counted-all}
 use Rattle.output.proofs.decimal_len.Statement.{statement}
 use Rattle.output.proofs.decimal_len.Tie as tie
 

@@ -9,7 +9,8 @@ use lib.ListN.{length}
 use Rattle.model.specs.Limits.{paper}
 use Rattle.model.specs.StateTable.{stateBytes}
 use Rattle.model.specs.Calls.{Output, resultOf, writes}
-use Rattle.state.specs.Storing.{stateIn, length-stateBytes}
+use Rattle.model.specs.Theorems.Reading.States.{length-stateBytes}
+use Rattle.state.specs.Storing.{stateIn}
 use Rattle.output.specs.Answers.{answered-same, answered-refused, answered-short, answered-whole}
 use Rattle.transition.specs.Answers.{allInRange, result-refused, result-written, all-small}
 use Rattle.transition.proofs.finish.Statement.{statement}

@@ -16,10 +16,12 @@ use Rattle.model.specs.declared.DecideAnswer.the-variants as decide
 use Rattle.model.specs.declared.PlanAnswer.{PlanAnswer}
 use Rattle.model.specs.declared.PlanAnswer.the-variants as plan
 use Rattle.model.specs.Limits.{paper}
+use Rattle.model.specs.Pddl.{pddlAnswer}
 use Rattle.model.specs.Calls.{readAnswer, blockPart, blockRefusal, normaliseAnswer, stepAnswer, decideAnswer, planAnswer, campaignDecision, campaignPlan}
 use Rattle.model.specs.Exports.{refusalCode, readCode, writeCode, decideCode, planCode, planRecordCount, planFirstMoves, blockAnswer, codeNumber, codePlace, apart, readApart, writeApart, decideApart, planApart}
 use Rattle.model.specs.Theorems.Reading.Places.{Small}
-use Rattle.model.specs.Theorems.Sizes.Answers.{placeLimit, ReadSmall, read-small, WriteSmall, write-wider, normalise-small, step-small, block-small, DecideSmall, decide-small, PlanSmall, plan-small, campaign-decision-small, campaign-plan-small}
+use Rattle.model.specs.Theorems.Pddl.Sizes.{pddl-small}
+use Rattle.model.specs.Theorems.Sizes.Answers.{placeLimit, resultLimit, ReadSmall, read-small, WriteSmall, write-wider, normalise-small, step-small, block-small, DecideSmall, decide-small, PlanSmall, plan-small, campaign-decision-small, campaign-plan-small}
 
 -- ---- the halves
 
@@ -56,7 +58,7 @@ read-back (read.Head kind props vars moves) s =
     let m : n % 2 ^ 8 ≡ moves = omega arith in
     result-apart _ _ n (omega arith) ∙ rw (k, p, v, m) refl
 
-write-back : (a : WriteAnswer) → WriteSmall 64_000 a → writeApart (writeCode a) ≡ a
+write-back : (a : WriteAnswer) → WriteSmall resultLimit a → writeApart (writeCode a) ≡ a
 unfolding writeApart writeCode
 write-back (write.Refused r) s = refusal-apart _ _ r s
 write-back (write.Written n) s = result-apart _ _ n (omega arith)
@@ -102,14 +104,15 @@ abbrev partAnswer : List ℕ → ℕ → WriteAnswer
 partAnswer t b = blockAnswer (blockPart paper t b) (blockRefusal paper t b)
 
 pub block-apart : (t : List ℕ) (b : ℕ) → writeApart (writeCode (partAnswer t b)) ≡ partAnswer t b
-block-apart t b = write-back (partAnswer t b) (block-small t b)
+block-apart t b = write-back (partAnswer t b) (write-wider (partAnswer t b) (omega arith) (block-small t b))
 
 pub block-one :
     (t : List ℕ) (b : ℕ) (u : List ℕ) (c : ℕ) → writeCode (partAnswer t b) ≡ writeCode (partAnswer u c) → partAnswer t b ≡ partAnswer u c
 block-one t b u c = one-answer writeApart (block-apart t b) (block-apart u c)
 
 pub normalise-apart : (t out : List ℕ) → writeApart (writeCode (normaliseAnswer paper t out)) ≡ normaliseAnswer paper t out
-normalise-apart t out = write-back (normaliseAnswer paper t out) (normalise-small t out)
+normalise-apart t out =
+    write-back (normaliseAnswer paper t out) (write-wider (normaliseAnswer paper t out) (omega arith) (normalise-small t out))
 
 pub normalise-one :
     (t out u room : List ℕ) → writeCode (normaliseAnswer paper t out) ≡ writeCode (normaliseAnswer paper u room)
@@ -126,6 +129,16 @@ pub step-one :
     → writeCode (stepAnswer paper t bs b out) ≡ writeCode (stepAnswer paper u cs c room)
     → stepAnswer paper t bs b out ≡ stepAnswer paper u cs c room
 step-one t bs b out u cs c room = one-answer writeApart (step-apart t bs b out) (step-apart u cs c room)
+
+pub pddl-apart : (t bs out : List ℕ) → writeApart (writeCode (pddlAnswer paper t bs out)) ≡ pddlAnswer paper t bs out
+pddl-apart t bs out =
+    write-back (pddlAnswer paper t bs out) (write-wider (pddlAnswer paper t bs out) (omega arith) (pddl-small t bs out))
+
+pub pddl-one :
+    (t bs out u cs room : List ℕ)
+    → writeCode (pddlAnswer paper t bs out) ≡ writeCode (pddlAnswer paper u cs room)
+    → pddlAnswer paper t bs out ≡ pddlAnswer paper u cs room
+pddl-one t bs out u cs room = one-answer writeApart (pddl-apart t bs out) (pddl-apart u cs room)
 
 pub decide-apart : (t bs : List ℕ) (mem : List ℤ) → decideApart (decideCode (decideAnswer paper t bs mem)) ≡ decideAnswer paper t bs mem
 decide-apart t bs mem = decide-back (decideAnswer paper t bs mem) (decide-small t bs mem)

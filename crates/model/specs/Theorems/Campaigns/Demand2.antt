@@ -1,11 +1,11 @@
 -- Demand 2 for the normal form, as one theorem from the bytes of a written table to the bytes that normalise writes: a list solves
 -- the written table exactly when it solves its normal form. Assumes nothing.
 use Prim.Native.Nat.{ℕ, _≤_}
-use mathlib.Core.Path.{_≡_, refl, ap, subst, _∙_}
+use mathlib.Core.Path.{_≡_, refl, ap, _∙_}
 use mathlib.Core.Logic.{_↔_}
-use mathlib.Core.List.{List, _++_}
+use mathlib.Core.List.{List}
 use native.Mathlib.Omega.{arith}
-use lib.ListN.{length, take, drop, length-append}
+use lib.ListN.{length, take, drop}
 use lib.Seq.{take-append-seam}
 use Rattle.model.specs.Limits.{paper}
 use Rattle.model.specs.Task.{written, normal}
@@ -18,7 +18,7 @@ use Rattle.model.specs.declared.Refusal.{Refusal}
 use Rattle.model.specs.declared.WriteAnswer.the-variants as write
 use Rattle.model.specs.Theorems.NormalForm.Print.{normalTable, normal-accepted}
 use Rattle.model.specs.Theorems.NormalForm.Moves.{written-normal}
-use Rattle.model.specs.Theorems.Printing.Outputs.{fitted-whole}
+use Rattle.model.specs.Theorems.Printing.Outputs.{fitted-whole, written-part, written-inside}
 
 -- the bytes that normalise leaves: as many from the start of its output as it answers
 abbrev pub normalPart : List ℕ → List ℕ → ℕ → List ℕ
@@ -62,19 +62,15 @@ pub record Handed (t normalOut : List ℕ) (n : ℕ) : Type 0 where
   pub inside : n ≤ length (normaliseOut paper t normalOut)
 
 pub written-hands : (t normalOut : List ℕ) (n : ℕ) → normaliseAnswer paper t normalOut ≡ write.Written n → Handed t normalOut n
-unfolding normaliseAnswer normaliseOut writeAnswer outputAfter overwrite
-written-hands t normalOut n e = go (normalised paper t (length normalOut)) refl e
-  where
-    go : (o : Output) → normalised paper t (length normalOut) ≡ o → writeAnswer o ≡ write.Written n → Handed t normalOut n
-    go (writes nb) is answer =
-        let same : length nb ≡ n = cc in
-        record {
-          bytes = nb;
-          is = is;
-          part = rw is (subst (λ (m : ℕ). take m (nb ++ drop (length nb) normalOut) ≡ nb) same (take-append-seam nb (drop (length nb) normalOut)));
-          inside = rw is (omega (arith, same, length-append nb (drop (length nb) normalOut)));
-        }
-    go (turns r) is answer = let z : _≡_ {A = ℕ} 0 1 = cc in absurd (omega arith)
+unfolding normaliseAnswer normaliseOut
+written-hands t normalOut n e =
+    let o = normalised paper t (length normalOut) in
+    record {
+      bytes = take n (normaliseOut paper t normalOut);
+      is = written-part o normalOut n e;
+      part = refl;
+      inside = written-inside o normalOut n e;
+    }
 
 pub refused-turns : (t normalOut : List ℕ) (r : Refusal) → normaliseAnswer paper t normalOut ≡ write.Refused r → normalised paper t (length normalOut) ≡ turns r
 unfolding normaliseAnswer writeAnswer

@@ -22,11 +22,11 @@ use Rattle.model.specs.Theorems.Campaigns.Demand3.{relaxedTask, layerZer
 use Rattle.model.specs.Theorems.Campaigns.EndToEnd.{demand3}
 
 -- the table that was read
-tableIn : Verdict → Table
+unfoldable pub tableIn : Verdict → Table
 tableIn (accepted k) = k
 tableIn (refused r) = tableOf nothingSeen
 
-m1Table : Table
+unfoldable pub m1Table : Table
 m1Table = tableIn (reading paper (only written) m1)
 
 m1-small : (u : ℕ) → u ≤ reported (endOf m1Table (zeros 9)) → wrong15 paper (relaxedTask m1Table) (layerZero m1Table (zeros 9)) u ≡ false

@@ -155,3 +155,13 @@ module _ {A : Type 0} (f : ℕ → A) where
   getD-tabulate i zero j d h = absurd (not-suc-le-zero h)
   getD-tabulate i (suc n) zero d h = ap f (sym (add-zero i))
   getD-tabulate i (suc n) (suc j) d h = getD-tabulate (suc i) n j d (omega arith) ∙ ap f (suc-add i j ∙ sym (add-suc i j))
+
+-- two tables are equal if their entries are
+pub tabulate-same :
+    {A : Type 0} (f g : ℕ → A) (i n : ℕ)
+    → ((j : ℕ) → i ≤ j → j < i + n → f j ≡ g j)
+    → tabulate f i n ≡ tabulate g i n
+unfolding tabulate
+tabulate-same f g i zero h = refl
+tabulate-same {A} f g i (suc n) h =
+    rw (h i (omega arith) (omega arith), tabulate-same f g (suc i) n (λ j a b. h j (omega arith) (omega arith))) refl

@@ -6,14 +6,15 @@ use mathlib.Core.Path.{_≡_, refl, sym, ap, _∙_, subst}
 use mathlib.Core.List.{List, _++_}
 use borrow.Author.Tests.{lt-ltb, le-ltb}
 use lib.Dec.{not-T, ltb, ltb→lt, nltb→le}
-use lib.ListN.{length, getD, drop, length-append, length-drop, List·getD-append}
-use lib.Seq.{getD-drop, getD-append-add, drop-append-seam}
+use lib.ListN.{length, getD, take, drop, length-append, length-drop, List·getD-append}
+use lib.Seq.{getD-drop, getD-append-add, take-append-seam, drop-append-seam}
 use Rattle.integer.specs.Store.{put}
 use Rattle.model.specs.Memory.{overwrite, Built}
 use Rattle.model.specs.Plan.{Record}
 use Rattle.model.specs.declared.PlanAnswer.{PlanAnswer}
 use Rattle.model.specs.declared.PlanAnswer.the-variants as plan
-use Rattle.model.specs.Calls.{Output, writes, turns, onOutput, fitted, outputAfter, recordBytes, planned, planFitted}
+use Rattle.model.specs.declared.WriteAnswer.the-variants as write
+use Rattle.model.specs.Calls.{Output, writes, turns, onOutput, fitted, writeAnswer, outputAfter, recordBytes, planned, planFitted}
 use Rattle.model.specs.Theorems.Laws.Booleans.{T-cases}
 
 -- ---- written over the start
@@ -75,6 +76,21 @@ unfolding fitted outputAfter
 fitted-length out (turns r) = refl
 fitted-length out (writes bs) =
     fitted-cases (length out) bs (λ (o : Output). length (outputAfter o out) ≡ length out) (λ h. length-overwrite bs out h) (λ h. refl)
+
+-- an answer of n bytes: what was written is the first n bytes of the output
+pub written-part : (o : Output) (out : List ℕ) (n : ℕ) → writeAnswer o ≡ write.Written n → o ≡ writes (take n (outputAfter o out))
+unfolding writeAnswer outputAfter overwrite
+written-part (turns r) out n e = cc
+written-part (writes bs) out n e =
+    let same : length bs ≡ n = cc in
+    let rest = drop (length bs) out in
+    ap writes (subst (λ (m : ℕ). bs ≡ take m (bs ++ rest)) same (sym (take-append-seam bs rest)))
+
+pub written-inside : (o : Output) (out : List ℕ) (n : ℕ) → writeAnswer o ≡ write.Written n → n ≤ length (outputAfter o out)
+unfolding writeAnswer outputAfter overwrite
+written-inside (turns r) out n e = let z : _≡_ {A = ℕ} 0 1 = cc in absurd (omega arith)
+written-inside (writes bs) out n e =
+    let same : length bs ≡ n = cc in omega (arith, same, length-append bs (drop (length bs) out))
 
 -- plan's answer
 module _ (size : ℕ) (rs : List Record) (b : Built) where

@@ -2,16 +2,15 @@
 -- are far below 2^31, whatever the lengths of table, state and memories.
 -- Assumes nothing.
 use Prim.Native.Nat.{ℕ, suc, _+_, _*_, _^_, _/_, _≤_, _<_}
-use mathlib.Core.Path.{_≡_, refl, sym, subst, _∙_}
+use mathlib.Core.Path.{_≡_, refl, sym, subst}
 use mathlib.Core.Bool.{Bool, true, false, cond}
-use mathlib.Core.List.{List, [], _∷_}
+use mathlib.Core.List.{List, []}
 use mathlib.Core.Option.{Option, none, some}
 use native.Mathlib.Omega.{arith}
 use lib.Dec.{eqb, leb, ltb, lit≤}
 use lib.IntN.{ℤ}
-use lib.ListN.{length, getD, length-append, length-drop, length-take}
+use lib.ListN.{length, getD, length-drop, length-take}
 use lib.Seq.{slice}
-use Rattle.integer.specs.BigEndian.{signedBytes, length-signedBytes}
 use Rattle.model.specs.declared.Refusal.{Refusal}
 use Rattle.model.specs.declared.ReadAnswer.{ReadAnswer}
 use Rattle.model.specs.declared.ReadAnswer.the-variants as read
@@ -22,18 +21,19 @@ use Rattle.model.specs.declared.DecideAnswer.the-variants as decide
 use Rattle.model.specs.declared.PlanAnswer.{PlanAnswer}
 use Rattle.model.specs.declared.PlanAnswer.the-variants as plan
 use Rattle.model.specs.Limits.{paper, lastNumber}
-use Rattle.model.specs.Lists.{allBelow, tabulate}
+use Rattle.model.specs.Lists.{allBelow}
 use Rattle.model.specs.Task.{Form, written, normal, Task}
 use Rattle.model.specs.Command.{head, codeOf}
 use Rattle.model.specs.Move.{State, applicable, real, moveAt}
 use Rattle.model.specs.Layer.{Outcome, reached, exhausted, reported, outcome}
 use Rattle.model.specs.Memory.{wrong15, refuses, Built, answered, stopped, stopNumber, stopAt, build}
 use Rattle.model.specs.Reading.{Table, Verdict, accepted, refused, Wanted, only, both, reading, lengthLimit}
-use Rattle.model.specs.StateTable.{stateOf, stateRefusal, truthByte, valuesBytes, stateBytes, valueInRange}
+use Rattle.model.specs.StateTable.{stateOf, stateRefusal, stateBytes, valueInRange}
 use Rattle.model.specs.Calls.{readOf, readAnswer, partOf, noBlock, blockPart, blockRefusal, Output, writes, turns, fitted, writeAnswer, normalBytes, normalOf, normalised, normaliseAnswer, resultOf, moved, stepWithState, stepOf, stepped, stepAnswer, Ready, ready, unready, readyWith, readyOf, prepared, decided, decideOf, decideAnswer, planRecords, planned, planOf, planAnswer, onOutput, campaignDecision, campaignPlan}
 use Rattle.model.specs.Exports.{blockAnswer}
 use Rattle.model.specs.Theorems.Reading.WellFormed.{TaskOk, VarsOk}
-use Rattle.model.specs.Theorems.Laws.Searching.{firstFrom-cases, length-tabulate}
+use Rattle.model.specs.Theorems.Laws.Searching.{firstFrom-cases}
+use Rattle.model.specs.Theorems.Reading.States.{length-stateBytes}
 use Rattle.model.specs.Theorems.Reading.Accepted.{reading-ok, reading-head, reading-limit, reading-task}
 use Rattle.model.specs.Theorems.Printing.Outputs.{fitted-cases, plan-cases}
 use Rattle.model.specs.Theorems.Reading.Places.{Small, IfSome, IfRefused, small-wider, refused-wider, reading-refused, state-refused}
@@ -45,6 +45,10 @@ use Rattle.model.specs.Theorems.Sizes.Plans.{reported-most, records-most
 abbrev pub placeLimit : ℕ
 placeLimit = 64_003
 
+-- Bits 0 to 31 of a code hold a result.
+abbrev pub resultLimit : ℕ
+resultLimit = 4_294_967_295
+
 limit-most : (w : Wanted) (t : List ℕ) → lengthLimit paper w t ≤ 64_000
 unfolding paper lengthLimit
 limit-most (only written) t = lit≤ tt
@@ -55,7 +59,7 @@ limit-most both t = go (eqb (getD t 0 0) (codeOf (head written)))
     go true = lit≤ tt
     go false = lit≤ tt
 
-table-refused : (w : Wanted) (t : List ℕ) → IfRefused (Small placeLimit) (reading paper w t)
+pub table-refused : (w : Wanted) (t : List ℕ) → IfRefused (Small placeLimit) (reading paper w t)
 table-refused w t = refused-wider (reading paper w t) (omega (arith, limit-most w t)) (reading-refused paper w t)
 
 -- ---- read
@@ -107,16 +111,16 @@ pub write-wider : {m n : ℕ} (a : WriteAnswer) → m ≤ n → WriteSmall m a �
 write-wider (write.Written k) h s = omega arith
 write-wider (write.Refused r) h s = s
 
-abbrev OutputSmall : ℕ → Output → Type 0
+abbrev pub OutputSmall : ℕ → Output → Type 0
 OutputSmall size (writes bs) = length bs ≤ size
 OutputSmall size (turns r) = Small placeLimit r
 
-answer-small : (size : ℕ) (o : Output) → OutputSmall size o → WriteSmall size (writeAnswer o)
+pub answer-small : (size : ℕ) (o : Output) → OutputSmall size o → WriteSmall size (writeAnswer o)
 unfolding writeAnswer
 answer-small size (writes bs) h = h
 answer-small size (turns r) h = h
 
-fitted-small : (size room : ℕ) (o : Output) → OutputSmall size o → OutputSmall size (fitted room o)
+pub fitted-small : (size room : ℕ) (o : Output) → OutputSmall size o → OutputSmall size (fitted room o)
 unfolding fitted
 fitted-small size room (turns r) h = h
 fitted-small size room (writes bs) h =
@@ -138,19 +142,6 @@ pub normalise-small : (t out : List ℕ) → WriteSmall 64_000 (normaliseAnswer 
 unfolding normaliseAnswer
 normalise-small t out = answer-small 64_000 (normalised paper t (length out)) (normalised-small t (length out))
 
-values-length : (zs : List ℤ) → length (valuesBytes zs) ≡ 4 * length zs
-unfolding valuesBytes
-values-length [] = refl
-values-length (z ∷ zs) = omega (arith, length-append (signedBytes 4 z) (valuesBytes zs), length-signedBytes 4 z, values-length zs)
-
-state-length : (props vars : ℕ) (s : State) → length (stateBytes props vars s) ≡ props + 4 * vars
-unfolding stateBytes
-state-length props vars s =
-    let flags = tabulate (λ p. truthByte (s .has p)) 0 props in
-    let values = tabulate (s .val) 0 vars in
-    length-append flags (valuesBytes values)
-    ∙ omega (arith, length-tabulate (λ p. truthByte (s .has p)) 0 props, values-length values, length-tabulate (s .val) 0 vars)
-
 moved-small : (k : Task) (s : State) (b : ℕ) → TaskOk paper written k → OutputSmall 184 (moved paper k s b)
 unfolding moved resultOf paper
 moved-small k s b ok = go (applicable s (moveAt k b)) (allBelow (λ v. valueInRange paper (real (moveAt k b) s .val v)) (k .vars))
@@ -162,7 +153,7 @@ moved-small k s b ok = go (applicable s (moveAt k b)) (allBelow (λ v. valueInRa
           | true ↦ elim c [ true ↦ writes (stateBytes (k .props) (k .vars) (real (moveAt k b) s)) | false ↦ turns (record { number = 12; place = 0 }) ]
           | false ↦ turns (record { number = 11; place = 0 })
         ])
-    go true true = omega (arith, state-length (k .props) (k .vars) (real (moveAt k b) s), ok .props, ok .vars)
+    go true true = omega (arith, length-stateBytes (k .props) (k .vars) (real (moveAt k b) s), ok .props, ok .vars)
     go true false = record { positive = lit≤ tt; number = lit≤ tt; place = lit≤ tt }
     go false c = record { positive = lit≤ tt; number = lit≤ tt; place = lit≤ tt }
 

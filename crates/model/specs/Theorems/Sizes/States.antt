@@ -3,23 +3,20 @@
 use Prim.Native.Nat.{ℕ, _*_, _/_, _%_, _≤_, _<_}
 use native.Mathlib.Omega.{arith}
 use mathlib.Core.Path.{_≡_}
-use mathlib.Core.Bool.{Bool, true, false, not}
 use mathlib.Core.List.{List}
-use mathlib.Core.Option.{Option, none, some, Option·some-ne-none}
-use lib.Dec.{eqb, leb, leb→le, not-T}
+use mathlib.Core.Option.{none}
+use lib.Dec.{eqb}
 use lib.IntN.{negℤ, natAbs}
-use lib.ListN.{length, getD}
 use Rattle.integer.specs.Linear.{abs-sum, abs-sub, abs-neg}
-use Rattle.model.specs.declared.Refusal.{Refusal}
 use Rattle.model.specs.Limits.{paper}
-use Rattle.model.specs.Lists.{firstFrom}
 use Rattle.model.specs.Task.{Form, Term, Kind, assign, increase, decrease, Effect, Block}
 use Rattle.model.specs.Move.{State, sum, value, changed, changedBy, real}
 use Rattle.model.specs.NormalForm.{normalState}
-use Rattle.model.specs.StateTable.{valueOffset, stateValue, stateOf, valueInRange, refusedValue, refusedByte, stateRefusal}
+use Rattle.model.specs.StateTable.{stateOf, stateRefusal}
 use Rattle.model.specs.Theorems.Reading.WellFormed.{TermOk, EffectOk, ItemOk, BlockOk}
-use Rattle.model.specs.Theorems.Laws.Booleans.{T-stable, cond-cases}
-use Rattle.model.specs.Theorems.Laws.Searching.{All-map, firstFrom-cases}
+use Rattle.model.specs.Theorems.Reading.States.{accepted-state}
+use Rattle.model.specs.Theorems.Laws.Booleans.{cond-cases}
+use Rattle.model.specs.Theorems.Laws.Searching.{All-map}
 use Rattle.model.specs.Theorems.Layers.NextLayer.{effectOn-cases}
 use Rattle.model.specs.Theorems.Sizes.Bounds.{sum-size, FewTerms, sum-few, weight-size}
 
@@ -34,40 +31,8 @@ pub accepted-small :
     (props vars : ℕ) (bs : List ℕ)
     → stateRefusal paper props vars bs ≡ none
     → SmallState vars (stateOf props bs)
-unfolding stateRefusal refusedByte refusedValue stateOf valueInRange paper
-accepted-small props vars bs e = by-length (eqb (length bs) (valueOffset props vars)) e
-  where
-    wrong : ℕ → Bool
-    wrong v = not (valueInRange paper (stateValue props bs v))
-
-    values : Option Refusal
-    values = refusedValue props (firstFrom wrong 0 vars)
-
-    in-range : values ≡ none → SmallState vars (stateOf props bs)
-    in-range =
-        firstFrom-cases wrong (λ o. refusedValue props o ≡ none → SmallState vars (stateOf props bs)) 0 vars
-        (λ v low high out before found. absurd (Option·some-ne-none _ found))
-        (λ all-right found. record {
-          values =
-              λ v h.
-              let right = valueInRange paper (stateValue props bs v) in
-              leb→le (natAbs (stateValue props bs v)) 1_000_000
-              (T-stable right (λ out. all-right v (omega arith) (omega arith) (not-T right out)));
-        })
-
-    by-byte : (o : Option ℕ) → refusedByte o values ≡ none → SmallState vars (stateOf props bs)
-    by-byte none found = in-range found
-    by-byte (some p) found = absurd (Option·some-ne-none _ found)
-
-    bytes : Option Refusal
-    bytes = refusedByte (firstFrom (λ p. not (leb (getD bs p 0) 1)) 0 props) values
-
-    refused : Bool → Option Refusal
-    refused t = elim t [ true ↦ bytes | false ↦ some (record { number = 8; place = 0 }) ]
-
-    by-length : (t : Bool) → refused t ≡ none → SmallState vars (stateOf props bs)
-    by-length true found = by-byte (firstFrom (λ p. not (leb (getD bs p 0) 1)) 0 props) found
-    by-length false found = absurd (Option·some-ne-none _ found)
+unfolding stateOf paper
+accepted-small props vars bs e = record { values = accepted-state paper props vars bs e .values }
 
 -- the values of its signed variables: "Layer 0 is the state."
 pub normalState-small :

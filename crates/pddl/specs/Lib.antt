@@ -1,0 +1,2 @@
+-- The specifications of the call that writes PDDL text.
+pub mod Calls

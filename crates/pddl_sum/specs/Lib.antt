@@ -1,0 +1,3 @@
+-- The specifications of numbers, names, declarations and sums of the PDDL text.
+pub mod Names
+pub mod Sums
