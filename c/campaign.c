@@ -20,19 +20,6 @@ static uint8_t out[OUT_BYTES];
 
 static size_t table_len, state_len, normal_len = LAPYNDO_NORMAL_BYTES, layers_len = LAYER_NUMBERS, out_len = OUT_BYTES;
 
-/* A length to lend, within the memory that there is. */
-static bool length_of(const char *text, size_t room, size_t *length) {
-    uint64_t value;
-    if (!number_of(text, &value)) {
-        return false;
-    }
-    *length = (size_t)value;
-    if (value > room) {
-        fprintf(stderr, "%s: there are %zu only\n", text, room);
-    }
-    return value <= room;
-}
-
 static bool show(const char *call, uint64_t answer) {
     if (refused(call, answer)) {
         return false;

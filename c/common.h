@@ -38,6 +38,19 @@ static inline bool number_of(const char *text, uint64_t *value) {
     return whole;
 }
 
+/* A length to lend, within the memory that there is. */
+static inline bool length_of(const char *text, size_t room, size_t *length) {
+    uint64_t value;
+    if (!number_of(text, &value)) {
+        return false;
+    }
+    *length = (size_t)value;
+    if (value > room) {
+        fprintf(stderr, "%s: there are %zu only\n", text, room);
+    }
+    return value <= room;
+}
+
 /* Shows a refusal; false if there is none. */
 static inline bool refused(const char *call, uint64_t answer) {
     if (lapyndo_refusal(answer) == 0) {

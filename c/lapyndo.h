@@ -1,4 +1,5 @@
-/* The campaign planning engine for hosts in C: planning a campaign, reading, normalising and stepping.
+/* The campaign planning engine for hosts in C: planning a campaign, reading, normalising and stepping, and writing PDDL
+ * for other planners.
  *
  * Every call takes any bytes and answers one 64-bit number:
  *
@@ -25,7 +26,8 @@ extern "C" {
 enum {
     LAPYNDO_WRITTEN_BYTES = 32000, /* the longest written table */
     LAPYNDO_NORMAL_BYTES = 64000,  /* the longest normal table: room for every normal form */
-    LAPYNDO_STATE_BYTES = 184      /* the longest state: 120 propositions, 16 values of 4 bytes */
+    LAPYNDO_STATE_BYTES = 184,     /* the longest state: 120 propositions, 16 values of 4 bytes */
+    LAPYNDO_PDDL_BYTES = 330000    /* room for the PDDL text of every table and state */
 };
 
 /* The kinds of table. */
@@ -111,6 +113,22 @@ uint64_t lapyndo_normalise(const uint8_t *table, size_t table_len, uint8_t *out,
 uint64_t lapyndo_step(const uint8_t *table, size_t table_len, const uint8_t *state, size_t state_len, uint64_t move,
                       uint8_t *out, size_t out_len);
 
+/* Writes a written table and a state as PDDL 2.1 text: a domain, and then a problem, which begins with the line
+ * "(define (problem start)".
+ *
+ * Proposition, variable and move i are called pi, vi and ai. A list of actions is a plan of the text exactly when the list
+ * of moves solves the table from the state. The text is ASCII, with no 0 byte behind it; docs/PDDL.md describes it.
+ *
+ * Result: the length of the text.
+ * Refusals, in the order of the checks: 1 to 7; 8 and 9; 13.
+ *
+ * state: see lapyndo_step.
+ * out:   LAPYNDO_PDDL_BYTES always suffice, and so do 10 for each byte of the table and 10,000 more. Accepted, the text
+ *        from the start, and the bytes behind it are kept; refused, all bytes are kept.
+ */
+uint64_t lapyndo_pddl(const uint8_t *table, size_t table_len, const uint8_t *state, size_t state_len, uint8_t *out,
+                      size_t out_len);
+
 /* Of any answer: the number of the refusal, 0 if the call is accepted. */
 static inline uint32_t lapyndo_refusal(uint64_t answer) { return (uint32_t)(answer >> 32); }
 
@@ -124,7 +142,7 @@ static inline int lapyndo_no_plan(uint64_t answer) { return (int)(answer >> 31 &
  * the last layer. */
 static inline uint32_t lapyndo_layers(uint64_t answer) { return (uint32_t)answer & 0x7FFFFFFF; }
 
-/* Of an accepted lapyndo_normalise or lapyndo_step: the number of bytes written. */
+/* Of an accepted lapyndo_normalise, lapyndo_step or lapyndo_pddl: the number of bytes written. */
 static inline size_t lapyndo_length(uint64_t answer) { return (size_t)(uint32_t)answer; }
 
 /* Of an accepted lapyndo_read: LAPYNDO_WRITTEN or LAPYNDO_NORMAL. */

@@ -21,7 +21,7 @@ enum { STACK_BYTES = 1 << 16, PAINT = 0x5A, DEPTH = 64, LAYER_NUMBERS = 8192 };
 static uint8_t written[LAPYNDO_WRITTEN_BYTES], normal[LAPYNDO_NORMAL_BYTES], state[LAPYNDO_STATE_BYTES];
 static size_t written_len, normal_len, state_len;
 
-static uint8_t spare[LAPYNDO_NORMAL_BYTES], out[LAPYNDO_NORMAL_BYTES];
+static uint8_t spare[LAPYNDO_NORMAL_BYTES], out[LAPYNDO_PDDL_BYTES];
 static int64_t layers[LAYER_NUMBERS];
 static uint64_t decision, records, first_moves;
 
@@ -44,6 +44,8 @@ static void call_campaign(void) {
     lapyndo_campaign(written, written_len, state, state_len, spare, sizeof spare, layers, LAYER_NUMBERS, out, room,
                      &decision, &records, &first_moves);
 }
+
+static void call_pddl(void) { lapyndo_pddl(written, written_len, state, state_len, out, room); }
 
 #ifdef PLANNING
 uint64_t lapyndo_block(const uint8_t *table, size_t table_len, uint64_t block, uint8_t *out, size_t out_len);
@@ -70,6 +72,7 @@ static struct {
     {"normalise", call_normalise, 0},
     {"step", call_step, 0},
     {"campaign", call_campaign, 0},
+    {"pddl", call_pddl, 0},
 #ifdef PLANNING
     {"block", call_block, 0},
     {"decide", call_decide, 0},

@@ -4,7 +4,7 @@
 //! lent again as the call before left them.
 
 use campaign::engine::{Engine, Lent, REFERENCE};
-use campaign::generate::{dense, m1, task_of, waves, Rng, Task};
+use campaign::generate::{dense, m1, task_of, text_length, waves, Rng, Task};
 use campaign::proved::raw;
 use campaign::reference::semantics::saturate;
 use campaign::reference::table::Kind;
@@ -22,6 +22,7 @@ const SAMPLE_TIME: Duration = Duration::from_micros(100);
 fn main() {
     calls_table(campaigns());
     bytes_table();
+    text_table();
     layers_table();
 }
 
@@ -36,10 +37,11 @@ struct Bench {
 impl Bench {
     fn new(name: &str, task: Task) -> Bench {
         let counts = [1, 2, 3].map(|i| usize::from(task.table[i]));
+        let bytes = 64_000 + room::record_bytes(counts);
         Bench {
             name: name.into(),
             layers: vec![0; room::layer_numbers(counts)],
-            out: vec![0; 64_000 + room::record_bytes(counts)],
+            out: vec![0; bytes.max(room::text_bytes(task.table.len()))],
             task,
         }
     }
@@ -126,6 +128,15 @@ impl Bench {
                 let lent = other.lend(&mut others);
                 REFERENCE.campaign(table, state, lent).plan.is_ok()
             },
+        )
+    }
+
+    fn pddl(&mut self) -> Times {
+        let Task { table, state } = &self.task;
+        let mut others = self.out.clone();
+        compare(
+            || raw::pddl(table, state, &mut self.out).is_ok(),
+            || REFERENCE.pddl(table, state, &mut others).is_ok(),
         )
     }
 
@@ -243,6 +254,7 @@ fn calls_table(mut written: Vec<Bench>) {
         row("normalise", bench, Bench::normalise);
         row("step", bench, Bench::step);
         row("campaign", bench, Bench::campaign);
+        row("pddl", bench, Bench::pddl);
     }
     let normal = written.iter().map(Bench::normal);
     for mut bench in normal.chain(normal_campaigns()) {
@@ -282,6 +294,20 @@ fn bytes_table() {
         let [engine, reference] =
             [times.engine, times.reference].map(|seconds| seconds * 1e9 / length as f64);
         println!("      {length:5} {engine:18.2} {reference:20.2}");
+    }
+}
+
+/// Pddl's time a byte of text, on tables of several lengths.
+fn text_table() {
+    println!("\npddl: table bytes  text bytes   engine ns a byte  reference ns a byte");
+    let mut rng = Rng::new(5);
+    for length in [1_000, 8_000, 32_000] {
+        let task = dense(&mut rng, Kind::Written, length);
+        let text = text_length(&task);
+        let times = Bench::new("", task).pddl();
+        let [engine, reference] =
+            [times.engine, times.reference].map(|seconds| seconds * 1e9 / text as f64);
+        println!("{length:17} {text:11} {engine:18.2} {reference:20.2}");
     }
 }
 

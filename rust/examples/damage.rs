@@ -10,6 +10,7 @@ use campaign::fenced::Fenced;
 use campaign::generate::{call, damage, full_length, Rng, Task};
 use campaign::proved::PROVED;
 use campaign::reference::table::Kind;
+use campaign::room;
 use campaign::tally::Tally;
 use std::env::args;
 use std::time::{Duration, Instant};
@@ -47,7 +48,7 @@ fn long_call(rng: &mut Rng) -> Call {
     let length = *rng.pick(&[32_000, 64_000]) + rng.below(11) - 5;
     let kind = *rng.pick(&[Kind::Written, Kind::Normal]);
     let Task { table, state } = full_length(rng, kind, length);
-    match rng.below(3) {
+    match rng.below(4) {
         0 => Call {
             table,
             ..CallKind::Read.call()
@@ -57,6 +58,7 @@ fn long_call(rng: &mut Rng) -> Call {
             room: 64_000,
             ..CallKind::Normalise.call()
         },
-        _ => Task { table, state }.decide(1_000),
+        2 => Task { table, state }.decide(1_000),
+        _ => Task { table, state }.pddl(room::text_bytes(length)),
     }
 }

@@ -18,6 +18,7 @@ pub enum CallKind {
     Decide,
     Plan,
     Campaign,
+    Pddl,
     Listing,
 }
 
@@ -33,7 +34,7 @@ pub enum Field {
 }
 
 impl CallKind {
-    pub const ALL: [CallKind; 8] = [
+    pub const ALL: [CallKind; 9] = [
         CallKind::Read,
         CallKind::Block,
         CallKind::Normalise,
@@ -41,11 +42,12 @@ impl CallKind {
         CallKind::Decide,
         CallKind::Plan,
         CallKind::Campaign,
+        CallKind::Pddl,
         CallKind::Listing,
     ];
 
     /// The calls that the engine exports.
-    pub const EXPORTED: &'static [CallKind] = Self::ALL.split_at(7).0;
+    pub const EXPORTED: &'static [CallKind] = Self::ALL.split_at(8).0;
 
     /// What calls of this kind are given.
     pub fn fields(self) -> &'static [Field] {
@@ -58,6 +60,7 @@ impl CallKind {
             CallKind::Decide => &[Table, State, Numbers],
             CallKind::Plan => &[Table, State, Numbers, Room],
             CallKind::Campaign => &[Table, State, Normal, Numbers, Room],
+            CallKind::Pddl => &[Table, State, Room],
             CallKind::Listing => &[Table, State],
         }
     }
@@ -89,6 +92,7 @@ impl CallKind {
             CallKind::Decide => 637,
             CallKind::Plan => 617,
             CallKind::Campaign => 31,
+            CallKind::Pddl => 40,
             CallKind::Listing => 264,
         }
     }
@@ -109,6 +113,7 @@ impl CallKind {
             CallKind::Decide => "decide.txt",
             CallKind::Plan => "plan.txt",
             CallKind::Campaign => "campaign.txt",
+            CallKind::Pddl => "pddl.txt",
             CallKind::Listing => "listing.txt",
         }
     }

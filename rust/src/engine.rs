@@ -3,7 +3,8 @@
 use crate::answer::{Answer, Campaign, Decision, Head, Plan, Refusal};
 use crate::reference;
 
-/// An implementation of the five calls, the reader, the campaign in one call and the listing.
+/// An implementation of the five calls, the reader, the campaign in one call, the PDDL text and
+/// the listing.
 ///
 /// A refusal leaves outputs as they were. Layer memory after a refusal holds what the
 /// specification says of that refusal.
@@ -32,6 +33,9 @@ pub trait Engine {
     fn campaign(&self, table: &[u8], state: &[u8], lent: Lent) -> Campaign {
         made_campaign(self, table, state, lent)
     }
+
+    /// A written table and a state as PDDL 2.1 text.
+    fn pddl(&self, table: &[u8], state: &[u8], out: &mut [u8]) -> Result<usize, Refusal>;
 
     /// What the listing program prints; by default made of `campaign`.
     fn listing(&self, task: &[u8], state: &[u8]) -> String {
@@ -115,6 +119,7 @@ pub struct Calls {
     pub decide: Decide,
     pub plan: Planning,
     pub campaign: Campaigning,
+    pub pddl: Pddl,
     pub listing: Listing,
 }
 
@@ -124,6 +129,7 @@ type Normalise = fn(&[u8], &mut [u8]) -> Result<usize, Refusal>;
 type Step = fn(&[u8], &[u8], u64, &mut [u8]) -> Result<usize, Refusal>;
 type Decide = fn(&[u8], &[u8], &mut [i64]) -> Result<Decision, Refusal>;
 type Planning = fn(&[u8], &[u8], &mut [i64], &mut [u8]) -> Result<Plan, Refusal>;
+type Pddl = fn(&[u8], &[u8], &mut [u8]) -> Result<usize, Refusal>;
 /// This and the next are given the other calls too.
 pub type Campaigning = fn(&Calls, &[u8], &[u8], Lent) -> Campaign;
 type Listing = fn(&Calls, &[u8], &[u8]) -> String;
@@ -137,6 +143,7 @@ pub const REFERENCE: Calls = Calls {
     decide: reference::decide,
     plan: reference::plan,
     campaign: made_campaign,
+    pddl: reference::pddl,
     listing: |_, task, state| reference::listing(task, state),
 };
 
@@ -150,6 +157,7 @@ impl Calls {
         decide: |_, _, _| absent("decide"),
         plan: |_, _, _, _| absent("plan"),
         campaign: made_campaign,
+        pddl: |_, _, _| absent("pddl"),
         listing: made_listing,
     };
 }
@@ -191,6 +199,10 @@ impl Engine for Calls {
 
     fn campaign(&self, table: &[u8], state: &[u8], lent: Lent) -> Campaign {
         (self.campaign)(self, table, state, lent)
+    }
+
+    fn pddl(&self, table: &[u8], state: &[u8], out: &mut [u8]) -> Result<usize, Refusal> {
+        (self.pddl)(table, state, out)
     }
 
     fn listing(&self, task: &[u8], state: &[u8]) -> String {

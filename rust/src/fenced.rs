@@ -195,6 +195,11 @@ impl<E: Engine> Engine for Fenced<E> {
             })
         })
     }
+
+    fn pddl(&self, table: &[u8], state: &[u8], out: &mut [u8]) -> Result<usize, Refusal> {
+        let [table, state] = [table, state].map(Fence::reading);
+        writing(out, |out| self.0.pddl(&table, &state, out))
+    }
 }
 
 #[cfg(test)]

@@ -6,10 +6,11 @@ mod maker;
 mod rng;
 mod sizes;
 mod task;
+mod text;
 mod tuned;
 
 pub use crate::hex::hex;
-pub use call::{call, campaign_call, normal_length, sized_calls};
+pub use call::{call, campaign_call, normal_length, pddl_call, sized_calls};
 pub use damage::{
     command_string, damage, deletions, insertions, random_bytes, single_byte_changes, spoil,
     truncations, wrong_state,
@@ -18,4 +19,5 @@ pub use maker::{state_for, task, task_of};
 pub use rng::Rng;
 pub use sizes::Sizes;
 pub use task::Task;
+pub use text::{text_length, wordy};
 pub use tuned::{at_value_limit, dense, full_length, large_values, m1, many_records, steep, waves};

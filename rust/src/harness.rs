@@ -3,6 +3,7 @@
 use crate::answer::{Plan, Refusal};
 use crate::call::{Buffers, Call, CallKind, Fill, Outcome};
 use crate::engine::{Engine, Lent};
+use crate::generate::Task;
 use crate::guarded::Guarded;
 use crate::room;
 use std::fmt;
@@ -114,12 +115,32 @@ fn run(call: &Call, buffers: Buffers, engine: &dyn Engine) -> Result<Outcome, St
 /// # Panics
 /// If a canary or a byte behind the result changes.
 pub fn normalised(engine: &dyn Engine, table: &[u8]) -> Result<Vec<u8>, Refusal> {
-    let mut out = Guarded::filled(64_000, |_| 0xA5);
-    let answer = engine.normalise(table, out.lend());
-    out.check("normal form").expect("all canaries are whole");
-    let length = answer?;
-    assert!(out.lent()[length..].iter().all(|byte| *byte == 0xA5));
-    Ok(out.lent()[..length].to_vec())
+    written(64_000, |out| engine.normalise(table, out))
+}
+
+/// The PDDL text of a task.
+///
+/// # Panics
+/// As `normalised`, and if it is no text.
+pub fn texted(engine: &dyn Engine, task: &Task) -> Result<String, Refusal> {
+    let Task { table, state } = task;
+    let text = written(room::text_bytes(table.len()), |out| {
+        engine.pddl(table, state, out)
+    })?;
+    Ok(String::from_utf8(text).expect("a text"))
+}
+
+/// What a call writes from the start of its output.
+fn written(
+    room: usize,
+    call: impl FnOnce(&mut [u8]) -> Result<usize, Refusal>,
+) -> Result<Vec<u8>, Refusal> {
+    let mut out = Guarded::filled(room, |_| 0xA5);
+    let answer = call(out.lend());
+    out.check("output").expect("all canaries are whole");
+    let (result, behind) = out.lent().split_at(answer.unwrap_or(0));
+    assert!(behind.iter().all(|byte| *byte == 0xA5));
+    answer.map(|_| result.to_vec())
 }
 
 /// What `plan` answers and leaves behind.

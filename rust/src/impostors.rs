@@ -3,7 +3,10 @@
 use crate::answer::{Campaign, Reason, Refusal};
 use crate::call::CallKind;
 use crate::engine::{Calls, Campaigning, Engine, REFERENCE};
-use crate::reference::{block, decide, normalise, parse_task, plan, read, step};
+use crate::reference::table::{Block, Change, Comparison, Item};
+use crate::reference::{
+    block, decide, normalise, parse_table, parse_task, pddl, pddl_text, plan, read, step,
+};
 
 /// The reference, with listings made of its other calls, as its campaigns are.
 pub const HONEST: Calls = Calls {
@@ -35,7 +38,7 @@ pub fn check_found(kinds: &[CallKind], found: impl Fn(CallKind, &dyn Engine) -> 
     }
 }
 
-pub const IMPOSTORS: [Impostor; 17] = [
+pub const IMPOSTORS: [Impostor; 22] = [
     Impostor {
         trick: "every count is 1",
         engine: Calls {
@@ -154,6 +157,11 @@ pub const IMPOSTORS: [Impostor; 17] = [
                 out[10 * plan.records as usize..].fill(0);
                 Ok(plan)
             },
+            pddl: |table, state, out| {
+                let length = pddl(table, state, out)?;
+                out[length..].fill(0);
+                Ok(length)
+            },
             ..HONEST
         },
         kinds: &[
@@ -161,6 +169,7 @@ pub const IMPOSTORS: [Impostor; 17] = [
             CallKind::Step,
             CallKind::Plan,
             CallKind::Campaign,
+            CallKind::Pddl,
         ],
     },
     Impostor {
@@ -171,6 +180,7 @@ pub const IMPOSTORS: [Impostor; 17] = [
             plan: |table, state, layers, out| {
                 plan(table, state, layers, out).inspect_err(|_| out.fill(0))
             },
+            pddl: |table, state, out| pddl(table, state, out).inspect_err(|_| out.fill(0)),
             ..HONEST
         },
         kinds: &[
@@ -178,6 +188,7 @@ pub const IMPOSTORS: [Impostor; 17] = [
             CallKind::Step,
             CallKind::Plan,
             CallKind::Campaign,
+            CallKind::Pddl,
         ],
     },
     Impostor {
@@ -200,6 +211,7 @@ pub const IMPOSTORS: [Impostor; 17] = [
             read: |table| read(table).map_err(at_0),
             decide: |table, state, layers| decide(table, state, layers).map_err(at_0),
             plan: |table, state, layers, out| plan(table, state, layers, out).map_err(at_0),
+            pddl: |table, state, out| pddl(table, state, out).map_err(at_0),
             ..HONEST
         },
         kinds: &[
@@ -207,6 +219,7 @@ pub const IMPOSTORS: [Impostor; 17] = [
             CallKind::Decide,
             CallKind::Plan,
             CallKind::Campaign,
+            CallKind::Pddl,
         ],
     },
     Impostor {
@@ -260,6 +273,56 @@ pub const IMPOSTORS: [Impostor; 17] = [
         }),
         kinds: &[CallKind::Campaign],
     },
+    Impostor {
+        trick: "a short output has the text as far as it goes",
+        engine: Calls {
+            pddl: |table, state, out| {
+                let text = pddl_text(table, state)?;
+                out.iter_mut().zip(&text).for_each(|(o, byte)| *o = *byte);
+                pddl(table, state, out)
+            },
+            ..HONEST
+        },
+        kinds: &[CallKind::Pddl],
+    },
+    Impostor {
+        trick: "> is written as >=",
+        engine: Calls {
+            pddl: |table, state, out| retold(table, state, out, |block| each(block, not_above)),
+            ..HONEST
+        },
+        kinds: &[CallKind::Pddl],
+    },
+    Impostor {
+        trick: "a decrease is written as an increase",
+        engine: Calls {
+            pddl: |table, state, out| retold(table, state, out, |block| each(block, increasing)),
+            ..HONEST
+        },
+        kinds: &[CallKind::Pddl],
+    },
+    Impostor {
+        trick: "propositions come before sums",
+        engine: Calls {
+            pddl: |table, state, out| {
+                let is_sum = |item: &Item| !matches!(item, Item::Require(_));
+                retold(table, state, out, |block| block.items.sort_by_key(is_sum))
+            },
+            ..HONEST
+        },
+        kinds: &[CallKind::Pddl],
+    },
+    Impostor {
+        trick: "every text begins in the same state",
+        engine: Calls {
+            pddl: |table, state, out| {
+                pddl_text(table, state)?;
+                pddl(table, &vec![0; state.len()], out)
+            },
+            ..HONEST
+        },
+        kinds: &[CallKind::Pddl],
+    },
 ];
 
 /// Another `campaign` in an honest engine.
@@ -269,4 +332,39 @@ const fn campaigning(campaign: Campaigning) -> Calls {
 
 fn at_0(refusal: Refusal) -> Refusal {
     refusal.reason.at(0)
+}
+
+/// The text of an accepted table after a change of its blocks.
+fn retold(
+    table: &[u8],
+    state: &[u8],
+    out: &mut [u8],
+    change: impl Fn(&mut Block),
+) -> Result<usize, Refusal> {
+    let Ok(mut changed) = parse_table(table) else {
+        return pddl(table, state, out);
+    };
+    changed.moves.iter_mut().for_each(&change);
+    change(&mut changed.goal);
+    pddl(&changed.encode(), state, out)
+}
+
+fn each(block: &mut Block, change: fn(&mut Item)) {
+    block.items.iter_mut().for_each(change);
+}
+
+fn not_above(item: &mut Item) {
+    if let Item::Condition(condition) = item {
+        if condition.comparison == Comparison::Above {
+            condition.comparison = Comparison::AtLeast;
+        }
+    }
+}
+
+fn increasing(item: &mut Item) {
+    if let Item::Effect(effect) = item {
+        if effect.change == Change::Decrease {
+            effect.change = Change::Increase;
+        }
+    }
 }

@@ -14,7 +14,7 @@
 use crate::call::{Call, CallKind, Field};
 
 /// Outputs and layer memory are shorter than these.
-pub const ROOM: usize = 2_048;
+pub const ROOM: usize = 8_192;
 const NUMBERS: usize = 1_024;
 
 /// The bytes before the state.

@@ -18,6 +18,7 @@ pub const PROVED: Calls = Calls {
     decide,
     plan,
     campaign: |_, table, state, lent| campaign(table, state, lent),
+    pddl,
     ..Calls::NONE
 };
 
@@ -81,6 +82,10 @@ pub fn plan(
 /// As `plan`, for the decision's number too, and if that is not written.
 pub fn campaign(table: &[u8], state: &[u8], lent: Lent) -> Campaign {
     both(|numbers| raw::campaign(table, state, lent, numbers))
+}
+
+pub fn pddl(table: &[u8], state: &[u8], out: &mut [u8]) -> Result<usize, Refusal> {
+    raw::pddl(table, state, out).map(|length| length as usize)
 }
 
 /// Plan's answer from a call that is lent the two further numbers.

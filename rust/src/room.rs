@@ -1,4 +1,4 @@
-//! How much memory always suffices, for a normal table with the counts P, N and A.
+//! How much memory always suffices: for a normal table with the counts P, N and A, and for text.
 
 /// The most layers that are ever reported: a theorem about the definitions.
 pub fn layer_bound([_, n, a]: [usize; 3]) -> usize {
@@ -13,4 +13,10 @@ pub fn layer_numbers([p, n, a]: [usize; 3]) -> usize {
 /// Bytes of a plan for as many layers: one record of ten bytes a move and layer at most.
 pub fn record_bytes([p, n, a]: [usize; 3]) -> usize {
     10 * a * layer_bound([p, n, a])
+}
+
+/// Bytes of PDDL text for a written table of so many bytes, in any state: fewer than ten a byte
+/// (a delete has 19 for two), and fewer than 10,000 for declarations, facts and frames of moves.
+pub fn text_bytes(table: usize) -> usize {
+    10 * table + 10_000
 }

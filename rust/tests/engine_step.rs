@@ -1,5 +1,6 @@
 //! The proved engine's normalise and step, over their C functions.
 
+use crate::common::rooms::rooms;
 use campaign::answer::Reason;
 use campaign::call::{Call, CallKind};
 use campaign::engine::{Calls, Engine, REFERENCE};
@@ -29,13 +30,6 @@ fn recorded_normal_forms() {
 #[test]
 fn recorded_steps() {
     check_lines(ENGINE, CallKind::Step);
-}
-
-/// Lengths of an output at, below and above the length of a result.
-fn rooms(rng: &mut Rng, length: usize) -> Vec<usize> {
-    let mut rooms: Vec<usize> = (length.saturating_sub(2)..length + 3).collect();
-    rooms.extend([0, rng.below(length + 1), length + rng.below(90)]);
-    rooms
 }
 
 fn check_normalise(tally: &mut Tally, rng: &mut Rng, table: &[u8]) {

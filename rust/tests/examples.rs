@@ -1,6 +1,10 @@
-//! The example campaigns: each commented listing is its binary table, and each prints what is expected.
+//! The example campaigns: each commented listing is its binary table, each prints what is expected,
+//! and the files for other planners are what the engine writes.
 
-use crate::common::folder::examples;
+use crate::common::folder::{examples, pddl_parts, PDDL};
+use campaign::generate::Task;
+use campaign::harness::texted;
+use campaign::proved::PROVED;
 use campaign::reference;
 use std::fs;
 use std::path::Path;
@@ -47,5 +51,16 @@ fn each_example_prints_what_is_expected() {
             "{}",
             example.display()
         );
+    }
+}
+
+#[test]
+fn each_example_has_its_pddl_text() {
+    for example in examples() {
+        let [table, state] = ["task.bin", "state.bin"].map(|file| read(&example, file));
+        let task = Task { table, state };
+        let text = texted(&PROVED, &task).expect("the example is accepted");
+        let files = PDDL.map(|file| read(&example, file));
+        assert_eq!(files, pddl_parts(&text).map(String::into_bytes), "{task}");
     }
 }

@@ -41,6 +41,11 @@ fn campaign() {
 }
 
 #[test]
+fn pddl() {
+    check_lines(&REFERENCE, CallKind::Pddl);
+}
+
+#[test]
 fn listing() {
     check_lines(&REFERENCE, CallKind::Listing);
 }

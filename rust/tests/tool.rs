@@ -3,15 +3,17 @@
 //!
 //! A session in `data/tool/` has the files of a folder, as hexadecimal or as the name of an
 //! example; then for each `$` line the words given, all that is printed, and `=` with the status.
+//! `cat` with a file's name stands for the file itself, which may be one that was written.
 
-use crate::common::folder::{examples, repository, run, Folder, Printed};
+use crate::common::folder::{examples, pddl_parts, repository, run, Folder, Printed, PDDL};
 use crate::common::tasks::{normal_tasks, spoilt_tasks};
 use campaign::answer::Refusal;
 use campaign::generate::{full_length, m1, task, wrong_state, Rng, Task};
-use campaign::harness::{normalised, planned};
+use campaign::harness::{normalised, planned, texted};
 use campaign::hex::bytes;
 use campaign::proved::{self, PROVED};
 use campaign::reference::table::Kind;
+use std::fs;
 use std::path::Path;
 
 const EXAMPLES: &str = include_str!("data/tool/examples.txt");
@@ -21,6 +23,16 @@ const ANSWERS: &str = include_str!("data/tool/answers.txt");
 /// Runs `lapyndo` in a folder.
 pub fn lapyndo(folder: &Path, words: &[&str]) -> Printed {
     run(Path::new(env!("CARGO_BIN_EXE_lapyndo")), folder, words)
+}
+
+/// What `cat` prints; nothing, and status 1, where there is no such file.
+fn cat(folder: &Path, file: &str) -> Printed {
+    let text = fs::read_to_string(folder.join(file));
+    Printed {
+        status: i32::from(text.is_err()),
+        out: text.unwrap_or_default(),
+        error: String::new(),
+    }
 }
 
 /// Runs a session in a folder and answers how many commands it has.
@@ -34,7 +46,10 @@ fn check_session(folder: &Path, session: &str) -> usize {
     for command in commands {
         let (words, expected) = command.split_once('\n').expect("a line of words");
         let (expected, status) = expected.rsplit_once("= ").expect("a status");
-        let printed = lapyndo(folder, &words.split(' ').collect::<Vec<_>>());
+        let printed = match words.strip_prefix("cat ") {
+            Some(file) => cat(folder, file),
+            None => lapyndo(folder, &words.split(' ').collect::<Vec<_>>()),
+        };
         assert_eq!(printed.out, expected, "{name}$ {words}");
         assert_eq!(printed.error, "", "{name}$ {words}");
         assert_eq!(printed.status.to_string(), status.trim(), "{name}$ {words}");
@@ -69,14 +84,20 @@ fn every_command_on_every_example() {
         let session = sessions.next().expect("each example has a session");
         let name = session.trim_start_matches("in ").lines().next();
         assert_eq!(name, example.file_name().and_then(|name| name.to_str()));
-        assert_eq!(check_session(&example, session), 5);
+        let read = |name| fs::read(example.join(name)).expect("a file");
+        let folder = Folder::of(&read("task.bin"), &read("state.bin"));
+        assert_eq!(check_session(&folder.0, session), 6);
+        for file in PDDL {
+            let written = fs::read(folder.0.join(file)).expect("a file");
+            assert_eq!(written, read(file), "{}/{file}", example.display());
+        }
     }
     assert_eq!(sessions.next(), None);
 }
 
 #[test]
 fn answers_that_no_example_has() {
-    assert!(check_sessions(ANSWERS) >= 14);
+    assert!(check_sessions(ANSWERS) >= 23);
 }
 
 /// 13 and 14 never come up, and 1 needs a long table.
@@ -100,8 +121,9 @@ refusal 1 place 0: the table is too long
   where    task.bin as a whole: 32001 bytes
   why      a written table has 32000 bytes at most
 ";
-    for words in [&["show", "task.bin"], &["decide", "."], &["plan", "."]] {
-        let printed = lapyndo(&folder.0, words);
+    for words in ["show task.bin", "decide .", "plan .", "pddl ."] {
+        let words: Vec<&str> = words.split(' ').collect();
+        let printed = lapyndo(&folder.0, &words);
         assert_eq!((printed.status, &*printed.out), (1, text), "{words:?}");
     }
 }
@@ -127,10 +149,10 @@ fn damaged_campaigns() {
     let mut tasks = spoilt_tasks(&mut rng, 80);
     tasks.extend((0..40).map(|_| task(&mut rng, Kind::Written)));
     tasks.extend(normal_tasks(704, 20));
-    for i in 0..tasks.len() {
-        let state = wrong_state(&mut rng, &tasks[i].state);
+    for (i, task) in tasks.iter_mut().enumerate() {
+        let state = wrong_state(&mut rng, &task.state);
         if state.len() <= 184 && i % 4 == 0 {
-            tasks[i].state = state;
+            task.state = state;
         }
     }
     let mut refused = 0;
@@ -149,11 +171,13 @@ fn check_printed(task: &Task, folder: &Folder) -> usize {
     };
     let plan = normal.and_then(|normal| planned(&PROVED, &normal, state));
     let after = proved::step(table, state, 0, &mut vec![0; state.len()]);
-    let answers: [(&[&str], Option<Refusal>); 4] = [
+    let text = texted(&PROVED, task);
+    let answers: [(&[&str], Option<Refusal>); 5] = [
         (&["show", "task.bin"], proved::read(table).err()),
         (&["decide", "."], plan.as_ref().err().copied()),
         (&["plan", "."], plan.as_ref().err().copied()),
         (&["step", ".", "a0"], after.err()),
+        (&["pddl", "."], text.as_ref().err().copied()),
     ];
     for (words, refusal) in &answers {
         let printed = lapyndo(&folder.0, words);
@@ -169,10 +193,18 @@ fn check_printed(task: &Task, folder: &Folder) -> usize {
             assert!(found, "{task} {words:?}\n{}", printed.out);
         }
     }
+    check_files(task, folder, text.ok());
     answers
         .iter()
         .filter(|(_, refusal)| refusal.is_some())
         .count()
+}
+
+/// The files that `pddl` wrote are the parts of the engine's text; after a refusal there are none.
+fn check_files(task: &Task, folder: &Folder, text: Option<String>) {
+    let written = PDDL.map(|file| fs::read_to_string(folder.0.join(file)).ok());
+    let expected = text.map_or([None, None], |text| pddl_parts(&text).map(Some));
+    assert_eq!(written, expected, "{task}");
 }
 
 /// The script finds the program and the campaign from any folder, through a link and with a

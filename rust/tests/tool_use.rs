@@ -1,17 +1,21 @@
 //! The program `lapyndo`: help, wrong use, and output that nobody reads.
 
-use crate::common::folder::{Folder, Printed};
+use crate::common::folder::{pddl_parts, Folder, Printed, PDDL};
 use crate::tool::lapyndo;
+use campaign::engine::REFERENCE;
 use campaign::generate::m1;
+use campaign::harness::texted;
 use std::fs::{self, File};
 use std::io;
+use std::os::unix::fs::symlink;
 use std::process::{Command, Stdio};
 
-const COMMANDS: [(&str, &str); 4] = [
+const COMMANDS: [(&str, &str); 5] = [
     ("show", "FILE"),
     ("decide", "FOLDER"),
     ("plan", "FOLDER"),
     ("step", "FOLDER MOVE"),
+    ("pddl", "FOLDER"),
 ];
 
 fn here() -> Folder {
@@ -141,6 +145,7 @@ fn files_that_cannot_be_read() {
         vec!["decide", "."],
         vec!["plan", "."],
         vec!["step", ".", "0"],
+        vec!["pddl", "."],
     ] {
         assert_eq!(complain(&words), "./state.bin: there is no such file");
     }
@@ -154,6 +159,40 @@ fn files_that_cannot_be_read() {
         complain(&["plan", "."]),
         "./task.bin: there is no such file"
     );
+}
+
+#[test]
+fn files_that_cannot_be_written() {
+    let here = here();
+    let complain = || complaint(lapyndo(&here.0, &["pddl", "."]));
+    let [domain, problem] = PDDL.map(|file| here.0.join(file));
+    fs::create_dir(&domain).expect("a folder");
+    assert_eq!(
+        complain(),
+        "./domain.pddl: this is a folder, and not a file"
+    );
+    assert!(!problem.exists());
+    fs::remove_dir(&domain).expect("the folder is empty");
+    symlink("/dev/full", &problem).expect("a link");
+    let said = complain();
+    assert!(said.starts_with("./problem.pddl: "), "{said}");
+}
+
+/// Longer files of these names are replaced, and a refusal keeps them.
+#[test]
+fn files_that_were_there() {
+    let old = "; old\n".repeat(500);
+    let here = PDDL
+        .iter()
+        .fold(here(), |here, file| here.with(file, old.as_bytes()));
+    let here = here.with("state.bin", &[]);
+    assert_eq!(lapyndo(&here.0, &["pddl", "."]).status, 1);
+    let read = |file| fs::read_to_string(here.0.join(file)).expect("a file");
+    assert_eq!(PDDL.map(read), [&*old, &*old]);
+    fs::write(here.0.join("state.bin"), m1().state).expect("a file");
+    assert_eq!(lapyndo(&here.0, &["pddl", "."]).status, 0);
+    let text = texted(&REFERENCE, &m1()).expect("M1 is accepted");
+    assert_eq!(PDDL.map(read), pddl_parts(&text));
 }
 
 #[test]

@@ -140,6 +140,7 @@ impl Buffers {
                 let [plan, decision] = [shown(campaign.plan), shown(campaign.decision)];
                 format!("{plan} decision {decision}")
             }
+            CallKind::Pddl => accepted(engine.pddl(table, state, out)),
             CallKind::Listing => engine.listing(table, state).replace('\n', "\\n"),
         })
     }

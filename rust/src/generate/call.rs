@@ -5,6 +5,7 @@ use super::maker::{state_for, task};
 use super::rng::Rng;
 use super::sizes::Sizes;
 use super::task::Task;
+use super::text::text_length;
 use super::tuned::{at_value_limit, waves};
 use crate::call::{Call, CallKind};
 use crate::reference::table::Kind;
@@ -14,7 +15,7 @@ use crate::reference::{normal_form, parse_table};
 pub fn call(rng: &mut Rng) -> Call {
     let kind = *rng.pick(&[Kind::Written, Kind::Normal]);
     let Task { table, state } = any_task(rng, kind);
-    match (kind, rng.below(10)) {
+    match (kind, rng.below(12)) {
         (_, 0) => Call {
             table,
             ..CallKind::Read.call()
@@ -35,6 +36,7 @@ pub fn call(rng: &mut Rng) -> Call {
             ..CallKind::Normalise.call()
         },
         (Kind::Written, 6 | 7) => campaign_of(rng, &Task { table, state }),
+        (Kind::Written, 8 | 9) => pddl_of(rng, &Task { table, state }),
         (Kind::Written, _) => Call {
             index: any_index(rng, &table),
             room: around(rng, state.len()),
@@ -50,6 +52,12 @@ pub fn call(rng: &mut Rng) -> Call {
 pub fn campaign_call(rng: &mut Rng) -> Call {
     let task = any_task(rng, Kind::Written);
     campaign_of(rng, &task)
+}
+
+/// A `pddl` of a table that is mostly accepted, with an output that is mostly enough.
+pub fn pddl_call(rng: &mut Rng) -> Call {
+    let task = any_task(rng, Kind::Written);
+    pddl_of(rng, &task)
 }
 
 /// `decide` and `plan` of a task with every size of memory and of output that matters:
@@ -177,6 +185,10 @@ fn planning_call(rng: &mut Rng, task: &Task) -> Call {
 fn campaign_of(rng: &mut Rng, task: &Task) -> Call {
     let (numbers, room) = planning_sizes(rng, &normalised(task.clone()));
     task.campaign(around(rng, normal_length(&task.table)), numbers, room)
+}
+
+fn pddl_of(rng: &mut Rng, task: &Task) -> Call {
+    task.pddl(around(rng, text_length(task)))
 }
 
 /// Numbers of memory and bytes of output at or around what a normal table needs.

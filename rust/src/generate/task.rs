@@ -61,6 +61,14 @@ impl Task {
             ..self.call(CallKind::Campaign)
         }
     }
+
+    /// `pddl` of this task with so many bytes of output.
+    pub fn pddl(&self, room: usize) -> Call {
+        Call {
+            room,
+            ..self.call(CallKind::Pddl)
+        }
+    }
 }
 
 /// Both in hexadecimal.

@@ -66,6 +66,15 @@ extern "C" {
         records: *mut u64,
         first_moves: *mut u64,
     ) -> u64;
+
+    fn lapyndo_pddl(
+        table: *const u8,
+        table_len: usize,
+        state: *const u8,
+        state_len: usize,
+        out: *mut u8,
+        out_len: usize,
+    ) -> u64;
 }
 
 /// The result in an answer's number, or the refusal.
@@ -183,6 +192,19 @@ pub fn campaign(table: &[u8], state: &[u8], lent: Lent, numbers: Numbers) -> Res
             numbers.decision,
             numbers.records,
             numbers.first_moves,
+        )
+    })
+}
+
+pub fn pddl(table: &[u8], state: &[u8], out: &mut [u8]) -> Result<u32, Refusal> {
+    answered(unsafe {
+        lapyndo_pddl(
+            table.as_ptr(),
+            table.len(),
+            state.as_ptr(),
+            state.len(),
+            out.as_mut_ptr(),
+            out.len(),
         )
     })
 }

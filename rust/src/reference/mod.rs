@@ -10,6 +10,7 @@ mod layers;
 mod listing;
 mod normal;
 mod parse;
+mod pddl;
 mod plan;
 pub mod semantics;
 mod state;
@@ -22,6 +23,7 @@ pub use plan::Record;
 pub use state::State;
 
 use crate::answer::{Decision, Head, Plan, Reason, Refusal};
+use crate::room;
 use layers::{End, Layers};
 use parse::{parse, Wanted};
 use table::{Kind, Table};
@@ -66,6 +68,19 @@ pub fn step(table: &[u8], state: &[u8], mv: u64, out: &mut [u8]) -> Result<usize
     }
     let after = step::result(block, &before).ok_or(Reason::ResultRange.at(0))?;
     deliver(&after.encode(), out)
+}
+
+/// Writes a written table and a state as PDDL 2.1 text and answers its length.
+pub fn pddl(table: &[u8], state: &[u8], out: &mut [u8]) -> Result<usize, Refusal> {
+    deliver(&pddl_text(table, state)?, out)
+}
+
+/// That text.
+pub fn pddl_text(table: &[u8], state: &[u8]) -> Result<Vec<u8>, Refusal> {
+    let written = parse(table, Wanted::Only(Kind::Written))?.table;
+    let state = State::parse(&written, state)?;
+    let room = room::text_bytes(table.len());
+    Ok(pddl::text(&written, &state, room))
 }
 
 /// Decides the relaxed task of a normal table.

@@ -1,4 +1,4 @@
-//! Folders of campaigns, and programs run in them.
+//! Folders of campaigns, their files, and programs run in them.
 
 use std::fs;
 use std::path::{Path, PathBuf};
@@ -19,6 +19,15 @@ pub fn examples() -> Vec<PathBuf> {
     found.sort();
     assert!(found.len() >= 4, "examples are missing");
     found
+}
+
+/// The files that PDDL text goes into.
+pub const PDDL: [&str; 2] = ["domain.pddl", "problem.pddl"];
+
+/// What each of them has of a text: all before the problem's line, and all from there.
+pub fn pddl_parts(text: &str) -> [String; 2] {
+    let (domain, problem) = text.split_once("(define (problem ").expect("a problem");
+    [domain.into(), format!("(define (problem {problem}")]
 }
 
 /// A folder of its own, removed when it is dropped.

@@ -1,4 +1,6 @@
 //! What several files of tests use.
 
 pub mod folder;
+pub mod pddl_reader;
+pub mod rooms;
 pub mod tasks;

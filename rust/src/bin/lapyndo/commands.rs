@@ -1,7 +1,7 @@
 //! The commands, and help. A new command is a module with its `COMMAND`, and a line in `ALL`.
 
 use crate::outcome::{Done, Misuse, Outcome};
-use crate::{planning, show, step, words};
+use crate::{pddl, planning, show, step, words};
 use std::ffi::OsString;
 
 pub struct Command {
@@ -16,10 +16,17 @@ pub struct Command {
     pub run: fn(&[OsString]) -> Done,
 }
 
-const ALL: &[Command] = &[show::SHOW, planning::DECIDE, planning::PLAN, step::STEP];
+const ALL: &[Command] = &[
+    show::SHOW,
+    planning::DECIDE,
+    planning::PLAN,
+    step::STEP,
+    pddl::PDDL,
+];
 
 const INTRODUCTION: &str = "\
-lapyndo puts a campaign into words: its table, its plan, and the state after a move.
+lapyndo puts a campaign into words: its table, its plan, and the state after a move; and
+writes it as files for other planners.
 
 A FILE is a table, written (head 54) or normal (head 4E). A FOLDER has the table in task.bin
 and the state in state.bin. Propositions are named p0, p1, .., variables v0, v1, .. and moves

@@ -2,7 +2,7 @@
 
 use crate::outcome::Misuse;
 use std::ffi::OsStr;
-use std::fs::File;
+use std::fs::{self, File};
 use std::io::{self, ErrorKind, Read};
 use std::path::Path;
 
@@ -44,7 +44,7 @@ fn bytes(file: &Path, what: &str, limit: usize) -> Result<Vec<u8>, Misuse> {
     let opened = File::open(file);
     opened
         .and_then(|opened| opened.take(limit as u64 + 1).read_to_end(&mut bytes))
-        .map_err(|error| misuse(file, &reason(&error)))?;
+        .map_err(|error| misuse(file, &reason(&error, "read")))?;
     if bytes.len() > limit {
         let longest = format!("the file has more than {limit} bytes, and no {what} has more");
         return Err(misuse(file, &longest));
@@ -52,11 +52,17 @@ fn bytes(file: &Path, what: &str, limit: usize) -> Result<Vec<u8>, Misuse> {
     Ok(bytes)
 }
 
-fn reason(error: &io::Error) -> String {
+/// Writes a file, or replaces it.
+pub fn write(file: &Path, bytes: &[u8]) -> Result<(), Misuse> {
+    fs::write(file, bytes).map_err(|error| misuse(file, &reason(&error, "written")))
+}
+
+/// Why a file cannot be read or written.
+fn reason(error: &io::Error, done: &str) -> String {
     match error.kind() {
         ErrorKind::NotFound => "there is no such file".into(),
         ErrorKind::IsADirectory => "this is a folder, and not a file".into(),
-        ErrorKind::PermissionDenied => "the file may not be read".into(),
+        ErrorKind::PermissionDenied => format!("the file may not be {done}"),
         _ => error.to_string(),
     }
 }

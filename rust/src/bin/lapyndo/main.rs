@@ -1,7 +1,8 @@
-//! `lapyndo COMMAND ..`: a campaign's table, plan and steps in words, for people.
+//! `lapyndo COMMAND ..`: a campaign's table, plan and steps in words, for people, and as files for
+//! other planners.
 //!
-//! Every answer comes from the proved engine. This program reads files, calls it, and puts
-//! answers and refusals into words.
+//! Every answer comes from the proved engine. This program reads and writes files, calls it, and
+//! puts answers and refusals into words.
 
 #![forbid(unsafe_code)]
 
@@ -11,6 +12,7 @@ mod evaluate;
 mod explain;
 mod files;
 mod outcome;
+mod pddl;
 mod planning;
 mod refused;
 mod scan;
