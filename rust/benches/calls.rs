@@ -132,11 +132,20 @@ impl Bench {
     }
 
     fn pddl(&mut self) -> Times {
+        self.texted(self.out.len())
+    }
+
+    /// With an output of just the text's length, which the engine has to count first.
+    fn pddl_exact(&mut self) -> Times {
+        self.texted(text_length(&self.task))
+    }
+
+    fn texted(&mut self, room: usize) -> Times {
         let Task { table, state } = &self.task;
         let mut others = self.out.clone();
         compare(
-            || raw::pddl(table, state, &mut self.out).is_ok(),
-            || REFERENCE.pddl(table, state, &mut others).is_ok(),
+            || raw::pddl(table, state, &mut self.out[..room]).is_ok(),
+            || REFERENCE.pddl(table, state, &mut others[..room]).is_ok(),
         )
     }
 
@@ -255,6 +264,7 @@ fn calls_table(mut written: Vec<Bench>) {
         row("step", bench, Bench::step);
         row("campaign", bench, Bench::campaign);
         row("pddl", bench, Bench::pddl);
+        row("pddl exact", bench, Bench::pddl_exact);
     }
     let normal = written.iter().map(Bench::normal);
     for mut bench in normal.chain(normal_campaigns()) {

@@ -1,4 +1,4 @@
-//! `pddl FOLDER`: a campaign as files that other planners load.
+//! `pddl FOLDER`: a campaign as files for other planners.
 
 use crate::commands::Command;
 use crate::explain::Case;
