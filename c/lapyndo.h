@@ -42,9 +42,11 @@ enum {
     LAPYNDO_CUT = 2,               /*   operands cut, place: the command's offset; no command where one is due,
                                         place: the table's length */
     LAPYNDO_MOVE_COUNT = 6,        /*   41 beyond the head's count, or 47 before it; place: the command's offset */
-    LAPYNDO_OPERAND_RANGE = 4,     /*   an operand is out of range; place: the operand's offset */
-    LAPYNDO_NAMED_AGAIN = 5,       /*   named again, not rising, or a ninth term; place: the command's offset */
-    LAPYNDO_CIRCLE = 7,            /* the := effects have a circle; place 0 */
+    LAPYNDO_OPERAND_RANGE = 4,     /*   an operand is out of range; place: the operand's offset. Weights are -1000 to
+                                        1000 in a written table, 0 included, and 1 to 1000 in a normal one */
+    LAPYNDO_NAMED_AGAIN = 5,       /*   named again, not rising, or a ninth term, terms of weight 0 counted; place: the
+                                        command's offset */
+    LAPYNDO_CIRCLE = 7,            /* the := effects have a circle, terms of weight 0 left out; place 0 */
     LAPYNDO_STATE_LENGTH = 8,      /* the state has the wrong length; place 0 */
     LAPYNDO_STATE_RANGE = 9,       /* a byte or value of the state is out of range; place: its offset */
     LAPYNDO_NO_SUCH_MOVE = 10,     /* the table has no such move; place 0 */
@@ -96,7 +98,10 @@ uint64_t lapyndo_read(const uint8_t *table, size_t table_len);
 
 /* Writes the normal form of a written table.
  *
- * Result: the length of the normal form, at most 64,000 and at most twice that of the table.
+ * A term of weight 0 is no contribution: the normal form drops it, and keeps the condition or effect that it stands in.
+ *
+ * Result: the length of the normal form, at most 64,000 and at most twice that of the table. An output of twice the
+ * table's length spares the engine a walk over the table for the length.
  * Refusals: 1 to 7 and 13.
  * out: accepted, the normal form from the start, and the bytes behind it are kept; refused, all bytes are kept.
  */
@@ -117,7 +122,8 @@ uint64_t lapyndo_step(const uint8_t *table, size_t table_len, const uint8_t *sta
  * "(define (problem start)".
  *
  * Proposition, variable and move i are called pi, vi and ai. A list of actions is a plan of the text exactly when the list
- * of moves solves the table from the state. The text is ASCII, with no 0 byte behind it; docs/PDDL.md describes it.
+ * of moves solves the table from the state. Terms of weight 0 are written out. The text is ASCII, with no 0 byte behind
+ * it; docs/PDDL.md describes it.
  *
  * Result: the length of the text.
  * Refusals, in the order of the checks: 1 to 7; 8 and 9; 13.

@@ -3,8 +3,9 @@
 //! Each figure is the median of repeated samples; the two engines take turns. Memories are
 //! lent again as the call before left them.
 
+use campaign::commands::without_zero_terms;
 use campaign::engine::{Engine, Lent, REFERENCE};
-use campaign::generate::{dense, m1, task_of, text_length, waves, Rng, Task};
+use campaign::generate::{dense, grid, m1, task_of, text_length, waves, Rng, Task};
 use campaign::proved::raw;
 use campaign::reference::semantics::saturate;
 use campaign::reference::table::Kind;
@@ -60,11 +61,20 @@ impl Bench {
     }
 
     fn normalise(&mut self) -> Times {
+        self.normalised(self.out.len())
+    }
+
+    /// With an output of just the normal form's length, which the engine has to count first.
+    fn normalise_exact(&mut self) -> Times {
+        self.normalised(self.task.normal().table.len())
+    }
+
+    fn normalised(&mut self, room: usize) -> Times {
         let table = &self.task.table;
         let mut others = self.out.clone();
         compare(
-            || raw::normalise(table, &mut self.out).is_ok(),
-            || REFERENCE.normalise(table, &mut others).is_ok(),
+            || raw::normalise(table, &mut self.out[..room]).is_ok(),
+            || REFERENCE.normalise(table, &mut others[..room]).is_ok(),
         )
     }
 
@@ -213,14 +223,18 @@ fn micros(seconds: f64) -> String {
     format!("{:.2}", seconds * 1e6)
 }
 
-/// The first generated task with 30 moves, 8 variables and a plan of some depth.
+/// The first generated task with 30 moves, 8 variables and a plan of some depth; no weight is 0.
 fn mid_size() -> Task {
     let mut rng = Rng::new(30);
     let deep = |task: &Task| Bench::new("", task.clone()).normal().reported_layers() >= 5;
-    (0..)
+    let Task { table, state } = (0..)
         .map(|_| task_of(&mut rng, Kind::Written, [12, 8, 30]))
         .find(deep)
-        .expect("such a task comes up")
+        .expect("such a task comes up");
+    Task {
+        table: without_zero_terms(&table),
+        state,
+    }
 }
 
 /// Written tables, from small to the largest.
@@ -257,21 +271,37 @@ fn deepest(rng: &mut Rng) -> Task {
 }
 
 fn calls_table(mut written: Vec<Bench>) {
-    println!("call       table                 bytes  layers   engine µs  reference µs  ratio");
+    println!(
+        "call            table                 bytes  layers   engine µs  reference µs  ratio"
+    );
     for bench in &mut written {
         row("read", bench, Bench::read);
         row("normalise", bench, Bench::normalise);
+        row("normalise exact", bench, Bench::normalise_exact);
         row("step", bench, Bench::step);
         row("campaign", bench, Bench::campaign);
         row("pddl", bench, Bench::pddl);
         row("pddl exact", bench, Bench::pddl_exact);
     }
+    grid_rows();
     let normal = written.iter().map(Bench::normal);
     for mut bench in normal.chain(normal_campaigns()) {
         row("read", &mut bench, Bench::read);
         row("decide", &mut bench, Bench::decide);
         row("plan", &mut bench, Bench::plan);
     }
+}
+
+/// A written table most of whose weights are 0.
+fn grid_rows() {
+    let grid = grid(&mut Rng::new(6), 32_000);
+    let mut bench = Bench::new("grid, 32,000 bytes", grid);
+    row("read", &mut bench, Bench::read);
+    row("normalise", &mut bench, Bench::normalise);
+    row("normalise exact", &mut bench, Bench::normalise_exact);
+    row("step", &mut bench, Bench::step);
+    row("pddl", &mut bench, Bench::pddl);
+    row("pddl exact", &mut bench, Bench::pddl_exact);
 }
 
 fn row(call: &str, bench: &mut Bench, time: fn(&mut Bench) -> Times) {
@@ -281,7 +311,7 @@ fn row(call: &str, bench: &mut Bench, time: fn(&mut Bench) -> Times) {
         _ => "-".into(),
     };
     println!(
-        "{call:10} {:20} {:6} {layers:>7} {:>11} {:>13} {:>6.2}",
+        "{call:15} {:20} {:6} {layers:>7} {:>11} {:>13} {:>6.2}",
         bench.name,
         bench.task.table.len(),
         micros(times.engine),

@@ -7,7 +7,7 @@
 
 use campaign::call::{Call, CallKind};
 use campaign::fenced::Fenced;
-use campaign::generate::{call, damage, full_length, Rng, Task};
+use campaign::generate::{call, damage, full_length, grid, Rng, Task};
 use campaign::proved::PROVED;
 use campaign::reference::table::Kind;
 use campaign::room;
@@ -47,7 +47,10 @@ fn main() {
 fn long_call(rng: &mut Rng) -> Call {
     let length = *rng.pick(&[32_000, 64_000]) + rng.below(11) - 5;
     let kind = *rng.pick(&[Kind::Written, Kind::Normal]);
-    let Task { table, state } = full_length(rng, kind, length);
+    let Task { table, state } = match rng.chance(1, 3) {
+        true => grid(rng, length),
+        false => full_length(rng, kind, length),
+    };
     match rng.below(4) {
         0 => Call {
             table,

@@ -82,39 +82,30 @@ impl CallKind {
         }
     }
 
-    /// How many outcomes are recorded.
-    pub fn lines(self) -> usize {
-        match self {
-            CallKind::Read => 443,
-            CallKind::Block => 296,
-            CallKind::Normalise => 436,
-            CallKind::Step => 599,
-            CallKind::Decide => 637,
-            CallKind::Plan => 617,
-            CallKind::Campaign => 31,
-            CallKind::Pddl => 40,
-            CallKind::Listing => 264,
-        }
-    }
-
     /// The call's name.
     pub fn name(self) -> &'static str {
         let name = self.file().strip_suffix(".txt");
         name.expect("a file of outcomes is a text")
     }
 
-    /// The file of this call's outcomes.
+    /// The file of this call's newest outcomes.
     pub fn file(self) -> &'static str {
+        self.records()[0].0
+    }
+
+    /// All files of this call's outcomes, and how many each has: the newest, and those of document
+    /// 01, which still hold.
+    pub fn records(self) -> &'static [(&'static str, usize)] {
         match self {
-            CallKind::Read => "read.txt",
-            CallKind::Block => "block.txt",
-            CallKind::Normalise => "normalise.txt",
-            CallKind::Step => "step.txt",
-            CallKind::Decide => "decide.txt",
-            CallKind::Plan => "plan.txt",
-            CallKind::Campaign => "campaign.txt",
-            CallKind::Pddl => "pddl.txt",
-            CallKind::Listing => "listing.txt",
+            CallKind::Read => &[("read.txt", 160), ("document-01/read.txt", 443)],
+            CallKind::Block => &[("block.txt", 95), ("document-01/block.txt", 296)],
+            CallKind::Normalise => &[("normalise.txt", 160), ("document-01/normalise.txt", 436)],
+            CallKind::Step => &[("step.txt", 151), ("document-01/step.txt", 599)],
+            CallKind::Decide => &[("decide.txt", 88), ("document-01/decide.txt", 637)],
+            CallKind::Plan => &[("plan.txt", 44), ("document-01/plan.txt", 617)],
+            CallKind::Campaign => &[("campaign.txt", 43)],
+            CallKind::Pddl => &[("pddl.txt", 52)],
+            CallKind::Listing => &[("listing.txt", 95), ("document-01/listing.txt", 264)],
         }
     }
 }

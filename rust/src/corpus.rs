@@ -21,14 +21,16 @@ pub fn kept() -> Vec<Call> {
 /// # Panics
 /// If their files cannot be read.
 pub fn recorded() -> Vec<Call> {
-    let calls = |kind| {
-        let calls = outcomes(kind);
+    let calls = |kind: CallKind, file| {
+        let calls = outcomes(file);
         let fields = calls.lines().filter_map(|line| line.split_once(" -> "));
         let calls: Result<Vec<Call>, String> =
             fields.map(|(call, _)| Call::parse(kind, call)).collect();
         calls.expect("every line has a call")
     };
-    CallKind::ALL.into_iter().flat_map(calls).collect()
+    let files = |kind: CallKind| kind.records().iter().map(move |(file, _)| (kind, file));
+    let files = CallKind::ALL.into_iter().flat_map(files);
+    files.flat_map(|(kind, file)| calls(kind, file)).collect()
 }
 
 /// The line of a call.
@@ -62,7 +64,8 @@ mod tests {
 
     #[test]
     fn every_recorded_call_is_there() {
-        let lines: usize = CallKind::ALL.into_iter().map(CallKind::lines).sum();
+        let records = CallKind::ALL.into_iter().flat_map(CallKind::records);
+        let lines: usize = records.map(|(_, lines)| lines).sum();
         assert_eq!(recorded().len(), lines);
     }
 }

@@ -2,6 +2,7 @@
 
 mod call;
 mod damage;
+mod grid;
 mod maker;
 mod rng;
 mod sizes;
@@ -15,6 +16,7 @@ pub use damage::{
     command_string, damage, deletions, insertions, random_bytes, single_byte_changes, spoil,
     truncations, wrong_state,
 };
+pub use grid::{grid, long_sum, m1_grid};
 pub use maker::{state_for, task, task_of};
 pub use rng::Rng;
 pub use sizes::Sizes;

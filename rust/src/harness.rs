@@ -31,28 +31,41 @@ impl fmt::Display for Difference {
     }
 }
 
-/// The file of a call's outcomes.
+/// A file of outcomes.
 ///
 /// # Panics
 /// If it cannot be read.
-pub fn outcomes(kind: CallKind) -> String {
+pub fn outcomes(file: &str) -> String {
     let folder = Path::new(env!("CARGO_MANIFEST_DIR")).join("tests/data");
-    fs::read_to_string(folder.join(kind.file())).expect("the file of outcomes is there")
+    fs::read_to_string(folder.join(file)).expect("the file of outcomes is there")
 }
 
-/// Runs every line of a call's file.
+/// Runs every line of a call's files.
 ///
 /// # Panics
 /// At the first line that differs, and if a line is missing.
 pub fn check_lines(engine: &dyn Engine, kind: CallKind) {
-    match run_lines(engine, kind, &outcomes(kind)) {
-        Ok(count) => assert_eq!(count, kind.lines(), "lines of {}", kind.file()),
-        Err(difference) => panic!("{difference}"),
+    for (file, lines) in kind.records() {
+        match run_lines(engine, kind, file, &outcomes(file)) {
+            Ok(count) => assert_eq!(count, *lines, "lines of {file}"),
+            Err(difference) => panic!("{difference}"),
+        }
     }
 }
 
+/// Whether a line of a call's files differs.
+pub fn some_line_differs(engine: &dyn Engine, kind: CallKind) -> bool {
+    let mut files = kind.records().iter();
+    files.any(|(file, _)| run_lines(engine, kind, file, &outcomes(file)).is_err())
+}
+
 /// Runs every line of a file and answers how many there are.
-pub fn run_lines(engine: &dyn Engine, kind: CallKind, text: &str) -> Result<usize, Difference> {
+pub fn run_lines(
+    engine: &dyn Engine,
+    kind: CallKind,
+    file: &'static str,
+    text: &str,
+) -> Result<usize, Difference> {
     for (i, line) in text.lines().enumerate() {
         let (call, expected) = line.split_once(" -> ").unwrap_or((line, ""));
         let outcome = Call::parse(kind, call).and_then(|call| {
@@ -62,7 +75,7 @@ pub fn run_lines(engine: &dyn Engine, kind: CallKind, text: &str) -> Result<usiz
         let outcome = outcome.map(|outcome| outcome.to_string());
         if outcome.as_deref() != Ok(expected) {
             return Err(Difference {
-                file: kind.file(),
+                file,
                 line: i + 1,
                 call: call.into(),
                 expected: expected.into(),

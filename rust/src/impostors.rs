@@ -1,5 +1,7 @@
 //! Engines that do one thing otherwise than the reference, to test that comparisons find them.
 
+mod weight_zero;
+
 use crate::answer::{Campaign, Reason, Refusal};
 use crate::call::CallKind;
 use crate::engine::{Calls, Campaigning, Engine, REFERENCE};
@@ -7,6 +9,7 @@ use crate::reference::table::{Block, Change, Comparison, Item};
 use crate::reference::{
     block, decide, normalise, parse_table, parse_task, pddl, pddl_text, plan, read, step,
 };
+use weight_zero::WEIGHT_ZERO;
 
 /// The reference, with listings made of its other calls, as its campaigns are.
 pub const HONEST: Calls = Calls {
@@ -30,7 +33,7 @@ pub fn check_found(kinds: &[CallKind], found: impl Fn(CallKind, &dyn Engine) -> 
     for kind in kinds {
         assert!(!found(*kind, &HONEST), "honest: {}", kind.name());
     }
-    for impostor in IMPOSTORS {
+    for impostor in IMPOSTORS.iter().chain(&WEIGHT_ZERO) {
         for kind in impostor.kinds.iter().filter(|kind| kinds.contains(kind)) {
             let found = found(*kind, &impostor.engine);
             assert!(found, "{}: {}", impostor.trick, kind.name());
@@ -38,7 +41,7 @@ pub fn check_found(kinds: &[CallKind], found: impl Fn(CallKind, &dyn Engine) -> 
     }
 }
 
-pub const IMPOSTORS: [Impostor; 22] = [
+const IMPOSTORS: [Impostor; 22] = [
     Impostor {
         trick: "every count is 1",
         engine: Calls {
@@ -344,8 +347,7 @@ fn retold(
     let Ok(mut changed) = parse_table(table) else {
         return pddl(table, state, out);
     };
-    changed.moves.iter_mut().for_each(&change);
-    change(&mut changed.goal);
+    changed.blocks_mut().for_each(change);
     pddl(&changed.encode(), state, out)
 }
 

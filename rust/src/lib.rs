@@ -6,6 +6,7 @@
 
 pub mod answer;
 pub mod call;
+pub mod commands;
 pub mod corpus;
 pub mod engine;
 pub mod fenced;

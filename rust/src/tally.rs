@@ -1,6 +1,7 @@
 //! Two engines compared on many calls, counted by what they answer.
 
 use crate::call::{Call, Fill};
+use crate::commands::has_zero_term;
 use crate::engine::{Engine, REFERENCE};
 use crate::generate::Rng;
 use crate::harness::compare_over;
@@ -11,6 +12,8 @@ pub struct Tally<'e> {
     rng: Rng,
     /// Calls by the number of their refusal; 0 for accepted ones.
     counts: [usize; 16],
+    /// Calls of a written table with a term of weight 0.
+    zeros: usize,
 }
 
 impl<'e> Tally<'e> {
@@ -19,6 +22,7 @@ impl<'e> Tally<'e> {
             engine,
             rng: Rng::new(seed),
             counts: [0; 16],
+            zeros: 0,
         }
     }
 
@@ -28,6 +32,7 @@ impl<'e> Tally<'e> {
     /// If the outcomes differ; the message has the call in hexadecimal and both outcomes.
     pub fn check(&mut self, call: &Call) {
         let fill = Fill::Seeded(self.rng.next_u64());
+        self.zeros += usize::from(has_zero_term(&call.table));
         match compare_over(call, fill, &REFERENCE, self.engine) {
             Ok(outcome) => self.counts[refusal_number(&outcome)] += 1,
             Err(difference) => panic!("{difference}\n  before: {fill:?}"),
@@ -50,10 +55,19 @@ impl<'e> Tally<'e> {
     pub fn expect(&self, inputs: usize, numbers: &[usize]) {
         let counts = self.counts;
         println!("{} inputs, by refusal {counts:?}", self.inputs());
+        println!("{} with a written weight 0", self.zeros);
         assert!(self.inputs() >= inputs, "{} inputs only", self.inputs());
         for number in numbers {
             assert!(counts[*number] >= 5, "refusal {number}: {counts:?}");
         }
+    }
+
+    /// Fails unless at least so many calls had a written table with a term of weight 0.
+    ///
+    /// # Panics
+    /// If there were fewer.
+    pub fn expect_zero_terms(&self, calls: usize) {
+        assert!(self.zeros >= calls, "{} with a weight 0 only", self.zeros);
     }
 }
 

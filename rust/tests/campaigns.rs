@@ -172,10 +172,10 @@ fn weight_1000_passes_and_1001_is_refusal_4() {
         let weight = weight as u16;
         one_variable("", &format!("57 00 {weight:04x} 43 00 00000000"))
     };
-    for weight in [1000, -1000, 1, -1] {
+    for weight in [1000, -1000, 1, -1, 0] {
         assert!(ENGINE.read(&table(weight)).is_ok(), "{weight}");
     }
-    for weight in [1001, -1001, 0, i16::MAX, i16::MIN] {
+    for weight in [1001, -1001, i16::MAX, i16::MIN] {
         assert_eq!(ENGINE.read(&table(weight)), Err(Reason::OperandRange.at(7)));
     }
 }

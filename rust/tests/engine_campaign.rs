@@ -5,7 +5,7 @@ use campaign::call::{Call, CallKind};
 use campaign::engine::{Calls, Engine};
 use campaign::fenced::Fenced;
 use campaign::generate::{
-    at_value_limit, campaign_call, damage, dense, full_length, m1, normal_length,
+    at_value_limit, campaign_call, damage, dense, full_length, grid, m1, m1_grid, normal_length,
     single_byte_changes, task, task_of, truncations, waves, wrong_state, Rng, Sizes, Task,
 };
 use campaign::harness::{campaigned, check_lines};
@@ -77,30 +77,34 @@ fn memories_around_what_is_needed() {
         }
     }
     tally.expect(25_000, &[0, 13, 14, 15]);
+    tally.expect_zero_terms(8_000);
     assert!(
         plans > 500 && none > 100,
         "{plans} plans, {none} times none"
     );
 }
 
-/// Every length of each memory of M1, with lengths around what the other two need.
+/// Every length of each memory of M1, with lengths around what the other two need; as a grid it
+/// needs the same.
 #[test]
 fn memories_of_every_length() {
-    let task = m1();
     let mut tally = Tally::new(ENGINE, 604);
-    for normal in 0..88 {
-        for numbers in [0, 7, 15, 16] {
-            tally.check(&task.campaign(normal, numbers, 30));
+    for task in [m1(), m1_grid()] {
+        for normal in 0..88 {
+            for numbers in [0, 7, 15, 16] {
+                tally.check(&task.campaign(normal, numbers, 30));
+            }
         }
-    }
-    for normal in [84, 85, 86] {
-        for numbers in 0..19 {
-            for room in 0..33 {
-                tally.check(&task.campaign(normal, numbers, room));
+        for normal in [84, 85, 86] {
+            for numbers in 0..19 {
+                for room in 0..33 {
+                    tally.check(&task.campaign(normal, numbers, room));
+                }
             }
         }
     }
-    tally.expect(2_000, &[0, 13, 14]);
+    tally.expect(4_000, &[0, 13, 14]);
+    tally.expect_zero_terms(2_000);
 }
 
 #[test]
@@ -121,6 +125,7 @@ fn damaged_tables_and_states() {
         tally.check(&call);
     }
     tally.expect(28_000, &[0, 2, 3, 4, 5, 6, 7, 8, 9, 13, 14, 15]);
+    tally.expect_zero_terms(3_000);
 }
 
 #[test]
@@ -132,6 +137,7 @@ fn lengths_at_the_limits() {
             for task in [
                 full_length(&mut rng, kind, length),
                 dense(&mut rng, kind, length),
+                grid(&mut rng, length),
             ] {
                 let needed = normal_length(&task.table);
                 for normal in [0, needed - 1, needed, 64_000] {
@@ -140,7 +146,8 @@ fn lengths_at_the_limits() {
             }
         }
     }
-    tally.expect(80, &[0, 1, 3, 13]);
+    tally.expect(120, &[0, 1, 3, 13]);
+    tally.expect_zero_terms(40);
 }
 
 fn check_listing(tally: &mut Tally, task: Task) {
@@ -169,4 +176,5 @@ fn listings() {
         check_listing(&mut tally, waves(&mut rng, Kind::Written, 16, gates));
     }
     tally.expect(6_000, &[0, 2, 8, 9, 14, 15]);
+    tally.expect_zero_terms(1_500);
 }

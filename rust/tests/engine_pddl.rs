@@ -1,5 +1,7 @@
 //! The proved engine's PDDL text, over its C function; texts are the reference's too.
 
+mod weight_zero;
+
 use crate::common::rooms::rooms;
 use campaign::answer::Refusal;
 use campaign::call::CallKind;
@@ -240,7 +242,7 @@ fn refusals_in_their_order() {
         ("54 01 01 00 47 57 00 0001 45", 3, 9),
         ("54 01 01 01 47 50", 6, 4),
         ("54 01 11 41 47", 4, 2),
-        ("54 01 01 01 41 57 00 0000 43 05 000f4241", 4, 7),
+        ("54 01 01 01 41 57 00 03e9 43 05 000f4241", 4, 7),
         ("54 01 01 01 41 2b 00 2d 00", 5, 7),
         (
             "54 01 01 01 41 57 00 0001 46 00 00 00000000 47 45 45",
@@ -291,6 +293,7 @@ fn texts_in_outputs_of_all_lengths() {
         check_rooms(&mut tally, &mut rng, &task);
     }
     tally.expect(64_000, &[0, 13]);
+    tally.expect_zero_terms(20_000);
 }
 
 #[test]
@@ -314,6 +317,7 @@ fn damaged_tables() {
         check_rooms(&mut tally, &mut rng, &Task { table, state });
     }
     tally.expect(40_000, &[0, 2, 3, 4, 5, 6, 7, 8, 13]);
+    tally.expect_zero_terms(3_000);
 }
 
 #[test]
@@ -346,6 +350,7 @@ fn damaged_calls_behind_fences() {
         tally.check(&call);
     }
     tally.expect(10_000, &[0, 2, 3, 4, 5, 6, 7, 8, 9, 13]);
+    tally.expect_zero_terms(2_500);
 }
 
 #[test]

@@ -3,8 +3,8 @@
 use campaign::call::{Call, CallKind};
 use campaign::engine::{Calls, Engine, REFERENCE};
 use campaign::generate::{
-    command_string, deletions, dense, full_length, insertions, m1, random_bytes,
-    single_byte_changes, spoil, task, task_of, truncations, Rng, Task,
+    command_string, deletions, dense, full_length, grid, insertions, long_sum, m1, m1_grid,
+    random_bytes, single_byte_changes, spoil, task, task_of, truncations, Rng, Task,
 };
 use campaign::guarded::Guarded;
 use campaign::harness::{check_lines, normalised};
@@ -87,13 +87,14 @@ fn valid_tables_of_all_sizes() {
         }
     }
     tally.expect(40_000, &[0, 10]);
+    tally.expect_zero_terms(15_000);
 }
 
-/// M1, its normal form, and short tables with all sorts of entries.
+/// M1, its normal form, M1 as a grid, and short tables with all sorts of entries.
 fn short_tables(rng: &mut Rng) -> Vec<Vec<u8>> {
     let written = m1().table;
     let normal = normalised(&REFERENCE, &written).expect("M1 has a normal form");
-    let mut tables = vec![written, normal];
+    let mut tables = vec![written, normal, m1_grid().table];
     for kind in KINDS {
         let short = |table: &Vec<u8>| (50..90).contains(&table.len());
         let sizes = [3, 4, 3];
@@ -116,7 +117,8 @@ fn damaged_tables() {
             check_read_and_block(&mut tally, &mut rng, damaged);
         }
     }
-    tally.expect(200_000, &[0, 2, 3, 4, 5, 6, 10]);
+    tally.expect(300_000, &[0, 2, 3, 4, 5, 6, 10]);
+    tally.expect_zero_terms(80_000);
 }
 
 #[test]
@@ -135,6 +137,7 @@ fn random_commands_and_bytes() {
         check_read_and_block(&mut tally, &mut rng, table);
     }
     tally.expect(160_000, &[0, 2, 3, 4, 5, 6, 7, 10]);
+    tally.expect_zero_terms(8_000);
 }
 
 #[test]
@@ -148,8 +151,11 @@ fn spoilt_entries_and_circles() {
             spoil(&mut rng, &mut table);
             check_read_and_block(&mut tally, &mut rng, table.encode());
         }
+        let Task { table, .. } = long_sum(&mut rng);
+        check_read_and_block(&mut tally, &mut rng, table);
     }
-    tally.expect(16_000, &[0, 4, 5, 7]);
+    tally.expect(24_000, &[0, 4, 5, 7]);
+    tally.expect_zero_terms(10_000);
 }
 
 /// Tables at the two limits of length and past them, whatever their first byte is.
@@ -169,8 +175,12 @@ fn lengths_at_the_limits() {
                 check_damaged_somewhere(&mut tally, &mut rng, &table);
             }
         }
+        let Task { table, .. } = grid(&mut rng, length);
+        check_damaged_somewhere(&mut tally, &mut rng, &table);
+        check_read_and_block(&mut tally, &mut rng, table);
     }
     tally.expect(300, &[0, 1, 3]);
+    tally.expect_zero_terms(60);
 }
 
 /// A few damages of a long table, so that refusals have places of all sizes.

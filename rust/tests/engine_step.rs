@@ -5,8 +5,9 @@ use campaign::answer::Reason;
 use campaign::call::{Call, CallKind};
 use campaign::engine::{Calls, Engine, REFERENCE};
 use campaign::generate::{
-    command_string, dense, full_length, insertions, m1, normal_length, single_byte_changes, spoil,
-    state_for, task, task_of, truncations, waves, wrong_state, Rng, Task,
+    command_string, dense, full_length, grid, insertions, long_sum, m1, m1_grid, normal_length,
+    single_byte_changes, spoil, state_for, task, task_of, truncations, waves, wrong_state, Rng,
+    Task,
 };
 use campaign::guarded::Guarded;
 use campaign::harness::{check_lines, normalised};
@@ -57,23 +58,25 @@ fn normal_forms_in_outputs_of_all_lengths() {
         check_normalise(&mut tally, &mut rng, &table);
     }
     tally.expect(88_000, &[0, 13]);
+    tally.expect_zero_terms(30_000);
 }
 
 #[test]
 fn normal_forms_of_damaged_tables() {
     let mut rng = Rng::new(203);
     let mut tally = Tally::new(ENGINE, 204);
-    let table = m1().table;
-    let damaged = single_byte_changes(&table)
-        .chain(truncations(&table))
-        .chain(insertions(&table));
-    for table in damaged {
-        let room = 80 + rng.below(20);
-        tally.check(&Call {
-            table,
-            room,
-            ..CallKind::Normalise.call()
-        });
+    for table in [m1().table, m1_grid().table] {
+        let damaged = single_byte_changes(&table)
+            .chain(truncations(&table))
+            .chain(insertions(&table));
+        for table in damaged {
+            let room = 80 + rng.below(20);
+            tally.check(&Call {
+                table,
+                room,
+                ..CallKind::Normalise.call()
+            });
+        }
     }
     for _ in 0..25_000 {
         let table = command_string(&mut rng);
@@ -88,8 +91,12 @@ fn normal_forms_of_damaged_tables() {
         let mut table = parse_table(&task(&mut rng, Kind::Written).table).unwrap();
         spoil(&mut rng, &mut table);
         check_normalise(&mut tally, &mut rng, &table.encode());
+        let Task { table, state } = long_sum(&mut rng);
+        check_normalise(&mut tally, &mut rng, &table);
+        check_steps(&mut tally, &mut rng, &table, &state);
     }
-    tally.expect(70_000, &[0, 2, 3, 4, 5, 6, 7, 13]);
+    tally.expect(120_000, &[0, 2, 3, 4, 5, 6, 7, 13]);
+    tally.expect_zero_terms(40_000);
 }
 
 #[test]
@@ -104,8 +111,12 @@ fn normal_forms_at_the_limits_of_length() {
                 check_steps(&mut tally, &mut rng, &table, &state);
             }
         }
+        let Task { table, state } = grid(&mut rng, length);
+        check_normalise(&mut tally, &mut rng, &table);
+        check_steps(&mut tally, &mut rng, &table, &state);
     }
     tally.expect(160, &[0, 1, 3, 13]);
+    tally.expect_zero_terms(80);
 }
 
 /// A move that the table has, or not.
@@ -160,6 +171,7 @@ fn steps_into_outputs_of_all_lengths() {
         }
     }
     tally.expect(150_000, &[0, 8, 9, 10, 11, 12, 13]);
+    tally.expect_zero_terms(50_000);
 }
 
 #[test]

@@ -4,6 +4,8 @@ use campaign::call::{Call, CallKind};
 use campaign::engine::{Calls, Engine, REFERENCE};
 use campaign::fenced::Fenced;
 use campaign::generate::{call, m1, random_bytes, Rng};
+use campaign::harness::compare;
+use campaign::impostors::check_found;
 use campaign::input::{decode, encode, ROOM};
 use campaign::tally::Tally;
 
@@ -72,6 +74,17 @@ fn blocks_are_parts_of_the_callers_table() {
     }
 }
 
+/// As comparisons with generated calls have to.
+#[test]
+fn generated_calls_find_impostors() {
+    let mut rng = Rng::new(504);
+    let calls: Vec<Call> = (0..20_000).map(|_| call(&mut rng)).collect();
+    check_found(&CallKind::ALL, |kind, engine| {
+        let mut calls = calls.iter().filter(|call| call.kind == kind);
+        calls.any(|call| compare(call, &REFERENCE, engine).is_err())
+    });
+}
+
 #[test]
 #[should_panic(expected = "540000004745")]
 fn a_difference_shows_the_call() {
@@ -86,4 +99,10 @@ fn a_difference_shows_the_call() {
 #[should_panic(expected = "refusal 2")]
 fn a_missing_refusal_is_found() {
     Tally::new(&REFERENCE, 1).expect(0, &[2]);
+}
+
+#[test]
+#[should_panic(expected = "0 with a weight 0 only")]
+fn a_missing_share_of_weight_0_is_found() {
+    Tally::new(&REFERENCE, 1).expect_zero_terms(1);
 }

@@ -1,11 +1,11 @@
 //! The listing program, run as a user runs it: in a folder with task.bin and state.bin.
 
 use crate::common::folder::{examples, repository, run, Folder};
+use campaign::call::CallKind;
+use campaign::harness::outcomes;
 use campaign::hex::{bytes, unhex};
 use std::fs;
 use std::path::Path;
-
-const OUTCOMES: &str = include_str!("data/listing.txt");
 
 /// What the program prints in a folder.
 fn listing(folder: &Path) -> String {
@@ -18,20 +18,21 @@ fn listing(folder: &Path) -> String {
 
 #[test]
 fn every_line_of_the_outcomes() {
-    let mut lines = 0;
-    for (number, line) in OUTCOMES.lines().enumerate() {
-        let (call, expected) = line.split_once(" -> ").expect("an outcome");
-        let (task, state) = call.split_once(' ').expect("two files");
-        let [task, state] = [task, state].map(|text| unhex(text).expect("hexadecimal"));
-        assert_eq!(
-            listing(&Folder::of(&task, &state).0),
-            expected.replace("\\n", "\n"),
-            "listing.txt:{}: {line}",
-            number + 1
-        );
-        lines += 1;
+    for (file, count) in CallKind::Listing.records() {
+        let outcomes = outcomes(file);
+        for (number, line) in outcomes.lines().enumerate() {
+            let (call, expected) = line.split_once(" -> ").expect("an outcome");
+            let (task, state) = call.split_once(' ').expect("two files");
+            let [task, state] = [task, state].map(|text| unhex(text).expect("hexadecimal"));
+            assert_eq!(
+                listing(&Folder::of(&task, &state).0),
+                expected.replace("\\n", "\n"),
+                "{file}:{}: {line}",
+                number + 1
+            );
+        }
+        assert_eq!(outcomes.lines().count(), *count, "lines of {file}");
     }
-    assert!(lines > 200, "outcomes are missing");
 }
 
 #[test]

@@ -2,7 +2,7 @@
 
 use campaign::call::CallKind;
 use campaign::engine::REFERENCE;
-use campaign::harness::{check_lines, outcomes, run_lines};
+use campaign::harness::{check_lines, run_lines, some_line_differs};
 use campaign::impostors::{check_found, HONEST};
 
 #[test]
@@ -59,14 +59,14 @@ fn listing_of_other_calls() {
 #[test]
 fn impostors_are_found() {
     check_found(&CallKind::ALL, |kind, engine| {
-        run_lines(engine, kind, &outcomes(kind)).is_err()
+        some_line_differs(engine, kind)
     });
 }
 
 #[test]
 fn a_difference_names_file_line_and_both_outcomes() {
     let lines = "540000004745 -> ok 54 0 0 0\n540000004745 -> ok 54 0 0 1\n";
-    let difference = run_lines(&REFERENCE, CallKind::Read, lines).unwrap_err();
+    let difference = run_lines(&REFERENCE, CallKind::Read, "read.txt", lines).unwrap_err();
     let text = difference.to_string();
     for part in ["read.txt line 2", "ok 54 0 0 0", "ok 54 0 0 1"] {
         assert!(text.contains(part), "{text}");

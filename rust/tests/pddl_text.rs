@@ -10,14 +10,13 @@ use campaign::generate::{
     task, task_of, truncations, waves, wrong_state, Rng, Task,
 };
 use campaign::guarded::Guarded;
+use campaign::harness::outcomes;
 use campaign::hex::unhex;
 use campaign::proved;
 use campaign::reference::table::Kind;
 use campaign::reference::{self, parse_table};
 use printed::meaning_of;
 use std::collections::{BTreeSet, HashMap};
-use std::fs;
-use std::path::Path;
 
 /// What an output holds before a call; no text has it.
 const KEPT: u8 = 0xA5;
@@ -61,24 +60,67 @@ fn check_rooms(table: &[u8], state: &[u8], text: &[u8]) {
     }
 }
 
-/// The lines of a file of outcomes: the bytes of the fields, and the outcome.
-fn lines(file: &str) -> Vec<(Vec<Vec<u8>>, String)> {
-    let path = Path::new(env!("CARGO_MANIFEST_DIR")).join("tests/data");
-    let text = fs::read_to_string(path.join(file)).expect("the file of outcomes is there");
-    let line = |line: &str| {
-        let (fields, outcome) = line.split_once(" -> ").expect("an outcome");
-        let fields: Result<_, _> = fields.split(' ').map(unhex).collect();
-        (fields.expect("fields"), outcome.to_string())
-    };
-    text.lines().map(line).collect()
+/// Recorded meanings: the newest, and those before weight 0 was read.
+const CASES: [(&str, usize); 2] = [("cases.txt", 90), ("request-01/cases.txt", 99)];
+
+/// Recorded pairs, likewise.
+const DISTINCT: [(&str, usize); 2] = [("distinct.txt", 149), ("request-01/distinct.txt", 150)];
+
+/// The one recorded line that no longer holds, with what was and what is answered: a weight 0 is
+/// followed by a byte that is no command.
+const SUPERSEDED: (&str, usize, &str, &str) = (
+    "request-01/cases.txt",
+    98,
+    "refusal 4 place 43",
+    "refusal 3 place 45",
+);
+
+/// A line of a file of outcomes.
+struct Line {
+    /// Its file and number.
+    name: String,
+    /// The bytes of its fields.
+    fields: Vec<Vec<u8>>,
+    outcome: String,
+}
+
+/// The lines of some files, the superseded one with what is answered now.
+fn lines(files: [(&str, usize); 2]) -> Vec<Line> {
+    let mut lines = Vec::new();
+    for (file, count) in files {
+        let text = outcomes(file);
+        assert_eq!(text.lines().count(), count, "lines of {file}");
+        for (i, line) in text.lines().enumerate() {
+            let (fields, outcome) = line.split_once(" -> ").expect("an outcome");
+            let fields: Result<_, _> = fields.split(' ').map(unhex).collect();
+            let superseded = (file, i + 1) == (SUPERSEDED.0, SUPERSEDED.1);
+            assert!(!superseded || outcome == SUPERSEDED.2, "{outcome}");
+            lines.push(Line {
+                name: format!("{file} line {}", i + 1),
+                fields: fields.expect("fields"),
+                outcome: if superseded { SUPERSEDED.3 } else { outcome }.into(),
+            });
+        }
+    }
+    lines
+}
+
+/// What was refused there is a weight 0 of a written table.
+#[test]
+fn the_superseded_line_has_weight_0() {
+    let (file, number, _, now) = SUPERSEDED;
+    let name = format!("{file} line {number}");
+    let line = lines(CASES).into_iter().find(|line| line.name == name);
+    let line = line.expect("the line is there");
+    let table = &line.fields[0];
+    assert_eq!((table[0], &table[41..45]), (0x54, &[0x57, 0, 0, 0][..]));
+    assert_eq!(line.outcome, now);
 }
 
 #[test]
 fn recorded_meanings() {
-    let lines = lines("cases.txt");
-    assert_eq!(lines.len(), 99);
-    for (i, (fields, outcome)) in lines.iter().enumerate() {
-        let [table, state] = &fields[..] else {
+    for line in lines(CASES) {
+        let [table, state] = &line.fields[..] else {
             panic!("two fields")
         };
         let text = pddl_of(table, state);
@@ -86,7 +128,7 @@ fn recorded_meanings() {
             Ok(text) => meaning(text),
             Err(refusal) => refusal.to_string(),
         };
-        assert_eq!(got, *outcome, "cases.txt line {}", i + 1);
+        assert_eq!(got, line.outcome, "{}", line.name);
         match text {
             Ok(text) => check_rooms(table, state, &text),
             Err(refusal) => assert_eq!(written(table, state, 0), Err(refusal)),
@@ -96,17 +138,15 @@ fn recorded_meanings() {
 
 #[test]
 fn recorded_texts_differ() {
-    let lines = lines("distinct.txt");
-    assert_eq!(lines.len(), 150);
-    for (i, (fields, outcome)) in lines.into_iter().enumerate() {
-        let [table, state, other_table, other_state] = fields.try_into().expect("four fields");
-        assert_eq!(outcome, "differ");
+    for line in lines(DISTINCT) {
+        let [table, state, other_table, other_state] = line.fields.try_into().expect("four fields");
+        assert_eq!(line.outcome, "differ");
         let tasks = [(table, state), (other_table, other_state)];
         let [one, other] = tasks.map(|(table, state)| {
             let text = checked(&Task { table, state });
-            text.unwrap_or_else(|refusal| panic!("distinct.txt line {}: {refusal}", i + 1))
+            text.unwrap_or_else(|refusal| panic!("{}: {refusal}", line.name))
         });
-        assert_ne!(one, other, "distinct.txt line {}", i + 1);
+        assert_ne!(one, other, "{}", line.name);
     }
 }
 
@@ -136,17 +176,17 @@ fn checked(task: &Task) -> Result<Vec<u8>, Refusal> {
 #[test]
 fn recorded_meanings_of_tables() {
     let mut accepted = 0;
-    for (fields, outcome) in lines("cases.txt") {
-        let [table, state] = fields.try_into().expect("two fields");
+    for line in lines(CASES) {
+        let [table, state] = line.fields.try_into().expect("two fields");
         let task = Task { table, state };
         let got = match refusal_of(&task) {
             Some(refusal) => refusal.to_string(),
             None => meaning_of(&task),
         };
-        assert_eq!(got, outcome);
-        accepted += usize::from(!outcome.starts_with("refusal"));
+        assert_eq!(got, line.outcome, "{}", line.name);
+        accepted += usize::from(!line.outcome.starts_with("refusal"));
     }
-    assert!(accepted > 50);
+    assert!(accepted > 100);
 }
 
 /// A task with another state, another order of one block, or a changed byte; it may be refused.

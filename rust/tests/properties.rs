@@ -2,6 +2,7 @@
 
 mod memory;
 mod tables;
+mod weight_zero;
 
 use campaign::answer::{Answer, Head, Reason};
 use campaign::engine::{Engine, REFERENCE};

@@ -97,13 +97,13 @@ fn every_command_on_every_example() {
 
 #[test]
 fn answers_that_no_example_has() {
-    assert!(check_sessions(ANSWERS) >= 23);
+    assert!(check_sessions(ANSWERS) >= 32);
 }
 
 /// 13 and 14 never come up, and 1 needs a long table.
 #[test]
 fn refusals_are_explained() {
-    assert!(check_sessions(REFUSALS) >= 50);
+    assert!(check_sessions(REFUSALS) >= 80);
     for number in [2, 3, 4, 5, 6, 7, 8, 9, 10, 11, 12, 15] {
         assert!(
             REFUSALS.contains(&format!("refusal {number} place ")),

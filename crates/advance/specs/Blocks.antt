@@ -9,7 +9,7 @@ use lib.Dec.{leb·zero}
 use lib.ListN.{length, getD, set, length-append}
 use borrow.Author.Tests.{leb-false, ltb-false}
 use Rattle.model.specs.Lists.{all, any, anyBelow}
-use Rattle.model.specs.Task.{Block}
+use Rattle.model.specs.Task.{kept, Block}
 use Rattle.model.specs.Task as task
 use Rattle.model.specs.Circle.{itemEdge}
 use Rattle.model.specs.Command.{Command, head, openMove, openGoal, endTable, unknown, width, Place, start, preamble, inMove, inGoal, finished, inPlace}
@@ -72,7 +72,7 @@ module _ {t : List ℕ} {c : Cursor} {nd ch af : List ℕ} {es : List Bool} {mk 
       → Drawn (closed q ms b) es
       → c .marked < 66
       → Tracks t (markCursor c p o n) nd ch af es (set mk (c .marked) (c .at)) (withMark s q ms b)
-  unfolding markCursor withMark headOf all any anyBelow
+  unfolding markCursor withMark headOf all any anyBelow kept
   mark-tracks p q o n ms b e elsewhere ho hc a d f g room =
       record {
         at = ap (λ (x : ℕ). x + 1) (h .at);
@@ -206,7 +206,7 @@ module _ {t : List ℕ} {c : Cursor} {nd ch af : List ℕ} {es : List Bool} {mk 
       (f : Form) (a b d : ℕ) (s : Seen) → a ≡ byteAfter t s 1 → b ≡ byteAfter t s 2 → d ≡ byteAfter t s 3
       → s ≡ nothingSeen → Tracks t c nd ch af es mk s
       → Tracks t (headCursor c f a b d) nd ch af es mk (withHead t s (formOf f))
-  unfolding headCursor withHead headOf placeOf opened closed all any anyBelow
+  unfolding headCursor withHead headOf placeOf opened closed all any anyBelow kept
   head-tracks f a b d s ea eb ed e h =
       record {
         at = ap (λ (x : ℕ). x + width (head (formOf f))) (h .at);

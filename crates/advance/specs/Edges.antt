@@ -2,11 +2,13 @@
 use Prim.Native.Nat.{ℕ, zero, suc, _+_, _*_, _<_}
 use native.Mathlib.Omega.{arith}
 use mathlib.Core.Path.{_≡_, refl, sym, ap, _∙_}
-use mathlib.Core.Bool.{Bool, true, false, _&&_, _||_}
+use mathlib.Core.Bool.{Bool, true, false, _&&_, _||_, not}
 use mathlib.Core.List.{List, [], _∷_, _++_}
 use lib.Dec.{T, eqb, eqb→eq, eqb-refl}
-use lib.ListN.{length, getD, set, replicate, length-set, length-replicate, getD-replicate}
+use lib.IntN.{natAbs}
+use lib.ListN.{length, getD, set, take, drop, replicate, length-set, length-replicate, getD-replicate}
 use lib.Seq.{getD-set-same, getD-set-other}
+use Rattle.integer.specs.BigEndian.{signed}
 use Rattle.model.specs.Command.{Place, start, preamble, inMove, inGoal, finished}
 use Rattle.model.specs.Lists.{any, anyBelow}
 use Rattle.model.specs.Task.{Item, Block}
@@ -28,31 +30,56 @@ drawn-none =
 
 -- ---- the edges of one effect: from the variables of the n terms from `from` on to v
 
+-- whether the term at offset `at` has weight 0
+unfoldable pub weightless : List ℕ → ℕ → Bool
+weightless t at = eqb (natAbs (signed (take 2 (drop (at + 2) t)))) 0
+
+-- the edge of one term: "It makes no := edge"
+unfoldable pub drawTerm : List ℕ → ℕ → ℕ → List Bool → List Bool
+drawTerm t at v es = elim (weightless t at) [ true ↦ es | false ↦ set es (getD t (at + 1) 0 * 32 + v) true ]
+
+module _ (t : List ℕ) (at v : ℕ) (es : List Bool) where
+  pub draw-weightless : weightless t at ≡ true → es ≡ drawTerm t at v es
+  unfolding drawTerm
+  draw-weightless e = rw (drawTerm, e) refl
+
+  pub draw-weight : weightless t at ≡ false → set es (getD t (at + 1) 0 * 32 + v) true ≡ drawTerm t at v es
+  unfolding drawTerm
+  draw-weight e = rw (drawTerm, e) refl
+
 unfoldable pub draw : List ℕ → ℕ → ℕ → ℕ → List Bool → List Bool
 draw t from v zero es = es
-draw t from v (suc n) es = set (draw t from v n es) (getD t (from + 4 * n + 1) 0 * 32 + v) true
+draw t from v (suc n) es = drawTerm t (from + 4 * n) v (draw t from v n es)
 
 unfoldable pub sourceIs : List ℕ → ℕ → ℕ → ℕ → Bool
-sourceIs t from u i = eqb (getD t (from + 4 * i + 1) 0) u
+sourceIs t from u i = not (weightless t (from + 4 * i)) && eqb (getD t (from + 4 * i + 1) 0) u
 
 pub length-draw : (t : List ℕ) (from v n : ℕ) (es : List Bool) → length (draw t from v n es) ≡ length es
-unfolding draw
+unfolding draw drawTerm
 length-draw t from v zero es = refl
-length-draw t from v (suc n) es = length-set (draw t from v n es) (getD t (from + 4 * n + 1) 0 * 32 + v) true ∙ length-draw t from v n es
+length-draw t from v (suc n) es = last (weightless t (from + 4 * n)) (length-draw t from v n es)
+  where
+    before : List Bool
+    before = draw t from v n es
+
+    edge : ℕ
+    edge = getD t (from + 4 * n + 1) 0 * 32 + v
+
+    last : (b : Bool) → length before ≡ length es → length {A = Bool} (elim b [ true ↦ before | false ↦ set before edge true ]) ≡ length es
+    last true ih = ih
+    last false ih = length-set before edge true ∙ ih
 
 module _ (t : List ℕ) (from v : ℕ) (es : List Bool) (size : length es ≡ 1024) (hv : v < 32) where
   pub draw-at :
       (n : ℕ) → ((i : ℕ) → i < n → getD t (from + 4 * i + 1) 0 < 32) → (u w : ℕ) → u < 32 → w < 32
       → tableEdge (draw t from v n es) u w ≡ (tableEdge es u w || (eqb v w && anyBelow (sourceIs t from u) n))
-  unfolding draw anyBelow sourceIs tableEdge
+  unfolding draw drawTerm anyBelow sourceIs tableEdge
   draw-at zero hs u w hu hw = sym (ap (λ (b : Bool). tableEdge es u w || b) (none (eqb v w)) ∙ or-false (tableEdge es u w))
     where
       none : (a : Bool) → (a && false) ≡ false
       none true = refl
       none false = refl
-  draw-at (suc n) hs u w hu hw =
-      T-cases (eqb v w && eqb x u) (λ h. hit (eqb→eq v w (and-left (eqb v w) (eqb x u) h)) (eqb→eq x u (and-right (eqb v w) (eqb x u) h)))
-      (λ h. miss h (draw-at n (λ i l. hs i (omega arith)) u w hu hw))
+  draw-at (suc n) hs u w hu hw = last (weightless t (from + 4 * n)) (draw-at n (λ i l. hs i (omega arith)) u w hu hw)
     where
       x : ℕ
       x = getD t (from + 4 * n + 1) 0
@@ -60,12 +87,16 @@ module _ (t : List ℕ) (from v : ℕ) (es : List Bool) (size : length es ≡ 10
       before : List Bool
       before = draw t from v n es
 
+      seen : Bool
+      seen = anyBelow (λ i. not (weightless t (from + 4 * i)) && eqb (getD t (from + 4 * i + 1) 0) u) n
+
       inside : x * 32 + v < length before
       inside = omega (arith, length-draw t from v n es, size, hs n (omega arith))
 
-      hit : v ≡ w → x ≡ u → getD (set before (x * 32 + v) true) (u * 32 + w) false ≡ (getD es (u * 32 + w) false || (eqb v w && (anyBelow (λ i. eqb (getD t (from + 4 * i + 1) 0) u) n || eqb x u)))
-      hit e f =
-          rw (← e, ← f, getD-set-same before (x * 32 + v) true false inside, T-true (eqb v v) (eqb-refl v), T-true (eqb x x) (eqb-refl x), or-true (anyBelow (λ i. eqb (getD t (from + 4 * i + 1) 0) x) n))
+      hit : T (eqb v w) → T (eqb x u) → getD (set before (x * 32 + v) true) (u * 32 + w) false ≡ (getD es (u * 32 + w) false || (eqb v w && (seen || eqb x u)))
+      hit a b =
+          let spot : u * 32 + w ≡ x * 32 + v = omega (arith, eqb→eq v w a, eqb→eq x u b) in
+          rw (spot, getD-set-same before (x * 32 + v) true false inside, T-true (eqb v w) a, T-true (eqb x u) b, or-true seen)
           (sym (or-true (getD es (x * 32 + v) false)))
 
       apart : (T (eqb v w && eqb x u) → ⊥) → u * 32 + w ≡ x * 32 + v → ⊥
@@ -81,11 +112,21 @@ module _ (t : List ℕ) (from v : ℕ) (es : List Bool) (size : length es ≡ 10
 
       miss :
           (T (eqb v w && eqb x u) → ⊥)
-          → getD before (u * 32 + w) false ≡ (getD es (u * 32 + w) false || (eqb v w && anyBelow (λ i. eqb (getD t (from + 4 * i + 1) 0) u) n))
-          → getD (set before (x * 32 + v) true) (u * 32 + w) false ≡ (getD es (u * 32 + w) false || (eqb v w && (anyBelow (λ i. eqb (getD t (from + 4 * i + 1) 0) u) n || eqb x u)))
+          → getD before (u * 32 + w) false ≡ (getD es (u * 32 + w) false || (eqb v w && seen))
+          → getD (set before (x * 32 + v) true) (u * 32 + w) false ≡ (getD es (u * 32 + w) false || (eqb v w && (seen || eqb x u)))
       miss h ih =
           rw (getD-set-other before (x * 32 + v) (u * 32 + w) true false (apart h))
-          (ih ∙ ap (λ (b : Bool). getD es (u * 32 + w) false || b) (drop-last (eqb v w) (anyBelow (λ i. eqb (getD t (from + 4 * i + 1) 0) u) n) (eqb x u) h))
+          (ih ∙ ap (λ (b : Bool). getD es (u * 32 + w) false || b) (drop-last (eqb v w) seen (eqb x u) h))
+
+      last :
+          (b : Bool)
+          → getD before (u * 32 + w) false ≡ (getD es (u * 32 + w) false || (eqb v w && seen))
+          → getD (elim b [ true ↦ before | false ↦ set before (x * 32 + v) true ]) (u * 32 + w) false
+          ≡ (getD es (u * 32 + w) false || (eqb v w && (seen || (not b && eqb x u))))
+      last true ih = ih ∙ ap (λ (b : Bool). getD es (u * 32 + w) false || (eqb v w && b)) (sym (or-false seen))
+      last false ih =
+          T-cases (eqb v w && eqb x u) (λ h. hit (and-left (eqb v w) (eqb x u) h) (and-right (eqb v w) (eqb x u) h))
+          (λ h. miss h ih)
 
 -- the edges of an effect of this kind: := alone draws them
 unfoldable pub drawKind : ℕ → List ℕ → ℕ → ℕ → ℕ → List Bool → List Bool

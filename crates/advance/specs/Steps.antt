@@ -9,7 +9,7 @@ use mathlib.Core.Option.{some}
 use lib.Dec.{T, leb·zero}
 use lib.ListN.{length, length-append}
 use Rattle.model.specs.Lists.{all, any, anyBelow}
-use Rattle.model.specs.Task.{Item, Block}
+use Rattle.model.specs.Task.{kept, Item, Block}
 use Rattle.model.specs.Circle.{itemEdge}
 use Rattle.model.specs.Command.{Command, Place, start, preamble, inMove, inGoal, finished, inPlace}
 use Rattle.model.specs.Reading.{Seen, closed, withItem, advance}
@@ -83,7 +83,7 @@ module _ {t : List ℕ} {c : Cursor} {nd ch af : List ℕ} {es : List Bool} {mk 
       → Stamped affects 32 (c .stamp) (s .items ++ (i ∷ [])) af′
       → Drawn (closed (s .place) (s .moves) (s .items ++ (i ∷ []))) es′
       → Tracks t (itemCursor c n) nd′ ch′ af′ es′ mk (withItem s n (some i))
-  unfolding itemCursor withItem headOf all any anyBelow
+  unfolding itemCursor withItem headOf all any anyBelow kept
   item-tracks n i elsewhere a b d e =
       record {
         at = ap (λ (x : ℕ). x + n) (h .at);

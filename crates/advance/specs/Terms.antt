@@ -6,12 +6,13 @@ use mathlib.Core.Path.{_≡_, refl, sym, ap, ap₂, _∙_, subst}
 use mathlib.Core.Bool.{Bool, true, false, _&&_, _||_, not}
 use mathlib.Core.List.{List, [], _∷_, _++_}
 use lib.Dec.{eqb, leb, ltb, leb→le, le→leb, ltb→lt, lt→ltb}
-use lib.IntN.{ℤ}
-use lib.ListN.{getD, length-append}
+use lib.IntN.{ℤ, natAbs}
+use lib.ListN.{getD, take, drop, length-append}
 use borrow.Author.Tests.{leb-false, leb-true}
+use Rattle.integer.specs.BigEndian.{signed}
 use Rattle.model.specs.Limits.{paper}
-use Rattle.model.specs.Lists.{all, anyBelow}
-use Rattle.model.specs.Task.{Term}
+use Rattle.model.specs.Lists.{all, any, anyBelow}
+use Rattle.model.specs.Task.{Term, kept}
 use Rattle.model.specs.Command.{term, width, inPlace}
 use Rattle.model.specs.Reading.{Seen, byteAfter, numberAfter, termAt, withTerm, advance}
 use Rattle.model.specs.Theorems.Laws.Booleans.{T-equal, and-right, and-both}
@@ -20,8 +21,8 @@ use Rattle.model.specs.Theorems.Reading.Commands.{width-positive}
 use Rattle.cursor.specs.declared.Cursor.{Cursor}
 use Rattle.cursor.specs.State.{termCursor, sourceAt, Valid, repeated, Passed}
 use Rattle.cursor.specs.Passing.{term-range}
-use Rattle.advance.specs.Stamps.{any-snoc}
-use Rattle.advance.specs.Edges.{sourceIs}
+use Rattle.advance.specs.Stamps.{or-false, or-assoc}
+use Rattle.advance.specs.Edges.{weightless, sourceIs}
 use Rattle.advance.specs.Marks.{marks-later}
 use Rattle.advance.specs.Tracks.{headOf, openFrom, Tracks}
 use Rattle.advance.specs.Steps.{Advanced, impossible, elsewhere}
@@ -38,6 +39,30 @@ all-snoc f (y ∷ xs) x = ap (λ (b : Bool). f y && b) (all-snoc f xs x) ∙ go 
     go : (a b d : Bool) → (a && (b && d)) ≡ (a && b && d)
     go true b d = refl
     go false b d = refl
+
+-- one term more among those that are kept
+any-kept-snoc :
+    (f : Term → Bool) (ts : List Term) (t : Term)
+    → any f (kept (ts ++ (t ∷ []))) ≡ (any f (kept ts) || (not (eqb (natAbs (t .weight)) 0) && f t))
+unfolding any kept
+any-kept-snoc f [] t = go (eqb (natAbs (t .weight)) 0)
+  where
+    go : (b : Bool) → any f (elim b [ true ↦ [] | false ↦ t ∷ [] ]) ≡ (not b && f t)
+    go true = refl
+    go false = or-false (f t)
+any-kept-snoc f (u ∷ ts) t = go (eqb (natAbs (u .weight)) 0) (any-kept-snoc f ts t)
+  where
+    rest : List Term
+    rest = kept (ts ++ (t ∷ []))
+
+    last : Bool
+    last = not (eqb (natAbs (t .weight)) 0) && f t
+
+    go :
+        (b : Bool) → any f rest ≡ (any f (kept ts) || last)
+        → any f (elim b [ true ↦ rest | false ↦ u ∷ rest ]) ≡ (any f (elim b [ true ↦ kept ts | false ↦ u ∷ kept ts ]) || last)
+    go true ih = ih
+    go false ih = ap (λ (b : Bool). f u || b) ih ∙ sym (or-assoc (f u) (any f (kept ts)) last)
 
 -- rising: what may follow next, and then x
 next-after : (next x y : ℕ) → next ≤ x → (leb next y && ltb x y) ≡ leb (x + 1) y
@@ -85,9 +110,9 @@ module _ {t : List ℕ} {c : Cursor} (v : Valid t c) where
       last : (i : ℕ) → i ≡ c .terms → c .at + 1 ≡ c .at + 4 - 4 * (c .terms + 1) + 4 * i + 1
       last i m = omega (arith, v .behind)
 
-  term-tracks : {nd ch af : List ℕ} {es : List Bool} {mk : List ℕ} (p : ℕ) (s : Seen) → Passed t c nd ch af term → p ≡ getD t (c .at + 1) 0 → Tracks t c nd ch af es mk s → (z : ℤ) → Tracks t (termCursor c p) nd ch af es mk (withTerm s (record { var = p; weight = z }))
+  term-tracks : {nd ch af : List ℕ} {es : List Bool} {mk : List ℕ} (p : ℕ) (s : Seen) → Passed t c nd ch af term → p ≡ getD t (c .at + 1) 0 → Tracks t c nd ch af es mk s → (z : ℤ) → z ≡ signed (take 2 (drop (c .at + 2) t)) → Tracks t (termCursor c p) nd ch af es mk (withTerm s (record { var = p; weight = z }))
   unfolding termCursor withTerm headOf width
-  term-tracks p s k e h z =
+  term-tracks p s k e h z weight =
       record {
         at = ap (λ (x : ℕ). x + 4) (h .at);
         place = h .place;
@@ -96,7 +121,7 @@ module _ {t : List ℕ} {c : Cursor} (v : Valid t c) where
         closes = h .closes;
         terms = ap (λ (x : ℕ). x + 1) (h .terms) ∙ sym (length-append (s .terms) (record { var = p; weight = z } ∷ []) ∙ omega arith);
         rising = λ x. all-snoc (λ (u : Term). ltb (u .var) x) (s .terms) (record { var = p; weight = z }) ∙ ap (λ (b : Bool). b && ltb p x) (h .rising x) ∙ next-after (c .next) p x (omega (arith, term-fresh k .0));
-        sources = λ u. any-snoc (λ (x : Term). eqb (x .var) u) (s .terms) (record { var = p; weight = z }) ∙ ap₂ _||_ (h .sources u) (here u) ∙ (rw (same-from p, add-one (c .terms)) (unfold anyBelow in refl));
+        sources = λ u. any-kept-snoc (λ (x : Term). eqb (x .var) u) (s .terms) (record { var = p; weight = z }) ∙ ap₂ _||_ (h .sources u) (here u) ∙ (rw (same-from p, add-one (c .terms)) (unfold anyBelow in refl));
         needed = h .needed;
         changed = h .changed;
         affected = h .affected;
@@ -106,11 +131,13 @@ module _ {t : List ℕ} {c : Cursor} (v : Valid t c) where
         begins = λ f. absurd (elsewhere h term (unfold inPlace in refl) (k .placed) f);
       }
     where
-      spot : c .at + 1 ≡ openFrom c + 4 * c .terms + 1
+      spot : c .at ≡ openFrom c + 4 * c .terms
       spot = omega (arith, v .behind)
 
-      here : (u : ℕ) → eqb p u ≡ sourceIs t (openFrom c) u (c .terms)
-      here u = unfold sourceIs in ap (λ (x : ℕ). eqb x u) (e ∙ ap (λ (x : ℕ). getD t x 0) spot)
+      here : (u : ℕ) → (not (eqb (natAbs z) 0) && eqb p u) ≡ sourceIs t (openFrom c) u (c .terms)
+      here u =
+          unfold sourceIs weightless in
+          (rw (weight, e) (ap (λ (x : ℕ). not (eqb (natAbs (signed (take 2 (drop (x + 2) t)))) 0) && eqb (getD t (x + 1) 0) u) spot))
 
   pub advance-term :
       {nd ch af : List ℕ} {es : List Bool} {mk : List ℕ} (p : ℕ) {r : Cursor} → Passed t c nd ch af term → p ≡ getD t (c .at + 1) 0 → r ≡ termCursor c p
@@ -122,5 +149,5 @@ module _ {t : List ℕ} {c : Cursor} (v : Valid t c) where
         valid = term-valid p k e;
         moved = unfold termCursor in omega (arith, width-positive term);
         tracks = λ s h.
-            subst (λ (x : ℕ). Tracks t (termCursor c p) nd ch af es mk (withTerm s (record { var = x; weight = numberAfter 2 t s 2 }))) (e ∙ ap (λ (x : ℕ). getD t (x + 1) 0) (h .at)) (term-tracks p s k e h (numberAfter 2 t s 2));
+            subst (λ (x : ℕ). Tracks t (termCursor c p) nd ch af es mk (withTerm s (record { var = x; weight = numberAfter 2 t s 2 }))) (e ∙ ap (λ (x : ℕ). getD t (x + 1) 0) (h .at)) (term-tracks p s k e h (numberAfter 2 t s 2) (unfold numberAfter in ap (λ (x : ℕ). signed (take 2 (drop (x + 2) t))) (sym (h .at))));
       })

@@ -10,7 +10,7 @@ use lib.ListN.{length, getD}
 use Rattle.model.specs.declared.Refusal.{Refusal}
 use Rattle.model.specs.Limits.{Limits, paper}
 use Rattle.model.specs.Lists.{all, any, anyBelow}
-use Rattle.model.specs.Task.{Term}
+use Rattle.model.specs.Task.{Term, kept}
 use Rattle.model.specs.Command.{Command, head, openMove, openGoal, endTable, needProp, addProp, deleteProp, term, closeCondition, closeEffect, unknown, width, start}
 use Rattle.model.specs.Reading.{Wanted, Head, Seen, nothingSeen, byteAfter, numberAfter, itemAt, firstWrong, operands, leavesOpen, wrong3, wrong2, opened, wrong6, namedAgain, wrong5, refusedAt, refusedOperand, firstRefusal, refusal, closed}
 use Rattle.cursor.specs.declared.Cursor.{Cursor}
@@ -38,7 +38,7 @@ pub record Tracks (t : List ℕ) (c : Cursor) (nd ch af : List ℕ) (es : List B
   pub closes : c .opened ≡ length (closed (s .place) (s .moves) (s .items))
   pub terms : c .terms ≡ length (s .terms)
   pub rising : (v : ℕ) → all (λ (u : Term). ltb (u .var) v) (s .terms) ≡ leb (c .next) v
-  pub sources : (u : ℕ) → any (λ (x : Term). eqb (x .var) u) (s .terms) ≡ anyBelow (sourceIs t (openFrom c) u) (c .terms)
+  pub sources : (u : ℕ) → any (λ (x : Term). eqb (x .var) u) (kept (s .terms)) ≡ anyBelow (sourceIs t (openFrom c) u) (c .terms)
   pub needed : Stamped needs 120 (c .stamp) (s .items) nd
   pub changed : Stamped changes 120 (c .stamp) (s .items) ch
   pub affected : Stamped affects 32 (c .stamp) (s .items) af

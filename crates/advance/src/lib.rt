@@ -4,7 +4,7 @@ ghost use Prim.Native.Nat.{ℕ, _+_, _*_, _^_, _<_, _≤_};
 ghost use lib.ListN.{length, getD};
 ghost use Rattle.command.specs.Names.{commandIs};
 ghost use Rattle.cursor.specs.State.{Valid, Passed, headCursor, markCursor, termCursor, itemCursor};
-ghost use Rattle.advance.specs.Edges.{drawKind};
+ghost use Rattle.advance.specs.Edges.{drawTerm, drawKind};
 ghost use Rattle.advance.specs.Steps.{Advanced};
 use command::Command;
 use command::Form;
@@ -74,6 +74,18 @@ fn with_item(mut c: Cursor, width: usize) -> Cursor
     c
 }
 
+// The edge of the term at `at`, to `var`; of weight 0, "It makes no := edge".
+fn draw_term(table: &[u8], at: usize, var: usize, edges: &mut [bool; 1024])
+    requires { ⌜ (at + 4 ≤ length (now table)) × (var < 32) × (getD (now table) (at + 1) 0 < 32) ⌝ }
+    ensures { λ r. ⌜ now (edges .exit) ≡ drawTerm (now (table .entry)) at var (now (edges .entry)) ⌝ }
+{
+    if integer::is_zero(integer::i16_at(table, at + 2)) {
+        return;
+    }
+    let source = operand::byte(table, at + 1);
+    edges[source * 32 + var] = true;
+}
+
 // "Draw an edge from u to v if u is in the sum of a := effect on v": the sum's `n` terms stand from `from` on.
 fn draw(table: &[u8], from: usize, var: usize, n: usize, kind: usize, edges: &mut [bool; 1024])
     requires { ⌜ (from + 4 * n ≤ length (now table)) × (var < 32) × ((i : ℕ) → i < n → getD (now table) (from + 4 * i + 1) 0 < 32) ⌝ }
@@ -84,8 +96,7 @@ fn draw(table: &[u8], from: usize, var: usize, n: usize, kind: usize, edges: &mu
     }
     let mut i = 0;
     while i < n {
-        let source = operand::byte(table, from + 4 * i + 1);
-        edges[source * 32 + var] = true;
+        draw_term(table, from + 4 * i, var, edges);
         i += 1;
     }
 }

@@ -11,6 +11,7 @@ use Rattle.integer.specs.Linear.{zlin, natAbs-split}
 use Rattle.model.specs.Limits.{paper, largestValue}
 use Rattle.model.specs.Task.{Form, written, normal, Term, Condition, Effect, Item, need, add, delete, condition, effect, Block, termsOf}
 use Rattle.model.specs.Command.{term, codeOf, comparisonCode, kindCode, termBytes, itemsBytes}
+use Rattle.model.specs.Theorems.Printing.Operands.{weight-size}
 use Rattle.model.specs.Theorems.Printing.Items.{itemCommand, itemOperands, item-parts}
 use Rattle.model.specs.Theorems.Reading.WellFormed.{All, WeightOk, SumOk, BoundOk, ConditionOk, EffectOk, ItemOk}
 use Rattle.block.specs.Bytes.{At, at-same, at-place, at-head, at-behind, at-tail, at-room, at-signed, at-length}
@@ -74,7 +75,7 @@ first-parts i b = rw (item-parts i, append-assoc (termBytes (termsOf i)) (closin
 unfoldable pub firstTerm : Term → List ℕ
 firstTerm t = codeOf term ∷ t .var ∷ signedBytes 2 (t .weight)
 
-firstTerm-length : (t : Term) → length (firstTerm t) ≡ 4
+pub firstTerm-length : (t : Term) → length (firstTerm t) ≡ 4
 unfolding firstTerm
 firstTerm-length t = omega (arith, length-signedBytes 2 (t .weight))
 
@@ -196,8 +197,7 @@ base-small ok = ok .base
 
 pub weight-small : (f : Form) (w : ℤ) → WeightOk paper f w → natAbs w ≤ 1000
 unfolding paper
-weight-small written w ok = ok .1
-weight-small normal w ok = ok .1
+weight-small f w ok = weight-size paper f w ok
 
 -- ---- a term
 

@@ -12,7 +12,7 @@ use Rattle.model.specs.Reading.{comparisonOf, kindOf}
 use Rattle.model.specs.Theorems.Printing.Operands.{comparison-back, kind-back}
 use Rattle.block.specs.Bytes.{At, at-length}
 use Rattle.block.specs.Items.{Ranges, Left, Readable, readable, left-end, Followed, ConditionIs, EffectIs, ConditionFound, EffectFound, Found, behind, Next}
-use Rattle.block.specs.Sums.{code-small, few-terms}
+use Rattle.block.specs.Sums.{code-small}
 use Rattle.block.specs.Terms.{SumAt, termsAt, terms-read}
 use Rattle.block.specs.declared.ItemAt.{ItemAt}
 use Rattle.block.specs.declared.ItemAt.the-variants.{Need, Add, Delete, Condition as ConditionAt, Effect as EffectAt, End}
@@ -33,14 +33,12 @@ pub record ConditionWritable (part : List ℕ) (o : ℕ) (c : ℤ) (from n : ℕ
   pub sum : SumAt part from n
   pub comparison : o ≤ 4
   pub bound : natAbs c ≤ 1_000_000
-  pub few : n ≤ 8
 
 pub record EffectWritable (part : List ℕ) (kd v : ℕ) (c : ℤ) (from n : ℕ) : Type 0 where
   pub sum : SumAt part from n
   pub kind : kd ≤ 2
   pub var : v < 16
   pub base : natAbs c ≤ 1_000_000
-  pub few : n ≤ 8
 
 abbrev pub Writable : List ℕ → ItemAt → Type 0
 Writable part (Need p next) = p < 256
@@ -108,7 +106,6 @@ module _ {part : List ℕ} {at : ℕ} {rest : Block} (r : Remaining part at rest
               sum = record { ranges = ranges; few = r .few-vars; ts = f .it .terms; terms = f .is .terms };
               comparison = omega (arith, f .is .comparison, code-small (f .it .comparison));
               bound = subst (λ (z : ℤ). natAbs z ≤ 1_000_000) (f .is .bound) (f .followed .ok .bound);
-              few = few-terms (f .is .terms);
             };
       }
 
@@ -125,7 +122,6 @@ module _ {part : List ℕ} {at : ℕ} {rest : Block} (r : Remaining part at rest
               kind = omega (arith, f .is .kind, kind-small (f .it .kind));
               var = omega (arith, f .var, f .followed .ok .var, r .few-vars);
               base = subst (λ (z : ℤ). natAbs z ≤ 1_000_000) (f .is .base) (f .followed .ok .base);
-              few = few-terms (f .is .terms);
             };
       }
 

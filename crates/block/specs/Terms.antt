@@ -22,6 +22,30 @@ unfolding termsAt
 length-terms part from zero = refl
 length-terms part from (suc n) = ap suc (length-terms part (from + 4) n)
 
+-- the terms from term i on: first all of them, then the next one and those behind it, at last none
+module _ (part : List ℕ) (from n : ℕ) where
+  pub rest-all : termsAt part (from + 4 * 0) (n - 0) ≡ termsAt part from n
+  rest-all =
+      let f : from + 4 * 0 ≡ from = omega arith in
+      let g : n - 0 ≡ n = omega arith in
+      rw (f, g) refl
+
+  pub rest-next :
+      (i : ℕ) → i < n
+      → termsAt part (from + 4 * i) (n - i) ≡ termOf part (from + 4 * i) ∷ termsAt part (from + 4 * (i + 1)) (n - (i + 1))
+  unfolding termsAt
+  rest-next i h =
+      let k : n - i ≡ suc (n - (i + 1)) = omega arith in
+      let j : from + 4 * i + 4 ≡ from + 4 * (i + 1) = omega arith in
+      ap (termsAt part (from + 4 * i)) k
+      ∙ ap (λ (a : ℕ). termOf part (from + 4 * i) ∷ termsAt part a (n - (i + 1))) j
+
+  pub rest-none : (i : ℕ) → n ≤ i → termsAt part (from + 4 * i) (n - i) ≡ []
+  unfolding termsAt
+  rest-none i h =
+      let e : n - i ≡ 0 = omega arith in
+      ap (termsAt part (from + 4 * i)) e
+
 -- they are the terms that stand there
 pub terms-read : {k : Ranges} {part : List ℕ} {from n : ℕ} {ts : List Term} → Terms k part from n ts → termsAt part from n ≡ ts
 unfolding termsAt termOf
@@ -54,6 +78,11 @@ sum-behind {part} {from} {n} i s h = go i from n (s .ts) (s .terms) h
         let r = go j (at + 4) (m - 1) (f .others) (terms-behind (f .terms) (m - 1) (omega arith)) (omega arith) in
         record { ranges = r .ranges; few = r .few; ts = r .ts; terms = terms-place (r .terms) (omega arith) (omega arith) }
 
+-- a weight that is read is that of the term
+pub weight-read : {part : List ℕ} {at : ℕ} {w : ℤ} → TermAt part at → IsWeight part at w → w ≡ termOf part at .weight
+unfolding termOf
+weight-read h q = q .is (h .ranges) (h .n) (h .first) (h .others) (h .terms) ∙ sym (term-weight (h .terms))
+
 -- its first term
 module _ {part : List ℕ} {at n : ℕ} (s : SumAt part at n) (h : 0 < n) where
   pub sum-term : TermAt part at
@@ -67,7 +96,4 @@ module _ {part : List ℕ} {at n : ℕ} (s : SumAt part at n) (h : 0 < n) where
       (e ∙ sym (term-var (f .terms)), omega (arith, term-var-small (f .terms), s .few))
 
   pub term-weighs : {w : ℤ} → IsWeight part at w → w ≡ termOf part at .weight
-  unfolding termOf
-  term-weighs q =
-      let f = first-of (s .terms) h in
-      q .is (s .ranges) n (f .first) (f .others) (f .terms) ∙ sym (term-weight (f .terms))
+  term-weighs q = weight-read sum-term q

@@ -4,6 +4,7 @@ ghost use mathlib.Core.Path.{_≡_};
 ghost use Prim.Native.Nat.{_+_, _*_, _^_, _<_, _≤_};
 ghost use lib.ListN.{length, take, drop};
 ghost use lib.IntN.{negℤ, natAbs, _+ℤ_, _-ℤ_, _*ℤ_};
+ghost use lib.Dec.{eqb};
 ghost use lib.Signed.{ltZ, leZ};
 ghost use Rattle.integer.specs.Linear.{larger};
 ghost use Rattle.integer.specs.Ceiling.{ceiling};
@@ -65,6 +66,13 @@ pub fn at_most(a: i64, b: i64) -> bool
     ensures { λ r. ⌜ r ≡ leZ a b ⌝ }
 {
     a <= b
+}
+
+// Is it 0?
+pub fn is_zero(z: i64) -> bool
+    ensures { λ r. ⌜ r ≡ eqb (natAbs z) 0 ⌝ }
+{
+    z == 0
 }
 
 // The larger of the two.

@@ -4,21 +4,21 @@ use Prim.Native.Nat.{ℕ, zero, suc}
 use mathlib.Core.Bool.{Bool, true, false, _&&_}
 use lib.Dec.{T, eqb}
 use Rattle.model.specs.Lists.{any, anyBelow}
-use Rattle.model.specs.Task.{Kind, assign, increase, decrease, Item, need, add, delete, condition, effect, Task}
+use Rattle.model.specs.Task.{kept, Kind, assign, increase, decrease, Item, need, add, delete, condition, effect, Task}
 
 unfoldable pub isAssign : Kind → Bool
 isAssign assign = true
 isAssign increase = false
 isAssign decrease = false
 
+-- "Draw an edge from u to v if u is in the sum of a := effect on v"; of weight 0, "It makes no := edge"
 unfoldable pub itemEdge : ℕ → ℕ → Item → Bool
 itemEdge u v (need p) = false
 itemEdge u v (add p) = false
 itemEdge u v (delete p) = false
 itemEdge u v (condition c) = false
-itemEdge u v (effect e) = isAssign (e .kind) && eqb (e .var) v && any (λ t. eqb (t .var) u) (e .terms)
+itemEdge u v (effect e) = isAssign (e .kind) && eqb (e .var) v && any (λ t. eqb (t .var) u) (kept (e .terms))
 
--- "Draw an edge from u to v if u is in the sum of a := effect on v"
 unfoldable pub edge : Task → ℕ → ℕ → Bool
 edge k u v = any (λ m. any (itemEdge u v) m) (k .moves)
 

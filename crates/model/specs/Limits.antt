@@ -46,9 +46,9 @@ unfoldable pub varsInRange : Limits → Form → ℕ → Bool
 varsInRange L written n = leb n (L .vars)
 varsInRange L normal n = leb n (2 * L .vars) && eqb (n % 2) 0
 
--- "Written: weights −1000..1000 except 0"; "Normal: weights 1..1000"
+-- "Written: weights −1000..1000", 0 among them: "Refusal 4 no longer covers it; normal tables still begin at weight 1"
 unfoldable pub weightInRange : Limits → Form → ℤ → Bool
-weightInRange L written w = leb 1 (natAbs w) && leb (natAbs w) (L .weight)
+weightInRange L written w = leb (natAbs w) (L .weight)
 weightInRange L normal w = leZ (pos 1) w && leb (natAbs w) (L .weight)
 
 -- "o is 0 ≥, 1 >, 2 ≤, 3 <, 4 ="; "k is 0 := , 1 += , 2 −="; "Normal: .. o only 0, k only 0 or 1"

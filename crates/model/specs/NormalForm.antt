@@ -6,7 +6,7 @@ use mathlib.Core.List.{List, [], _∷_, _++_, map}
 use lib.Dec.{eqb}
 use lib.IntN.{ℤ, pos, negℤ, _+ℤ_, _-ℤ_}
 use lib.Signed.{ltZ}
-use Rattle.model.specs.Task.{Term, Comparison, atLeast, above, atMost, below, equal, Kind, assign, increase, decrease, Item, need, add, delete, condition, effect, Block, Task}
+use Rattle.model.specs.Task.{Term, kept, Comparison, atLeast, above, atMost, below, equal, Kind, assign, increase, decrease, Item, need, add, delete, condition, effect, Block, Task}
 use Rattle.model.specs.Move.{State}
 
 -- −S
@@ -21,8 +21,9 @@ signedTerm t =
     (record { var = 2 * t .var; weight = t .weight })
     (record { var = 2 * t .var + 1; weight = negℤ (t .weight) })
 
+-- the signed terms of a sum; of weight 0, "the normal form drops it"
 unfoldable pub signedSum : List Term → List Term
-signedSum ts = map signedTerm ts
+signedSum ts = map signedTerm (kept ts)
 
 -- the normal condition S ≥ c
 unfoldable pub least : List Term → ℤ → Item

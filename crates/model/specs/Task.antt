@@ -5,7 +5,7 @@ use mathlib.Core.Bool.{Bool, true, false}
 use mathlib.Core.List.{List, [], _∷_}
 use mathlib.Core.Option.{Option, none, some}
 use lib.Dec.{eqb}
-use lib.IntN.{ℤ}
+use lib.IntN.{ℤ, natAbs}
 use Rattle.model.specs.Lists.{any}
 
 -- "54 P V A: head of a written table"; "4E P N A: head of a normal table"
@@ -16,6 +16,11 @@ pub data Form : Type 0 where
 pub record Term : Type 0 where
   pub var : ℕ
   pub weight : ℤ
+
+-- "A written term with weight 0 is to be read as no contribution": the terms that contribute, in their order
+unfoldable pub kept : List Term → List Term
+kept [] = []
+kept (t ∷ ts) = elim (eqb (natAbs (t .weight)) 0) [ true ↦ kept ts | false ↦ t ∷ kept ts ]
 
 -- "o is 0 ≥, 1 >, 2 ≤, 3 <, 4 ="
 pub data Comparison : Type 0 where

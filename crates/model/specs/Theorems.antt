@@ -4,15 +4,17 @@
 --
 -- Reading: what the checks of a table and of a state give: an accepted table is the print of its task, which is within every limit, and
 -- its marks are where its blocks begin; an accepted state is the bytes of its state; a refusal's number and place; check 7 finds a closed
--- walk exactly where there is one; a task looks at its own propositions and variables alone.
---   Accepted.reading-accepted, reading-canonical; States.state-canonical; Circles.no-circle; Agreeing.agree-solves
+-- walk exactly where there is one; its edges are the terms of weight not 0; a task looks at its own propositions and variables alone.
+--   Accepted.reading-accepted, reading-canonical; States.state-canonical; Circles.no-circle; Edges.edge-means; Agreeing.agree-solves
 --
 -- Printing: what is written is read back: a task that meets every check is accepted as that task; records and decimal digits too. What a
 -- lent output then holds.
 --   Tables.print-read-only; ReadBack.plan-read; Outputs.put-first
 --
--- NormalForm: a task and its normal form run alike, and the print of the normal form is accepted.
---   Moves.written-normal; Print.normal-accepted
+-- NormalForm: a task and its normal form run alike, and the print of the normal form is accepted; with and without its terms of weight 0 a
+-- task has the same normal form, steps and solutions; the calls answer and write the same for tables that differ only in such terms.
+--   Moves.written-normal; Print.normal-accepted; ZeroTerms.without-normal, without-solves, without-ok, filled-ok; ZeroTables.lean-accepted,
+--   lean-normalise-out, lean-step-out, same-answers, filled-accepted
 --
 -- Layers: layers rise; the outcome is the one layer that is `Reached` or `Exhausted`, within (A + N + 1) × (N + 1); "no plan" is right; what
 -- building leaves in memory.
@@ -28,10 +30,11 @@
 --   Trials; Demand2.demand2; EndToEnd.demand3; Codes
 --
 -- Pddl: the PDDL text of a table and a state: what stands in it, that its names are declared, how long it is, that the same text comes
--- from the same state, moves and goal, and that each form means what its command means, by PDDL 2.1: the plans of the text are the lists
--- that solve the table.
+-- from the same state, moves and goal, that it shows terms of weight 0, and that each form means what its command means, by PDDL 2.1: the
+-- plans of the text are the lists that solve the table.
 --   Meaning.condition-true, block-true; Changes.follows-real; Declared.text-declared; Plans.plan-solves; Text.one-text, same-one-text;
---   Sizes.text-size; Calls.text-fits, text-too-long, text-always, same-output, declared, text-plans, no-plan-text; MeaningCases; Cases
+--   Sizes.text-size; Calls.text-fits, text-too-long, text-always, same-output, declared, text-plans, no-plan-text;
+--   ZeroTerms.one-task, zero-in-move, zero-in-goal, one-table, same-plans; MeaningCases; Cases
 -- Assumes nothing.
 pub mod Laws
 pub mod Reading

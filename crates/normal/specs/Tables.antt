@@ -1,5 +1,5 @@
 -- The normal form of a whole table, block by block. Assumes nothing.
-use Prim.Native.Nat.{ℕ, suc, _+_, _*_, _≤_, _<_}
+use Prim.Native.Nat.{ℕ, _+_, _*_, _≤_, _<_}
 use native.Mathlib.Numerals.{add-one}
 use native.Mathlib.Omega.{arith}
 use mathlib.Core.Path.{_≡_, sym, ap, ap₂, _∙_}
@@ -7,19 +7,24 @@ use mathlib.Core.List.{List, [], _∷_, _++_, map, append-assoc}
 use lib.ListN.{length, getD, drop, length-append, length-map}
 use lib.Seq.{drop-cons, drop-length}
 use Rattle.model.specs.Limits.{paper}
-use Rattle.model.specs.Task.{normal, Block, Task}
+use Rattle.model.specs.Task.{written, normal, Block, Task}
 use Rattle.model.specs.Command.{head, openMove, openGoal, endTable, codeOf, itemsBytes, movesBytes, taskBytes}
 use Rattle.model.specs.Reading.{lengthLimit}
 use Rattle.model.specs.NormalForm.{normalBlock, normalTask}
 use Rattle.model.specs.Calls.{normalBytes}
-use Rattle.model.specs.Theorems.NormalForm.Print.{normal-fits}
-use Rattle.reader.specs.Written.{readTask, Source}
+use Rattle.model.specs.Theorems.NormalForm.Print.{normal-length, normal-fits, written-length}
+use Rattle.table.specs.Outlines.{HeadRead}
+use Rattle.reader.specs.Written.{readTask, Source, task-is}
 use Rattle.output.specs.Writing.{Written, written-join, written-same, Writing, writing-start, writing-rest, writing-behind, writing-step, writing-end}
 use Rattle.normal_block.specs.Blocks.{blockPrint}
 
 -- "normal 64,000 bytes at most"
 pub source-small : {t marks : List ℕ} {moves : ℕ} → Source t marks moves → length (normalBytes (readTask t)) ≤ 64_000
 source-small {t} s = normal-fits (readTask t) (unfold paper lengthLimit in (s .outline .short))
+
+-- an output of twice the table's length is long enough
+pub normal-twice : {t marks : List ℕ} {props vars moves : ℕ} → HeadRead written t marks props vars moves → length (normalBytes (readTask t)) ≤ 2 * length t
+normal-twice {t} h = rw (task-is h) (omega (arith, normal-length (h .table .task), written-length t (h .is)))
 
 -- ---- the bytes of the moves
 
@@ -54,32 +59,6 @@ normal-size k =
     (arith, ap length (normal-parts k), length-append (movesPrint (k .moves)) ((codeOf openGoal ∷ blockPrint (k .goal)) ++ (codeOf endTable ∷ [])), length-append (codeOf openGoal ∷ blockPrint (k .goal)) (codeOf endTable ∷ []))
 
 -- ---- the moves one by one
-
--- the blocks before b are counted
-pub record MovesCounting (ms : List Block) (b size : ℕ) : Type 0 where
-  pub within : b ≤ length ms
-  pub total : size + length (movesPrint (drop b ms)) ≡ length (movesPrint ms)
-
-pub moves-counted : (ms : List Block) → MovesCounting ms 0 0
-moves-counted ms = record { within = omega arith; total = omega arith }
-
-module _ {ms : List Block} {b size : ℕ} (c : MovesCounting ms b size) where
-  pub moves-count : b < length ms → {n : ℕ} → n ≡ length (blockPrint (getD ms b [])) → MovesCounting ms (b + 1) (size + (1 + n))
-  moves-count h {n} e =
-      record {
-        within = omega arith;
-        total =
-            omega
-            (arith, c .total, ap length (moves-next ms b h), length-append (codeOf openMove ∷ blockPrint (getD ms b [])) (movesPrint (drop (b + 1) ms)));
-      }
-
-  pub move-small : b < length ms → suc (size + length (blockPrint (getD ms b []))) ≤ length (movesPrint ms)
-  move-small h =
-      omega
-      (arith, c .total, ap length (moves-next ms b h), length-append (codeOf openMove ∷ blockPrint (getD ms b [])) (movesPrint (drop (b + 1) ms)))
-
-  pub moves-total : length ms ≤ b → size ≡ length (movesPrint ms)
-  moves-total h = omega (arith, c .total, ap length (moves-none ms b (omega (arith, c .within))))
 
 -- the blocks before b are written
 pub record MovesWriting (ms : List Block) (b : ℕ) (old : List ℕ) (start : ℕ) (new : List ℕ) (to : ℕ) : Type 0 where

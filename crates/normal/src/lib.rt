@@ -2,13 +2,15 @@
 ghost use mathlib.Core.Path.{_≡_};
 ghost use mathlib.Core.List.{_∷_, []};
 ghost use Prim.Native.Nat.{_+_, _*_, _≤_};
+ghost use lib.Dec.{ltb};
 ghost use lib.ListN.{length};
-ghost use Rattle.model.specs.Task.{normal};
+ghost use Rattle.model.specs.Task.{written, normal};
 ghost use Rattle.model.specs.Command.{head, codeOf};
 ghost use Rattle.model.specs.Limits.{paper};
 ghost use Rattle.model.specs.Calls.{normalBytes, writes, normaliseAnswer, normaliseOut};
 ghost use Rattle.output.specs.Writing.{Written};
 ghost use Rattle.output.specs.Answers.{Answered};
+ghost use Rattle.table.specs.Outlines.{HeadRead};
 ghost use Rattle.reader.specs.Written.{Source, Heads, readTask};
 ghost use Rattle.normal.specs.Tables.{movesPrint};
 use model::ReadAnswer;
@@ -57,27 +59,24 @@ fn put_table(
     output::put_byte(out, end, 0x45)
 }
 
-// The length of the normal form of the moves.
-fn moves_length(table: &[u8], marks: &[usize], moves: usize) -> usize
-    requires { ⌜ Source (now table) (now marks) moves ⌝ }
-    ensures { λ r. ⌜ r ≡ length (movesPrint (readTask (now (table .entry)) .moves)) ⌝ }
+// Is an output of `room` bytes too short for the normal form? One of twice the table's length is long enough; else a walk over no
+// bytes gives the length.
+fn too_short(
+    table: &[u8],
+    marks: &[usize],
+    props: usize,
+    vars: usize,
+    moves: usize,
+    room: usize,
+) -> bool
+    requires { ⌜ HeadRead written (now table) (now marks) props vars moves ⌝ }
+    ensures { λ r. ⌜ r ≡ ltb room (length (normalBytes (readTask (now (table .entry))))) ⌝ }
 {
-    let mut b = 0;
-    let mut size = 0;
-    while b < moves {
-        size += 1 + normal_block::items_length(reader::part(table, marks, b));
-        b += 1;
+    if room >= 2 * table.len() {
+        return false;
     }
-    size
-}
-
-// The length of the normal form.
-pub fn table_length(table: &[u8], marks: &[usize], moves: usize) -> usize
-    requires { ⌜ Source (now table) (now marks) moves ⌝ }
-    ensures { λ r. ⌜ r ≡ length (normalBytes (readTask (now (table .entry)))) ⌝ }
-{
-    let size = moves_length(table, marks, moves);
-    size + normal_block::items_length(reader::part(table, marks, moves)) + 6
+    let mut nothing: [u8; 0] = [];
+    room < put_table(table, marks, props, vars, moves, &mut nothing)
 }
 
 // Writes the normal form of an accepted table, if it fits.
@@ -89,17 +88,16 @@ fn write(
     moves: usize,
     out: &mut [u8],
 ) -> WriteAnswer
-    requires { ⌜ (Source (now table) (now marks) moves) × (Heads (now table) props vars) ⌝ }
+    requires { ⌜ HeadRead written (now table) (now marks) props vars moves ⌝ }
     ensures { λ r. ⌜ Answered (writes (normalBytes (readTask (now (table .entry))))) (now (out .entry)) (now (out .exit)) r ⌝ }
 {
-    let size = table_length(table, marks, moves);
-    if out.len() < size {
+    if too_short(table, marks, props, vars, moves, out.len()) {
         return WriteAnswer::Refused(Refusal {
             number: 13,
             place: 0,
         });
     }
-    put_table(table, marks, props, vars, moves, out);
+    let size = put_table(table, marks, props, vars, moves, out);
     WriteAnswer::Written(size as u64)
 }
 

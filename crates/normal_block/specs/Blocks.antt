@@ -1,21 +1,21 @@
 -- The items of a written block, one after the other, and the bytes of their normal form.
 -- Assumes nothing.
-use Prim.Native.Nat.{ℕ, _+_, _*_, _≤_, _<_}
+use Prim.Native.Nat.{ℕ, _+_, _≤_, _<_}
 use native.Mathlib.Omega.{arith}
 use mathlib.Core.Path.{_≡_, refl, sym, ap, _∙_}
 use mathlib.Core.List.{List, [], _∷_, _++_, append-assoc}
-use lib.ListN.{length, length-append}
+use lib.ListN.{length}
 use Rattle.model.specs.Task.{Block}
 use Rattle.model.specs.Command.{codeOf, needProp, addProp, deleteProp, itemBytes, itemsBytes}
 use Rattle.model.specs.Reading.{comparisonOf, kindOf}
 use Rattle.model.specs.NormalForm.{normalCondition, normalEffect, normalItem, normalBlock}
 use Rattle.block.specs.Items.{behind, Next}
-use Rattle.block.specs.Terms.{termsAt, length-terms}
-use Rattle.block.specs.Remaining.{itemsOf, Writable, Remaining, remaining-none, FirstItem, first-item}
+use Rattle.block.specs.Terms.{termsAt}
+use Rattle.block.specs.Remaining.{itemsOf, Remaining, remaining-none, FirstItem, first-item}
 use Rattle.block.specs.declared.ItemAt.{ItemAt}
 use Rattle.block.specs.declared.ItemAt.the-variants.{Need, Add, Delete, Condition as ConditionAt, Effect as EffectAt, End}
 use Rattle.output.specs.Writing.{Written, Writing, writing-start, writing-rest, writing-behind, writing-step, writing-end}
-use Rattle.normal_block.specs.Items.{conditionPrint, condition-print, conditionSize, condition-size, condition-most, effectPrint, effect-print, effect-size}
+use Rattle.normal_block.specs.Items.{conditionPrint, condition-print, effectPrint, effect-print}
 
 itemsBytes-append : (b d : Block) → itemsBytes (b ++ d) ≡ itemsBytes b ++ itemsBytes d
 unfolding itemsBytes
@@ -33,26 +33,6 @@ printOf part (Delete p next) = codeOf deleteProp ∷ p ∷ []
 printOf part (ConditionAt o c from n next) = conditionPrint (comparisonOf o) (termsAt part from n) c
 printOf part (EffectAt kd v c from n next) = effectPrint (kindOf kd) v (termsAt part from n) c
 printOf part End = []
-
--- their number
-unfoldable pub sizeOf : ItemAt → ℕ
-sizeOf (Need p next) = 2
-sizeOf (Add p next) = 2
-sizeOf (Delete p next) = 2
-sizeOf (ConditionAt o c from n next) = conditionSize (comparisonOf o) n
-sizeOf (EffectAt kd v c from n next) = 2 * (4 * n + 7)
-sizeOf End = 0
-
-pub print-size : (part : List ℕ) (i : ItemAt) → length (printOf part i) ≡ sizeOf i
-unfolding printOf sizeOf
-print-size part (Need p next) = refl
-print-size part (Add p next) = refl
-print-size part (Delete p next) = refl
-print-size part (ConditionAt o c from n next) =
-    condition-size (comparisonOf o) (termsAt part from n) c ∙ ap (conditionSize (comparisonOf o)) (length-terms part from n)
-print-size part (EffectAt kd v c from n next) =
-    effect-size (kindOf kd) v (termsAt part from n) c ∙ ap (λ (a : ℕ). 2 * (4 * a + 7)) (length-terms part from n)
-print-size part End = refl
 
 -- ---- the items that are left of a written block
 
@@ -89,39 +69,6 @@ pub record Printable (part : List ℕ) (start : ℕ) : Type 0 where
   pub block : Block
   pub remaining : Remaining part 1 block
   pub short : start + length (blockPrint block) ≤ 64_000
-
--- the items before `at` are counted: their normal form has `size` bytes
-pub record Counting (part : List ℕ) (b : Block) (at size : ℕ) : Type 0 where
-  pub rest : Block
-  pub remaining : Remaining part at rest
-  pub total : size + length (blockPrint rest) ≡ length (blockPrint b)
-
-pub counting-start : {part : List ℕ} {b : Block} → Remaining part 1 b → Counting part b 1 0
-counting-start {b} r = record { rest = b; remaining = r; total = omega arith }
-
-module _ {part : List ℕ} {b : Block} {at size : ℕ} (c : Counting part b at size) where
-  pub counting-split : at < length part → {i : ItemAt} → Next part at i → FirstItem part i (c .rest)
-  counting-split h {i} n = first-item (c .remaining) h i n
-
-  pub counting-room : at < length part → {i : ItemAt} → Next part at i → size + sizeOf i ≤ length (blockPrint b)
-  counting-room h {i} n =
-      let s = counting-split h n in
-      omega
-      (arith, c .total, ap length (first-bytes s), length-append (printOf part i) (blockPrint (s .others)), print-size part i)
-
-  pub counting-step : at < length part → {i : ItemAt} → Next part at i → Counting part b (behind i) (size + sizeOf i)
-  counting-step h {i} n =
-      let s = counting-split h n in
-      record {
-        rest = s .others;
-        remaining = s .left;
-        total =
-            omega
-            (arith, c .total, ap length (first-bytes s), length-append (printOf part i) (blockPrint (s .others)), print-size part i);
-      }
-
-  pub counting-end : length part ≤ at → size ≡ length (blockPrint b)
-  counting-end h = omega (arith, c .total, ap length (remaining-end h (c .remaining)))
 
 -- the items before `at` are written
 pub record ItemsWriting (part : List ℕ) (b : Block) (at : ℕ) (old : List ℕ) (start : ℕ) (new : List ℕ) (to : ℕ) : Type 0 where
@@ -160,13 +107,3 @@ module _ {part : List ℕ} {b : Block} {at : ℕ} {old : List ℕ} {start : ℕ}
 
   pub items-end : length part ≤ at → Written old start (blockPrint b) new to
   items-end h = writing-end (writing-rest (p .writing) (remaining-end h (p .remaining)))
-
--- an item's normal form has 78 bytes at most
-pub size-small : (part : List ℕ) (i : ItemAt) → Writable part i → sizeOf i ≤ 78
-unfolding sizeOf
-size-small part (Need p next) w = omega arith
-size-small part (Add p next) w = omega arith
-size-small part (Delete p next) w = omega arith
-size-small part (ConditionAt o c from n next) w = omega (arith, condition-most (comparisonOf o) n, w .few)
-size-small part (EffectAt kd v c from n next) w = omega (arith, w .few)
-size-small part End w = omega arith

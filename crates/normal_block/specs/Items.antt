@@ -1,6 +1,6 @@
 -- The bytes of normal conditions and effects, in the terms of the written item (document 01, "Normal form").
 -- Assumes nothing.
-use Prim.Native.Nat.{ℕ, zero, suc, _+_, _*_, _≤_, _<_}
+use Prim.Native.Nat.{ℕ, _+_, _*_, _≤_}
 use native.Mathlib.Omega.{arith}
 use mathlib.Core.Path.{_≡_, refl, sym, ap, _∙_}
 use mathlib.Core.Bool.{Bool, true, false, not}
@@ -10,11 +10,10 @@ use lib.ListN.{length, length-append}
 use Rattle.integer.specs.BigEndian.{signedBytes, length-signedBytes}
 use Rattle.model.specs.Task.{Term, Comparison, atLeast, above, atMost, below, equal, Kind, assign, increase, decrease, Block}
 use Rattle.model.specs.Command.{codeOf, closeCondition, closeEffect, comparisonCode, kindCode, termBytes, itemBytes, itemsBytes}
-use Rattle.model.specs.Reading.{comparisonOf}
 use Rattle.model.specs.NormalForm.{negated, signedSum, least, normalCondition, mirrored, normalEffect}
-use Rattle.block.specs.Sums.{few-terms}
-use Rattle.normal_block.specs.Signs.{negateSumIf, negate-again, sumBytes, length-sum}
-use Rattle.block.specs.Terms.{SumAt, termsAt, length-terms}
+use Rattle.normal_block.specs.Signs.{negateSumIf, negate-again, sumBytes}
+use Rattle.normal_block.specs.Sums.{sum-short}
+use Rattle.block.specs.Terms.{SumAt, termsAt}
 
 -- the normal condition S ≥ c, or −S ≥ c
 unfoldable pub conditionBytes : Bool → List Term → ℤ → List ℕ
@@ -27,22 +26,6 @@ effectBytes m kd v ts c = sumBytes m ts ++ codeOf closeEffect ∷ kd ∷ v ∷ s
 -- "Each effect on v_i is written on 2i, then mirrored on 2i+1."
 unfoldable pub mirrorBytes : Bool → ℕ → ℕ → List Term → ℤ → List ℕ
 mirrorBytes m kd v ts c = effectBytes m kd (2 * v) ts c ++ effectBytes (not m) kd (2 * v + 1) ts (negℤ c)
-
-length-condition : (m : Bool) (ts : List Term) (c : ℤ) → length (conditionBytes m ts c) ≡ 4 * length ts + 6
-unfolding conditionBytes
-length-condition m ts c =
-    omega (arith, length-append (sumBytes m ts) (codeOf closeCondition ∷ 0 ∷ signedBytes 4 c), length-sum m ts, length-signedBytes 4 c)
-
-length-effect : (m : Bool) (kd v : ℕ) (ts : List Term) (c : ℤ) → length (effectBytes m kd v ts c) ≡ 4 * length ts + 7
-unfolding effectBytes
-length-effect m kd v ts c =
-    omega (arith, length-append (sumBytes m ts) (codeOf closeEffect ∷ kd ∷ v ∷ signedBytes 4 c), length-sum m ts, length-signedBytes 4 c)
-
-length-mirror : (m : Bool) (kd v : ℕ) (ts : List Term) (c : ℤ) → length (mirrorBytes m kd v ts c) ≡ 2 * (4 * length ts + 7)
-unfolding mirrorBytes
-length-mirror m kd v ts c =
-    omega
-    (arith, length-append (effectBytes m kd (2 * v) ts c) (effectBytes (not m) kd (2 * v + 1) ts (negℤ c)), length-effect m kd (2 * v) ts c, length-effect (not m) kd (2 * v + 1) ts (negℤ c))
 
 -- ---- conditions
 
@@ -96,52 +79,18 @@ effect-print assign v ts c = mirrored-print false assign v ts c
 effect-print increase v ts c = mirrored-print false increase v ts c
 effect-print decrease v ts c = mirrored-print true increase v ts (negℤ c)
 
--- ---- lengths by the item's numbers
+-- ---- lengths, of at most 8 terms
 
-unfoldable pub conditionSize : Comparison → ℕ → ℕ
-conditionSize atLeast n = 4 * n + 6
-conditionSize above n = 4 * n + 6
-conditionSize atMost n = 4 * n + 6
-conditionSize below n = 4 * n + 6
-conditionSize equal n = 2 * (4 * n + 6)
-
-pub condition-size : (o : Comparison) (ts : List Term) (c : ℤ) → length (conditionPrint o ts c) ≡ conditionSize o (length ts)
-unfolding conditionPrint conditionSize
-condition-size atLeast ts c = length-condition false ts c
-condition-size above ts c = length-condition false ts (c +ℤ pos 1)
-condition-size atMost ts c = length-condition true ts (negℤ c)
-condition-size below ts c = length-condition true ts (pos 1 -ℤ c)
-condition-size equal ts c =
-    omega
-    (arith, length-append (conditionBytes false ts c) (conditionBytes true ts (negℤ c)), length-condition false ts c, length-condition true ts (negℤ c))
-
-pub effect-size : (k : Kind) (v : ℕ) (ts : List Term) (c : ℤ) → length (effectPrint k v ts c) ≡ 2 * (4 * length ts + 7)
-unfolding effectPrint
-effect-size assign v ts c = length-mirror false 0 v ts c
-effect-size increase v ts c = length-mirror false 1 v ts c
-effect-size decrease v ts c = length-mirror true 1 v ts (negℤ c)
-
--- of the terms that stand in a part, 8 at most
 module _ (m : Bool) {part : List ℕ} {from n : ℕ} (s : SumAt part from n) where
-  pub condition-long : (c : ℤ) → length (conditionBytes m (termsAt part from n) c) ≤ 38
-  condition-long c = omega (arith, length-condition m (termsAt part from n) c, length-terms part from n, few-terms (s .terms))
+  abbrev ts : List Term
+  ts = termsAt part from n
 
-  pub effect-long : (kd v : ℕ) (c : ℤ) → length (effectBytes m kd v (termsAt part from n) c) ≤ 39
-  effect-long kd v c = omega (arith, length-effect m kd v (termsAt part from n) c, length-terms part from n, few-terms (s .terms))
+  pub condition-long : (c : ℤ) → length (conditionBytes m ts c) ≤ 38
+  unfolding conditionBytes
+  condition-long c =
+      omega (arith, length-append (sumBytes m ts) (codeOf closeCondition ∷ 0 ∷ signedBytes 4 c), sum-short m s, length-signedBytes 4 c)
 
--- every comparison but = is one condition
-pub single-size : (o n : ℕ) → o < 4 → conditionSize (comparisonOf o) n ≡ 4 * n + 6
-unfolding comparisonOf conditionSize
-single-size zero n h = refl
-single-size (suc zero) n h = refl
-single-size (suc (suc zero)) n h = refl
-single-size (suc (suc (suc zero))) n h = refl
-single-size (suc (suc (suc (suc o)))) n h = absurd (omega arith)
-
-pub condition-most : (o : Comparison) (n : ℕ) → conditionSize o n ≤ 2 * (4 * n + 6)
-unfolding conditionSize
-condition-most atLeast n = omega arith
-condition-most above n = omega arith
-condition-most atMost n = omega arith
-condition-most below n = omega arith
-condition-most equal n = omega arith
+  pub effect-long : (kd v : ℕ) (c : ℤ) → length (effectBytes m kd v ts c) ≤ 39
+  unfolding effectBytes
+  effect-long kd v c =
+      omega (arith, length-append (sumBytes m ts) (codeOf closeEffect ∷ kd ∷ v ∷ signedBytes 4 c), sum-short m s, length-signedBytes 4 c)

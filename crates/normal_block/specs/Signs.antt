@@ -1,18 +1,21 @@
 -- The signs of a sum: S or −S by a flag, and the bytes of its signed terms (document 01, "Normal form").
 -- Assumes nothing.
-use Prim.Native.Nat.{ℕ, _+_, _*_}
+use Prim.Native.Nat.{ℕ, _+_, _*_, _≤_}
 use native.Mathlib.Omega.{arith}
-use mathlib.Core.Path.{_≡_, refl, sym, ap, ap₂}
+use mathlib.Core.Path.{_≡_, refl, sym, ap, ap₂, _∙_}
 use mathlib.Core.Bool.{Bool, true, false, not}
-use mathlib.Core.List.{List, [], _∷_, _++_}
-use lib.IntN.{ℤ, pos, negℤ}
-use lib.ListN.{length, length-append}
+use mathlib.Core.List.{List, [], _∷_, _++_, map}
+use lib.Dec.{eqb}
+use lib.IntN.{ℤ, pos, negℤ, natAbs}
+use lib.ListN.{length, length-map}
 use lib.Signed.{ltZ}
-use Rattle.integer.specs.BigEndian.{length-signedBytes}
 use Rattle.integer.specs.Linear.{neg-neg}
-use Rattle.model.specs.Task.{Term}
+use Rattle.model.specs.Task.{Term, kept}
 use Rattle.model.specs.Command.{termBytes}
 use Rattle.model.specs.NormalForm.{negated, signedTerm, signedSum}
+use Rattle.model.specs.Theorems.Reading.Kept.{kept-length}
+use Rattle.model.specs.Theorems.NormalForm.SignedSums.{negative, negated-map}
+use Rattle.model.specs.Theorems.Printing.Items.{length-terms}
 use Rattle.block.specs.Items.{firstTerm}
 
 -- z, or −z
@@ -55,21 +58,49 @@ unfoldable pub sumBytes : Bool → List Term → List ℕ
 sumBytes m ts = termBytes (signedSum (negateSumIf m ts))
 
 pub sum-nil : (m : Bool) → sumBytes m [] ≡ []
-unfolding sumBytes signedSum termBytes
+unfolding sumBytes signedSum kept termBytes
 sum-nil m = ap (λ (ts : List Term). termBytes (signedSum ts)) (negate-nil m)
 
-pub sum-cons : (m : Bool) (t : Term) (ts : List Term) → sumBytes m (t ∷ ts) ≡ firstTerm (signedTerm (negateTermIf m t)) ++ sumBytes m ts
-unfolding sumBytes signedSum termBytes firstTerm
-sum-cons m t ts = ap (λ (us : List Term). termBytes (signedSum us)) (negate-cons m t ts)
+-- the bytes of one of them; of weight 0, "the normal form drops it"
+unfoldable pub keptBytes : Term → List ℕ
+keptBytes t = elim (eqb (natAbs (t .weight)) 0) [ true ↦ [] | false ↦ firstTerm (signedTerm t) ]
 
-pub length-first : (t : Term) → length (firstTerm t) ≡ 4
-unfolding firstTerm
-length-first t = omega (arith, length-signedBytes 2 (t .weight))
+module _ (t : Term) where
+  pub bytes-dropped : eqb (natAbs (t .weight)) 0 ≡ true → [] ≡ keptBytes t
+  unfolding keptBytes
+  bytes-dropped e = rw (keptBytes, e) refl
 
-pub length-sum : (m : Bool) (ts : List Term) → length (sumBytes m ts) ≡ 4 * length ts
-length-sum m [] = ap length (sum-nil m)
-length-sum m (t ∷ ts) =
-    omega (arith, ap length (sum-cons m t ts), length-append (firstTerm (signedTerm (negateTermIf m t))) (sumBytes m ts), length-first (signedTerm (negateTermIf m t)), length-sum m ts)
+  pub bytes-kept : eqb (natAbs (t .weight)) 0 ≡ false → firstTerm (signedTerm t) ≡ keptBytes t
+  unfolding keptBytes
+  bytes-kept e = rw (keptBytes, e) refl
+
+kept-first : (t : Term) (ts : List Term) → termBytes (signedSum (t ∷ ts)) ≡ keptBytes t ++ termBytes (signedSum ts)
+unfolding signedSum kept termBytes keptBytes firstTerm
+kept-first t ts = go (eqb (natAbs (t .weight)) 0)
+  where
+    go :
+        (b : Bool)
+        → termBytes (map signedTerm (elim b [ true ↦ kept ts | false ↦ t ∷ kept ts ]))
+        ≡ elim b [ true ↦ [] | false ↦ firstTerm (signedTerm t) ] ++ termBytes (map signedTerm (kept ts))
+    go true = refl
+    go false = refl
+
+pub sum-cons : (m : Bool) (t : Term) (ts : List Term) → sumBytes m (t ∷ ts) ≡ keptBytes (negateTermIf m t) ++ sumBytes m ts
+unfolding sumBytes
+sum-cons m t ts =
+    ap (λ (us : List Term). termBytes (signedSum us)) (negate-cons m t ts) ∙ kept-first (negateTermIf m t) (negateSumIf m ts)
+
+negate-length : (m : Bool) (ts : List Term) → length (negateSumIf m ts) ≡ length ts
+unfolding negateSumIf
+negate-length true ts = rw (← negated-map ts) (length-map ts negative)
+negate-length false ts = refl
+
+-- no longer than the terms themselves
+pub length-sum : (m : Bool) (ts : List Term) → length (sumBytes m ts) ≤ 4 * length ts
+unfolding sumBytes signedSum
+length-sum m ts =
+    let us = kept (negateSumIf m ts) in
+    omega (arith, length-terms (map signedTerm us), length-map us signedTerm, kept-length (negateSumIf m ts), negate-length m ts)
 
 -- "A weight w above 0 becomes w on 2i, below 0 becomes −w on 2i+1."
 module _ (v : ℕ) (w : ℤ) where

@@ -3,30 +3,33 @@
 ghost use mathlib.Core.Path.{_≡_};
 ghost use mathlib.Core.Bool.{true, false};
 ghost use mathlib.Core.List.{_∷_, _++_};
-ghost use Prim.Native.Nat.{_+_, _*_, _^_, _<_, _≤_};
+ghost use Prim.Native.Nat.{ℕ, _+_, _*_, _^_, _<_, _≤_};
 ghost use lib.IntN.{natAbs, negℤ};
-ghost use lib.ListN.{length};
 ghost use Rattle.model.specs.NormalForm.{signedTerm};
 ghost use Rattle.model.specs.Reading.{comparisonOf, kindOf};
 ghost use Rattle.model.specs.Task.{Block};
 ghost use Rattle.block.specs.Items.{firstTerm};
 ghost use Rattle.output.specs.Writing.{Written};
-ghost use Rattle.normal_block.specs.Signs.{negateIf, sumBytes};
+ghost use Rattle.normal_block.specs.Signs.{negateIf, keptBytes, sumBytes};
 ghost use Rattle.block.specs.Terms.{SumAt, termsAt};
-ghost use Rattle.normal_block.specs.Items.{conditionBytes, effectBytes, mirrorBytes, conditionPrint, conditionSize, effectPrint};
+ghost use Rattle.normal_block.specs.Items.{conditionBytes, effectBytes, mirrorBytes, conditionPrint, effectPrint};
 ghost use Rattle.block.specs.Remaining.{Writable, Remaining};
-ghost use Rattle.normal_block.specs.Blocks.{printOf, sizeOf, Printable, blockPrint};
+ghost use Rattle.normal_block.specs.Blocks.{printOf, Printable, blockPrint};
 use block::ItemAt;
 
-// The term of weight `weight` on variable `var`, for which there is room.
+// The term of weight `weight` on variable `var`.
 fn put_weight(out: &mut [u8], at: usize, var: usize, weight: i64) -> usize
-    requires { ⌜ (at + 4 ≤ length (now out)) × (var < 256) × (natAbs weight ≤ 1000) ⌝ }
+    requires { ⌜ (at < 2 ^ 62) × (var < 256) × (natAbs weight ≤ 1000) ⌝ }
     ensures { λ r. ⌜ Written (now (out .entry)) at (firstTerm (record { var = var; weight = weight })) (now (out .exit)) r ⌝ }
 {
+    let next = at + 4;
+    if out.len() < next {
+        return next;
+    }
     out[at] = 0x57;
     out[at + 1] = var as u8;
     integer::put_i16(out, at + 2, weight);
-    at + 4
+    next
 }
 
 // The number, or its negation.
@@ -40,15 +43,36 @@ fn negate_if(negated: bool, z: i64) -> i64
     z
 }
 
-// A term on its signed variable, with room for it: "A weight w above 0 becomes w on 2i, below 0 becomes −w on 2i+1."
-fn put_term(out: &mut [u8], at: usize, var: usize, weight: i64) -> usize
-    requires { ⌜ (at + 4 ≤ length (now out)) × (var < 128) × (natAbs weight ≤ 1000) ⌝ }
-    ensures { λ r. ⌜ Written (now (out .entry)) at (firstTerm (signedTerm (record { var = var; weight = weight }))) (now (out .exit)) r ⌝ }
+// "A weight w above 0 becomes w on 2i, below 0 becomes −w on 2i+1": the variable, and the weight.
+fn signed_var(var: usize, weight: i64) -> usize
+    requires { ⌜ var < 128 ⌝ }
+    ensures { λ r. ⌜ (r ≡ signedTerm (record { var = var; weight = weight }) .var) × (r < 256) ⌝ }
 {
     if integer::less(0, weight) {
-        return put_weight(out, at, 2 * var, weight);
+        return 2 * var;
     }
-    put_weight(out, at, 2 * var + 1, integer::neg(weight))
+    2 * var + 1
+}
+
+fn signed_weight(weight: i64) -> i64
+    requires { ⌜ natAbs weight ≤ 1000 ⌝ }
+    ensures { λ r. ⌜ ((var : ℕ) → r ≡ signedTerm (record { var = var; weight = weight }) .weight) × (natAbs r ≤ 1000) ⌝ }
+{
+    if integer::less(0, weight) {
+        return weight;
+    }
+    integer::neg(weight)
+}
+
+// A term on its signed variable; of weight 0, "the normal form drops it".
+fn put_kept(out: &mut [u8], at: usize, var: usize, weight: i64) -> usize
+    requires { ⌜ (at < 2 ^ 62) × (var < 128) × (natAbs weight ≤ 1000) ⌝ }
+    ensures { λ r. ⌜ Written (now (out .entry)) at (keptBytes (record { var = var; weight = weight })) (now (out .exit)) r ⌝ }
+{
+    if integer::is_zero(weight) {
+        return at;
+    }
+    put_weight(out, at, signed_var(var, weight), signed_weight(weight))
 }
 
 // The signed terms of the sum S of the `n` terms from `from` on, or of −S.
@@ -56,17 +80,13 @@ fn put_sum(part: &[u8], from: usize, n: usize, negated: bool, out: &mut [u8], at
     requires { ⌜ (SumAt (now part) from n) × (at < 2 ^ 61) ⌝ }
     ensures { λ r. ⌜ Written (now (out .entry)) at (sumBytes negated (termsAt (now (part .entry)) from n)) (now (out .exit)) r ⌝ }
 {
-    let next = at + 4 * n;
-    if out.len() < next {
-        return next;
-    }
     let mut to = at;
     let mut i = 0;
     while i < n {
         let term = from + 4 * i;
         let v = block::variable(part, term);
         let w = negate_if(negated, block::weight(part, term));
-        to = put_term(out, to, v, w);
+        to = put_kept(out, to, v, w);
         i += 1;
     }
     to
@@ -220,60 +240,6 @@ fn put_item(part: &[u8], item: ItemAt, out: &mut [u8], at: usize) -> usize
     }
 }
 
-// The length of a condition's normal form: "= c is S ≥ c, then −S ≥ −c", every other comparison one condition.
-fn condition_size(comparison: u8, n: usize) -> usize
-    requires { ⌜ (n ≤ 8) × (comparison ≤ 4) ⌝ }
-    ensures { λ r. ⌜ r ≡ conditionSize (comparisonOf comparison) n ⌝ }
-{
-    match comparison {
-        4 => 2 * (4 * n + 6),
-        _ => 4 * n + 6,
-    }
-}
-
-// The length of an item's normal form.
-fn item_size(part: &[u8], item: ItemAt) -> usize
-    requires { ⌜ Writable (now part) item ⌝ }
-    ensures { λ r. ⌜ r ≡ sizeOf item ⌝ }
-{
-    match item {
-        ItemAt::Condition {
-            comparison,
-            bound: _,
-            from: _,
-            terms,
-            after: _,
-        } => condition_size(comparison, terms),
-        ItemAt::Effect {
-            kind: _,
-            var: _,
-            base: _,
-            from: _,
-            terms,
-            after: _,
-        } => 2 * (4 * terms + 7),
-        ItemAt::Need { prop: _, after: _ } => 2,
-        ItemAt::Add { prop: _, after: _ } => 2,
-        ItemAt::Delete { prop: _, after: _ } => 2,
-        ItemAt::End => 0,
-    }
-}
-
-// The length of the normal form of a block's items.
-pub fn items_length(part: &[u8]) -> usize
-    requires { ⌜ Printable (now part) 0 ⌝ }
-    ensures { λ r. ⌜ ((b : Block) → Remaining (now (part .entry)) 1 b → r ≡ length (blockPrint b)) ⌝ }
-{
-    let mut at = 1;
-    let mut size = 0;
-    while at < part.len() {
-        let item = block::next(part, at);
-        size += item_size(part, item);
-        at = block::behind(item);
-    }
-    size
-}
-
 // The normal form of a block's items.
 fn put_items(part: &[u8], out: &mut [u8], start: usize) -> usize
     requires { ⌜ Printable (now part) start ⌝ }
@@ -283,11 +249,7 @@ fn put_items(part: &[u8], out: &mut [u8], start: usize) -> usize
     let mut to = start;
     while at < part.len() {
         let item = block::next(part, at);
-        let next = to + item_size(part, item);
-        if next <= out.len() {
-            put_item(part, item, out, to);
-        }
-        to = next;
+        to = put_item(part, item, out, to);
         at = block::behind(item);
     }
     to

@@ -3,10 +3,10 @@
 use Prim.Native.Nat.{ℕ, suc, _+_, _≤_, _<_}
 use native.Mathlib.Omega.{arith}
 use mathlib.Core.Path.{_≡_, refl, sym, ap, _∙_}
-use mathlib.Core.Bool.{Bool, true, false, _&&_, _||_}
+use mathlib.Core.Bool.{Bool, true, false, _&&_}
 use mathlib.Core.List.{List, [], _∷_}
 use mathlib.Core.Option.{Option, none, some}
-use lib.Dec.{leb, ltb, leb·suc-suc, leb·zero}
+use lib.Dec.{leb, ltb, leb·suc-suc}
 use lib.IntN.{ℤ, pos, negsuc, negℤ, natAbs}
 use lib.Signed.{leZ}
 use borrow.Author.Tests.{lt-leb, le-leb, lt-ltb, le-ltb}
@@ -45,17 +45,9 @@ unfolding between weightInRange
 weight-normal (pos n) = refl
 weight-normal (negsuc n) = refl
 
-pub weight-written : (z : ℤ) → (between (pos 1) z (pos (paper .weight)) || between (negℤ (pos (paper .weight))) z (negsuc 0)) ≡ weightInRange paper written z
-unfolding between weightInRange paper
-weight-written (pos n) = go (leb 1 n) (leb n 1000)
-  where
-    go : (a b : Bool) → (a && b || false) ≡ (a && b)
-    go true true = refl
-    go true false = refl
-    go false b = refl
-weight-written (negsuc n) =
-    ap (λ (b : Bool). leb n 999 && b) (leb·zero n) ∙ and-true (leb n 999) ∙ sym (leb·suc-suc n 999)
-    ∙ sym (ap (λ (b : Bool). b && leb (suc n) 1000) (leb·suc-suc 0 n ∙ leb·zero n))
+pub weight-written : (z : ℤ) → between (negℤ (pos (paper .weight))) z (pos (paper .weight)) ≡ weightInRange paper written z
+unfolding weightInRange paper
+weight-written z = size-between 999 z
 
 -- ---- the first operand out of range
 

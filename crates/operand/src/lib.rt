@@ -44,17 +44,12 @@ fn vars_in_range(form: Form, n: usize) -> bool
     }
 }
 
-// "Written: weights −1000..1000 except 0"; "Normal: weights 1..1000"
+// "Written: weights −1000..1000", 0 among them (02); "Normal: weights 1..1000"
 fn weight_in_range(form: Form, weight: i64) -> bool
     ensures { λ r. ⌜ r ≡ weightInRange paper (formOf form) weight ⌝ }
 {
     match form {
-        Form::Written => {
-            if between(1, weight, 1000) {
-                return true;
-            }
-            between(-1000, weight, -1)
-        }
+        Form::Written => between(-1000, weight, 1000),
         Form::Normal => between(1, weight, 1000),
     }
 }

@@ -35,19 +35,6 @@ pub fn put_pair(out: &mut [u8], at: usize, a: u8, b: u8) -> usize
     next
 }
 
-// A signed number as two bytes.
-pub fn put_i16(out: &mut [u8], at: usize, v: i64) -> usize
-    requires { ⌜ (at < 2 ^ 63) × (natAbs v ≤ 2 ^ 15) ⌝ }
-    ensures { λ r. ⌜ Written (now (out .entry)) at (signedBytes 2 v) (now (out .exit)) r ⌝ }
-{
-    let next = at + 2;
-    if out.len() < next {
-        return next;
-    }
-    integer::put_i16(out, at, v);
-    next
-}
-
 // A signed number as four bytes.
 pub fn put_i32(out: &mut [u8], at: usize, v: i64) -> usize
     requires { ⌜ (at < 2 ^ 63) × (natAbs v ≤ 2 ^ 31) ⌝ }

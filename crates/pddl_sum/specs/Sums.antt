@@ -1,7 +1,7 @@
 -- Sums of the PDDL text as they are written: the terms in their order, the constant, and all closing brackets. Assumes nothing.
 use Prim.Native.Nat.{ℕ, zero, suc, _+_, _*_, _-_, _≤_, _<_}
 use native.Mathlib.Omega.{arith}
-use mathlib.Core.Path.{_≡_, refl, ap, _∙_}
+use mathlib.Core.Path.{_≡_, refl, sym, ap}
 use mathlib.Core.List.{List, [], _∷_, _++_, append-assoc, append-nil}
 use lib.IntN.{ℤ, pos, negsuc, natAbs}
 use lib.ListN.{length, replicate, length-replicate}
@@ -12,7 +12,7 @@ use Rattle.model.specs.Listing.{decimal}
 use Rattle.model.specs.Task.{Term}
 use Rattle.model.specs.Pddl.{numberText, headText, expressionText, sumOf}
 use Rattle.pddl_sum.specs.Names.{nameText}
-use Rattle.block.specs.Terms.{SumAt, termOf, termsAt}
+use Rattle.block.specs.Terms.{SumAt, termOf, termsAt, rest-all, rest-next, rest-none}
 use Rattle.output.specs.Writing.{Written, Writing, writing-start, writing-rest, writing-end}
 
 -- a number's text, by its sign
@@ -61,9 +61,7 @@ pub terms-start :
     (part : List ℕ) (from n : ℕ) (old : List ℕ) (at : ℕ)
     → Writing old at (termTexts (termsAt part from n)) old at (termTexts (termsAt part (from + 4 * 0) (n - 0)))
 terms-start part from n old at =
-    let f : from + 4 * 0 ≡ from = omega arith in
-    let g : n - 0 ≡ n = omega arith in
-    rw (f, g) (writing-start old at (termTexts (termsAt part from n)))
+    writing-rest (writing-start old at (termTexts (termsAt part from n))) (ap termTexts (sym (rest-all part from n)))
 
 -- the next term and the others
 pub terms-next :
@@ -71,12 +69,8 @@ pub terms-next :
     → i < n
     → termTexts (termsAt part (from + 4 * i) (n - i))
     ≡ termText (termOf part (from + 4 * i)) ++ termTexts (termsAt part (from + 4 * (i + 1)) (n - (i + 1)))
-unfolding termsAt termTexts
-terms-next part from n i h =
-    let k : n - i ≡ suc (n - (i + 1)) = omega arith in
-    let j : from + 4 * i + 4 ≡ from + 4 * (i + 1) = omega arith in
-    ap (λ (a : ℕ). termTexts (termsAt part (from + 4 * i) a)) k
-    ∙ ap (λ (a : ℕ). termText (termOf part (from + 4 * i)) ++ termTexts (termsAt part a (n - (i + 1)))) j
+unfolding termTexts
+terms-next part from n i h = ap termTexts (rest-next part from n i h)
 
 -- all are written
 pub terms-done :
@@ -84,10 +78,8 @@ pub terms-done :
     → n ≤ i
     → Writing old at bs new to (termTexts (termsAt part (from + 4 * i) (n - i)))
     → Written old at bs new to
-unfolding termsAt termTexts
-terms-done part from n i h p =
-    let e : n - i ≡ 0 = omega arith in
-    writing-end (writing-rest p (ap (λ (a : ℕ). termTexts (termsAt part (from + 4 * i) a)) e))
+unfolding termTexts
+terms-done part from n i h p = writing-end (writing-rest p (ap termTexts (rest-none part from n i h)))
 
 -- ---- the closing brackets one by one
 

@@ -8,15 +8,13 @@ use lib.ListN.{length}
 use Rattle.model.specs.Limits.{paper}
 use Rattle.model.specs.Task.{written, Block}
 use Rattle.model.specs.Move.{State}
-use Rattle.model.specs.Reading.{only, lengthLimit}
 use Rattle.model.specs.StateTable.{stateOf, stateRefusal}
 use Rattle.model.specs.Pddl.{taskText}
-use Rattle.model.specs.Theorems.Reading.Accepted.{reading-limit}
 use Rattle.model.specs.Theorems.Reading.States.{accepted-state}
 use Rattle.model.specs.Theorems.Pddl.Sizes.{accepted-size}
 use Rattle.table.specs.Outlines.{HeadRead}
 use Rattle.block.specs.Remaining.{Remaining}
-use Rattle.reader.specs.Written.{readTask, Source, task-is, head-source}
+use Rattle.reader.specs.Written.{readTask, Source, task-is, head-source, head-short}
 use Rattle.output.specs.Writing.{Room}
 use Rattle.pddl_text.specs.Documents.{actionRow, domainPieces, domain-pieces, problemPieces, problem-pieces}
 
@@ -78,9 +76,5 @@ module _ {t marks : List ℕ} {props vars moves : ℕ} {bs : List ℕ} (p : Prin
       let right : stateRefusal paper (k .props) (k .vars) bs ≡ none = ap₂ (λ (n m : ℕ). stateRefusal paper n m bs) (sym (h .props-is)) (sym (h .vars-is)) ∙ p .state in
       rw (task-is h, h .props-is) (accepted-size t bs (h .is) right)
 
-  pub table-short : length t ≤ 32_000
-  unfolding lengthLimit paper
-  table-short = reading-limit paper (only written) t (p .read .is)
-
   pub text-room : Room 0 (taskText (readTask t) s)
-  text-room = record { short = omega (arith, text-size, table-short) }
+  text-room = record { short = omega (arith, text-size, head-short (p .read)) }

@@ -6,7 +6,8 @@ use mathlib.Core.List.{List, []}
 use lib.ListN.{length, getD}
 use Rattle.model.specs.Limits.{paper}
 use Rattle.model.specs.Task.{written, Task}
-use Rattle.model.specs.Reading.{Verdict, accepted, refused, only, reading}
+use Rattle.model.specs.Reading.{Verdict, accepted, refused, only, lengthLimit, reading}
+use Rattle.model.specs.Theorems.Reading.Accepted.{reading-limit}
 use Rattle.table.specs.Outlines.{partAt, Outline, HeadRead}
 use Rattle.block.specs.Parts.{move-left, goal-left}
 use Rattle.block.specs.Remaining.{Remaining}
@@ -84,3 +85,8 @@ module _ {t marks : List ℕ} {props vars moves : ℕ} (h : HeadRead written t m
 
   pub head-heads : Heads t props vars
   head-heads = record { props-is = rw task-is (h .props-is); vars-is = rw task-is (h .vars-is) }
+
+  -- "Length: written 32,000 .. bytes at most"
+  pub head-short : length t ≤ 32_000
+  unfolding lengthLimit paper
+  head-short = reading-limit paper (only written) t (h .is)

@@ -14,7 +14,7 @@ use Rattle.model.specs.declared.ReadAnswer.{ReadAnswer}
 use Rattle.model.specs.declared.ReadAnswer.the-variants as read
 use Rattle.model.specs.Limits.{paper}
 use Rattle.model.specs.Lists.{all, any, anyBelow}
-use Rattle.model.specs.Task.{written, Item, Block}
+use Rattle.model.specs.Task.{written, kept, Item, Block}
 use Rattle.model.specs.Task as task
 use Rattle.model.specs.Circle.{itemEdge, edge, circular}
 use Rattle.model.specs.Command.{Command, head, codeOf, commandOf, Place, start, preamble, inMove, inGoal, finished}
@@ -67,7 +67,7 @@ start-valid t =
     }
 
 start-tracks : (t mk : List ℕ) → length mk ≡ 66 → Tracks t startCursor (replicate 120 0) (replicate 120 0) (replicate 32 0) (replicate 1024 false) mk nothingSeen
-unfolding startCursor nothingSeen headOf formOf placeOf opened closed all any anyBelow
+unfolding startCursor nothingSeen headOf formOf placeOf opened closed all any anyBelow kept
 start-tracks t mk e =
     record {
       at = refl;

@@ -1,6 +1,7 @@
 //! Calls with inputs of all sorts, for comparing engines.
 
 use super::damage::{command_string, random_bytes, spoil, wrong_state};
+use super::grid::long_sum;
 use super::maker::{state_for, task};
 use super::rng::Rng;
 use super::sizes::Sizes;
@@ -101,6 +102,7 @@ fn any_task(rng: &mut Rng, kind: Kind) -> Task {
             state: Vec::new(),
         },
         3..=6 => spoilt_task(rng, kind),
+        7 if kind == Kind::Written => long_sum(rng),
         _ => task(rng, kind),
     };
     if kind == Kind::Normal && rng.chance(1, 2) {

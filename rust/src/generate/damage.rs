@@ -4,7 +4,7 @@ use super::rng::Rng;
 use crate::call::{Call, Field};
 use crate::reference::table::{
     Block, Change, Effect, Item, Kind, Table, Term, MOVE_LIMIT, NUMBER_LIMIT, PROPOSITION_LIMIT,
-    WEIGHT_LIMIT,
+    TERM_LIMIT, WEIGHT_LIMIT,
 };
 
 /// The table with each byte changed to each other value.
@@ -64,6 +64,9 @@ pub fn command_string(rng: &mut Rng) -> Vec<u8> {
         }
     }
     commands.push(vec![0x45]);
+    if commands[0][0] == Kind::Written.byte() && rng.chance(1, 2) {
+        set_weights_to_0(rng, &mut commands);
+    }
     while rng.chance(2, 5) {
         disorder(rng, counts, &mut commands);
     }
@@ -72,6 +75,15 @@ pub fn command_string(rng: &mut Rng) -> Vec<u8> {
         bytes.truncate(rng.below(bytes.len() + 1));
     }
     bytes
+}
+
+/// About half of the terms get weight 0.
+fn set_weights_to_0(rng: &mut Rng, commands: &mut [Vec<u8>]) {
+    for term in commands.iter_mut().filter(|command| command[0] == 0x57) {
+        if rng.chance(1, 2) {
+            term[2..].fill(0);
+        }
+    }
 }
 
 fn random_head(rng: &mut Rng, counts: [u8; 3]) -> Vec<u8> {
@@ -182,8 +194,9 @@ pub fn spoil(rng: &mut Rng, table: &mut Table) {
     let blocks = table.moves.len() + 1;
     let chosen = rng.below(blocks);
     let block = table.moves.get_mut(chosen).unwrap_or(&mut table.goal);
+    let weight = neutral_weight(rng, kind);
     if variables > 0 && rng.chance(1, 4) {
-        return close_circle(rng, block, variables);
+        return close_circle(rng, block, variables, weight);
     }
     if block.items.is_empty() {
         return block.items.push(Item::Require(PROPOSITION_LIMIT));
@@ -193,14 +206,22 @@ pub fn spoil(rng: &mut Rng, table: &mut Table) {
         let again = block.items[at].clone();
         return block.items.push(again);
     }
-    spoil_item(rng, kind, &mut block.items[at]);
+    spoil_item(rng, kind, weight, &mut block.items[at]);
+}
+
+/// A weight that is in range; in a written table it is 0 half of the time.
+fn neutral_weight(rng: &mut Rng, kind: Kind) -> i128 {
+    match kind {
+        Kind::Written => *rng.pick(&[0, 1]),
+        Kind::Normal => 1,
+    }
 }
 
 /// Adds a `:=` that reads its own variable or another one.
-fn close_circle(rng: &mut Rng, block: &mut Block, variables: usize) {
+fn close_circle(rng: &mut Rng, block: &mut Block, variables: usize, weight: i128) {
     let term = Term {
         variable: rng.below(variables),
-        weight: 1,
+        weight,
     };
     block.items.push(Item::Effect(Effect {
         terms: vec![term],
@@ -210,7 +231,7 @@ fn close_circle(rng: &mut Rng, block: &mut Block, variables: usize) {
     }));
 }
 
-fn spoil_item(rng: &mut Rng, kind: Kind, item: &mut Item) {
+fn spoil_item(rng: &mut Rng, kind: Kind, weight: i128, item: &mut Item) {
     let (terms, constant) = match item {
         Item::Require(p) | Item::Add(p) | Item::Delete(p) => {
             *p += rng.below(PROPOSITION_LIMIT);
@@ -227,17 +248,22 @@ fn spoil_item(rng: &mut Rng, kind: Kind, item: &mut Item) {
     match rng.below(4) {
         0 => terms[at].weight = *rng.pick(&[0, -1, WEIGHT_LIMIT + 1, -WEIGHT_LIMIT - 1]),
         1 => terms[at].variable += 1 + rng.below(kind.variable_limit()),
-        2 => terms.insert(at, terms[at]),
-        _ => (0..8).for_each(|v| {
-            terms.insert(
-                v,
-                Term {
-                    variable: v,
-                    weight: 1,
-                },
-            )
-        }),
+        2 => {
+            let variable = terms[at].variable;
+            terms.insert(at + rng.below(2), Term { variable, weight });
+        }
+        _ => *terms = eight_or_nine(rng, kind),
     }
+}
+
+/// Terms with rising variables, which most tables do not have.
+fn eight_or_nine(rng: &mut Rng, kind: Kind) -> Vec<Term> {
+    let count = TERM_LIMIT + rng.below(2);
+    let term = |variable| Term {
+        variable,
+        weight: neutral_weight(rng, kind),
+    };
+    (0..count).map(term).collect()
 }
 
 /// A state spoilt in its length or in one place; it may still be accepted.

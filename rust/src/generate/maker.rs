@@ -1,5 +1,6 @@
 //! Accepted tables with states, most of them with a plan.
 
+use super::grid::Unused;
 use super::rng::Rng;
 use super::task::Task;
 use crate::reference::semantics::{saturate_table, Saturation};
@@ -86,6 +87,8 @@ struct Maker<'r> {
     /// The highest counts of entries of a block.
     density: usize,
     terms: usize,
+    /// Terms of weight 0 beside these.
+    unused: Unused,
     scale: Scale,
     state: State,
     /// What the moves so far can reach.
@@ -120,6 +123,7 @@ impl<'r> Maker<'r> {
             variables,
             density: *rng.pick(&[2, 2, 3, 3, 4, 20]),
             terms: *rng.pick(&[2, 2, 3, TERM_LIMIT]),
+            unused: Unused::new(rng, kind),
             scale,
             bound: start.clone(),
             floor: start,
@@ -280,14 +284,14 @@ impl<'r> Maker<'r> {
 
     fn random_terms(&mut self, variables: &[usize]) -> Vec<Term> {
         let count = self.rng.below(self.terms + 1);
-        let chosen = self.rng.subset(count, variables.len());
-        chosen
-            .into_iter()
-            .map(|i| Term {
-                variable: variables[i],
-                weight: self.random_weight(),
-            })
-            .collect()
+        let chosen = self.rng.subset(count, variables.len()).into_iter();
+        let term = |i: usize| Term {
+            variable: variables[i],
+            weight: self.random_weight(),
+        };
+        let mut terms = chosen.map(term).collect();
+        self.unused.fill(self.variables, &mut terms);
+        terms
     }
 
     fn random_weight(&mut self) -> i128 {

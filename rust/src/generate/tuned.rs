@@ -226,6 +226,16 @@ const LEVEL: usize = 8;
 /// A chain raises one variable a layer up to the goal. All else is true and changes
 /// nothing. The shortest such table has about 600 bytes.
 pub fn dense(rng: &mut Rng, kind: Kind, length: usize) -> Task {
+    dense_of(rng, kind, length, |rng| random_weight(rng, kind))
+}
+
+/// The same, with these weights in its long sums.
+pub(super) fn dense_of(
+    rng: &mut Rng,
+    kind: Kind,
+    length: usize,
+    weight: impl Fn(&mut Rng) -> i128,
+) -> Task {
     let variables = kind.variable_limit();
     let mut moves = vec![Block::default(); MOVE_LIMIT];
     moves[0].items.push(assign(LEVEL, &[], 1));
@@ -241,12 +251,12 @@ pub fn dense(rng: &mut Rng, kind: Kind, length: usize) -> Task {
             items: vec![at_least(variables - 1, (variables - LEVEL) as i128)],
         },
     };
-    fill_up(rng, &mut table, length);
+    fill_up(rng, &mut table, length, weight);
     task_at(table, &[])
 }
 
 /// Adds conditions and effects that change nothing until the table has its length.
-fn fill_up(rng: &mut Rng, table: &mut Table, length: usize) {
+fn fill_up(rng: &mut Rng, table: &mut Table, length: usize, weight: impl Fn(&mut Rng) -> i128) {
     let kind = table.kind;
     let mut left = length - table.encode().len();
     for i in 0.. {
@@ -255,7 +265,7 @@ fn fill_up(rng: &mut Rng, table: &mut Table, length: usize) {
         }
         let block = &mut table.moves[i % MOVE_LIMIT];
         let round = i / MOVE_LIMIT;
-        let terms = (0..LEVEL).map(|v| (v, random_weight(rng, kind)));
+        let terms = (0..LEVEL).map(|v| (v, weight(rng)));
         let terms: Vec<(usize, i128)> = terms.collect();
         let effect = (1..LEVEL).contains(&round);
         block.items.push(match effect {

@@ -1,8 +1,9 @@
 //! Circles among `:=` effects.
 
-use super::table::{Change, Table};
+use super::table::{contributing, Change, Table};
 
-/// Whether the edges from each variable of a `:=` sum to its target have a circle.
+/// Whether the edges from each variable of a `:=` sum to its target have a circle. A term of
+/// weight 0 makes no edge.
 ///
 /// Variables without an edge from a remaining variable are taken away until none is
 /// left to take; what remains then is fed by itself and holds a circle.
@@ -25,7 +26,7 @@ fn edges(table: &Table) -> Vec<(usize, usize)> {
         .iter()
         .flat_map(|block| block.effects())
         .filter(|effect| effect.change == Change::Assign)
-        .flat_map(|effect| effect.terms.iter().map(|t| (t.variable, effect.variable)))
+        .flat_map(|effect| contributing(&effect.terms).map(|t| (t.variable, effect.variable)))
         .collect();
     edges.sort_unstable();
     edges.dedup();

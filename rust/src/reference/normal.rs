@@ -1,6 +1,8 @@
 //! The linear normal form.
 
-use super::table::{Block, Change, Comparison, Condition, Effect, Item, Kind, Table, Term};
+use super::table::{
+    contributing, Block, Change, Comparison, Condition, Effect, Item, Kind, Table, Term,
+};
 
 /// The normal form of a written table.
 pub fn normal_form(written: &Table) -> Table {
@@ -84,10 +86,9 @@ fn negated(terms: &[Term]) -> Vec<Term> {
         .collect()
 }
 
-/// A weight above 0 stands on 2i; one below 0 stands, turned, on 2i+1.
+/// A weight above 0 stands on 2i; one below 0 stands, turned, on 2i+1; one of 0 is dropped.
 fn signed(terms: &[Term]) -> Vec<Term> {
-    terms
-        .iter()
+    contributing(terms)
         .map(|t| Term {
             variable: 2 * t.variable + usize::from(t.weight < 0),
             weight: t.weight.abs(),

@@ -239,10 +239,7 @@ impl<'t> Parser<'t> {
             Kind::Normal => 1,
         };
         require(variable < self.variables, self.at + 1)?;
-        require(
-            (lowest..=WEIGHT_LIMIT).contains(&weight) && weight != 0,
-            self.at + 2,
-        )?;
+        require((lowest..=WEIGHT_LIMIT).contains(&weight), self.at + 2)?;
         Ok(Term { variable, weight })
     }
 

@@ -40,11 +40,16 @@ pub const WEIGHT_LIMIT: i128 = 1_000;
 /// Bound of constants, of state values and of the results of a step.
 pub const NUMBER_LIMIT: i128 = 1_000_000;
 
-/// One weighted variable of a sum.
+/// One weighted variable of a sum. In a written table the weight may be 0.
 #[derive(Clone, Copy, Debug, PartialEq, Eq)]
 pub struct Term {
     pub variable: usize,
     pub weight: i128,
+}
+
+/// The terms that contribute to their sum: those of weight 0 do not.
+pub fn contributing(terms: &[Term]) -> impl Iterator<Item = &Term> {
+    terms.iter().filter(|term| term.weight != 0)
 }
 
 #[derive(Clone, Copy, Debug, PartialEq, Eq)]
@@ -120,6 +125,17 @@ pub enum Item {
     Effect(Effect),
 }
 
+impl Item {
+    /// The terms of a condition or of an effect.
+    pub fn terms_mut(&mut self) -> Option<&mut Vec<Term>> {
+        match self {
+            Item::Condition(condition) => Some(&mut condition.terms),
+            Item::Effect(effect) => Some(&mut effect.terms),
+            Item::Require(_) | Item::Add(_) | Item::Delete(_) => None,
+        }
+    }
+}
+
 /// The contents of a move or of the goal.
 #[derive(Clone, Debug, Default, PartialEq, Eq)]
 pub struct Block {
@@ -184,6 +200,11 @@ impl Table {
     /// How many bytes a state has.
     pub fn state_length(&self) -> usize {
         self.propositions + 4 * self.state_values()
+    }
+
+    /// The moves, then the goal.
+    pub fn blocks_mut(&mut self) -> impl Iterator<Item = &mut Block> {
+        self.moves.iter_mut().chain([&mut self.goal])
     }
 
     /// The bytes of the table.

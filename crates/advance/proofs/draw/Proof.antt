@@ -1,14 +1,10 @@
 -- `draw` meets its contract. The loop has drawn the edges of the first i terms; the measure is the terms left.
 -- Assumes nothing.
-use Prim.Native.Nat.{ℕ, _+_, _*_, _-_, _≤_, _<_}
-use mathlib.Core.Path.{_≡_, refl, ap, ap₂, _∙_}
-use mathlib.Core.Bool.{Bool, true}
-use mathlib.Core.List.{List}
+use Prim.Native.Nat.{ℕ, _+_, _*_, _-_, _≤_}
+use mathlib.Core.Path.{_≡_, refl, ap, _∙_}
 use native.Mathlib.Omega.{arith}
 use native.Mathlib.Numerals.{add-one}
-use lib.ListN.{set}
-use Rattle.advance.specs.Edges.{draw}
-use Rattle.advance.specs.Edges.{draw-other, draw-assign}
+use Rattle.advance.specs.Edges.{drawTerm, draw, draw-other, draw-assign}
 use Rattle.advance.proofs.draw.Statement.{statement}
 use Rattle.advance.proofs.draw.Tie as tie
 
@@ -17,9 +13,6 @@ Inv-loop table from var n kind edges₀ i₀ edges i = (i ≤ n) × (edges ≡ d
 
 abbrev μ-loop : tie.MeasureT-loop
 μ-loop table from var n kind edges₀ i₀ edges i = n - i
-
-source : (c : tie.After-byte Inv-loop μ-loop) → c .byte .result < 32
-source c = omega (arith, c .byte .ensures .0, c .before .before .before .before .before .pre .2 (c .before .before .loop .i) (c .before .loop-test .taken))
 
 end : (c : tie.After-loop Inv-loop μ-loop) → c .before .loop .i ≡ c .before .before .before .before .args .n
 end c = omega arith
@@ -34,26 +27,16 @@ loop-holds : tie.Need-loop-holds Inv-loop μ-loop
 unfolding draw
 loop-holds c = (omega arith, refl)
 
-mul-byte : tie.Need-mul-byte Inv-loop μ-loop
-mul-byte c = omega arith
+mul-draw-term : tie.Need-mul-draw-term Inv-loop μ-loop
+mul-draw-term c = omega arith
 
-add-byte : tie.Need-add-byte Inv-loop μ-loop
-add-byte c = omega arith
+add-draw-term : tie.Need-add-draw-term Inv-loop μ-loop
+add-draw-term c = omega arith
 
-add-byte-2 : tie.Need-add-byte-2 Inv-loop μ-loop
-add-byte-2 c = omega arith
-
-byte-requires : tie.Need-byte-requires Inv-loop μ-loop
-byte-requires c κs = omega arith
-
-mul-edges : tie.Need-mul-edges Inv-loop μ-loop
-mul-edges c = omega (arith, source c)
-
-add-edges : tie.Need-add-edges Inv-loop μ-loop
-add-edges c = omega (arith, source c)
-
-element-write-edges : tie.Need-element-write-edges Inv-loop μ-loop
-element-write-edges c = omega (arith, source c)
+draw-term-requires : tie.Need-draw-term-requires Inv-loop μ-loop
+draw-term-requires c κs =
+    let s = c .before .before .before .before .before in
+    (omega (arith, c .before .loop-test .taken), s .pre .1, s .pre .2 (c .before .before .loop .i) (c .before .loop-test .taken))
 
 add-i : tie.Need-add-i Inv-loop μ-loop
 add-i c = omega arith
@@ -63,11 +46,12 @@ loop-less c = omega arith
 
 loop-again : tie.Need-loop-again Inv-loop μ-loop
 unfolding draw
-loop-again c = (
-  omega arith,
-  rw (add-one (c .before .before .loop .i))
-      (ap₂ (λ (es : List Bool) (x : ℕ). set es (x * 32 + c .before .before .before .before .before .args .var) true) (c .before .before .loop .inv .1) (c .byte .ensures .0)),
-)
+loop-again c =
+    let s = c .before .before .before .before .before .before in
+    let i = c .before .before .before .loop .i in (
+      omega arith,
+      rw (add-one i) (c .draw-term .ensures ∙ ap (drawTerm (s .args .table .now) (s .args .from + 4 * i) (s .args .var)) (c .before .before .before .loop .inv .1)),
+    )
 
 returns-2 : tie.Need-returns-2 Inv-loop μ-loop
 returns-2 c =
@@ -83,13 +67,9 @@ draw-spec =
     μ-loop
     returns
     loop-holds
-    mul-byte
-    add-byte
-    add-byte-2
-    byte-requires
-    mul-edges
-    add-edges
-    element-write-edges
+    mul-draw-term
+    add-draw-term
+    draw-term-requires
     add-i
     loop-less
     loop-again

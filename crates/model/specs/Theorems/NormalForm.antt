@@ -1,4 +1,5 @@
--- A task and its normal form run alike, and the print of the normal form is accepted.
+-- A task and its normal form run alike, and the print of the normal form is accepted; with and without its terms of weight 0 a task has
+-- the same normal form, steps and solutions; the calls answer and write the same for tables that differ only in such terms.
 pub mod SignedSums
 pub mod Blocks
 pub mod Conditions
@@ -8,3 +9,5 @@ pub mod Names
 pub mod Circle
 pub mod Task
 pub mod Print
+pub mod ZeroTerms
+pub mod ZeroTables

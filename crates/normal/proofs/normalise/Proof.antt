@@ -4,7 +4,6 @@ use borrow.Author.Needs.{needs}
 use Rattle.model.specs.Task.{written}
 use Rattle.table.specs.Names.{wantedOf}
 use Rattle.table.specs.Outlines.{head-read, head-refused}
-use Rattle.reader.specs.Written.{head-source, head-heads}
 use Rattle.normal.specs.Heads.{normalise-written, normalise-refused}
 use Rattle.normal.proofs.normalise.Statement.{statement}
 use Rattle.normal.proofs.normalise.Tie as tie
@@ -18,8 +17,7 @@ enum-known-props c = search needs
 write-requires : tie.Need-write-requires
 unfolding wantedOf
 write-requires c κs =
-    let h = head-read written (c .before .before .before .before .before .outline .ensures) (c .before .before .before .props .given .1) (record { each = λ i. omega (arith, c .before .before .before .before .before .before .before .before .shared-slice-known .given i) }) in
-    (head-source h, head-heads h)
+    head-read written (c .before .before .before .before .before .outline .ensures) (c .before .before .before .props .given .1) (record { each = λ i. omega (arith, c .before .before .before .before .before .before .before .before .shared-slice-known .given i) })
 
 enum-known-r : tie.Need-enum-known-r
 enum-known-r c = search needs

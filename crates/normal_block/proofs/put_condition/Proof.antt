@@ -12,12 +12,12 @@ put-sum-requires : tie.Need-put-sum-requires
 put-sum-requires c κs = (c .before .before .before .pre .0, c .before .before .before .pre .1)
 
 put-pair-requires : tie.Need-put-pair-requires
-put-pair-requires c κs = omega (arith, close-short _ _ (c .before .before .before .before .before .before .before .pre .0) (c .before .before .before .before .before .before .before .pre .1) (c .before .before .before .put-sum .ensures))
+put-pair-requires c κs = omega (arith, close-short _ (c .before .before .before .before .before .before .before .pre .0) (c .before .before .before .before .before .before .before .pre .1) (c .before .before .before .put-sum .ensures))
 
 put-i32-requires : tie.Need-put-i32-requires
 put-i32-requires c κs =
     let s = c .before .before .before .before .before .before .before .before .before .before .before in
-    let close = close-short _ _ (s .pre .0) (s .pre .1) (c .before .before .before .before .before .before .before .put-sum .ensures) in
+    let close = close-short _ (s .pre .0) (s .pre .1) (c .before .before .before .before .before .before .before .put-sum .ensures) in
     rw (back (s .args .c) (s .fits .c .sfits)) (omega (arith, close, c .before .before .before .put-pair .ensures .behind), omega (arith, s .pre .2))
 
 returns : tie.Need-returns

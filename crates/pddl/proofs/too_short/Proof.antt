@@ -5,15 +5,16 @@ use mathlib.Core.Path.{sym, ap, _∙_}
 use borrow.Author.Needs.{needs}
 use borrow.Author.Tests.{le-ltb}
 use lib.Dec.{ltb}
-use Rattle.pddl_text.specs.Printable.{text-size, table-short}
+use Rattle.reader.specs.Written.{head-short}
+use Rattle.pddl_text.specs.Printable.{text-size}
 use Rattle.pddl.proofs.too_short.Statement.{statement}
 use Rattle.pddl.proofs.too_short.Tie as tie
 
 mul-if1 : tie.Need-mul-if1
-mul-if1 c = omega (arith, table-short (c .before .before .before .pre))
+mul-if1 c = omega (arith, head-short (c .before .before .before .pre .read))
 
 add-if1 : tie.Need-add-if1
-add-if1 c = omega (arith, table-short (c .before .before .before .pre))
+add-if1 c = omega (arith, head-short (c .before .before .before .pre .read))
 
 returns : tie.Need-returns
 returns c = sym (le-ltb (c .before .before .before .before .args .room) _ (omega (arith, text-size (c .before .before .before .before .pre), c .if1 .taken)))

@@ -2,7 +2,7 @@
 
 use crate::scan::{Code, Line, Scan};
 
-/// A variable in the sum of a := effect, and the effect.
+/// A variable that contributes to the sum of a := effect, and the effect.
 #[derive(Clone, Copy)]
 pub struct Edge<'l> {
     pub from: usize,
@@ -30,7 +30,7 @@ fn edges<'l>(scan: &'l Scan) -> Vec<Edge<'l>> {
         .filter(|line| line.form.code == Code::Effect);
     let assignments = effects.filter(|effect| effect.operand(0) == 0);
     let edges = assignments.flat_map(|effect| {
-        let from = effect.terms.iter().map(|term| term.variable);
+        let from = effect.contributing().map(|term| term.variable);
         from.map(move |from| Edge { from, effect })
     });
     edges.collect()

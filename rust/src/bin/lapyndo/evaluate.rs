@@ -18,7 +18,7 @@ impl Standing<'_> {
             Code::Effect => line.operand(2),
             _ => 0,
         };
-        let products = line.terms.iter().map(|term| {
+        let products = line.contributing().map(|term| {
             let value = (self.variable)(term.variable);
             value.map(|value| value * i128::from(term.weight))
         });

@@ -3,7 +3,7 @@
 use crate::evaluate::{effects, Standing};
 use crate::files::{STATE, TASK};
 use crate::refused;
-use crate::scan::{Block, Code, Line, Scan};
+use crate::scan::{Block, Code, Line, Scan, Term};
 use crate::state::{value, value_count, State};
 use crate::words;
 use campaign::answer::{Reason, Refusal};
@@ -131,12 +131,15 @@ impl Case<'_> {
 
 /// Each condition that fails, and what stands against it.
 fn failing(scan: &Scan, block: Block, standing: &Standing) -> Vec<String> {
-    let found = |line: &Line| match (line.form.code, standing.sum(line)) {
-        (Code::Condition, Some(sum)) if line.terms.len() == 1 && line.terms[0].weight == 1 => {
-            format!("v{} is {sum}", line.terms[0].variable)
+    let found = |line: &Line| {
+        let terms: Vec<&Term> = line.contributing().collect();
+        match (line.form.code, standing.sum(line), &*terms) {
+            (Code::Condition, Some(sum), [term]) if term.weight == 1 => {
+                format!("v{} is {sum}", term.variable)
+            }
+            (Code::Condition, Some(sum), _) => format!("the sum is {sum}"),
+            _ => format!("p{} is false", line.index(0)),
         }
-        (Code::Condition, Some(sum)) => format!("the sum is {sum}"),
-        _ => format!("p{} is false", line.index(0)),
     };
     let lines = standing.failing(scan, block).into_iter();
     lines

@@ -189,7 +189,7 @@ impl<'f> Fault<'f> {
             (_, "V", _) => "there may be 0 to 16 variables",
             (_, "N", _) => "there may be 0 to 32 signed variables, an even number",
             (_, "A", _) => "there may be 0 to 64 moves",
-            (_, "w", false) => "a weight is -1000 to 1000 and not 0",
+            (_, "w", false) => "a weight is -1000 to 1000",
             (_, "w", true) => "a weight of a normal table is 1 to 1000",
             (_, "o", true) => "a normal table has 0 (>=) only",
             (_, "k", true) => "a normal table has 0 (:=) and 1 (+=) only",
@@ -208,7 +208,13 @@ impl<'f> Fault<'f> {
         if line.form.code == Code::Term {
             let last = line.terms.last().map_or(0, |term| term.variable);
             return match last < line.index(0) {
-                true => "a sum has 8 terms at most, and this is the ninth".into(),
+                true => {
+                    let all = match normal {
+                        true => "",
+                        false => ", those of weight 0 included",
+                    };
+                    format!("a sum has 8 terms at most{all}, and this is the ninth")
+                }
                 false => {
                     let [last, this] = [last, line.index(0)].map(variable);
                     format!("{this} follows {last}: the variables of a sum must rise")

@@ -131,6 +131,11 @@ impl Line<'_> {
         }
     }
 
+    /// The terms of its sum that contribute: those whose weight is not 0.
+    pub fn contributing(&self) -> impl Iterator<Item = &Term> {
+        self.terms.iter().filter(|term| term.weight != 0)
+    }
+
     /// An operand that is a name's number or a count.
     pub fn index(&self, i: usize) -> usize {
         self.operand(i) as usize

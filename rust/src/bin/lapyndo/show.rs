@@ -18,7 +18,8 @@ pub const SHOW: Command = Command {
     help: "\
 FILE is a written or a normal table. Each line has a command's offset and says what it is.
 The terms of a sum have lines of their own; the condition or effect that closes them, on the
-line behind them, has the whole sum.
+line behind them, has the whole sum. A term of weight 0 is an unused cell of a written table:
+it contributes nothing, and only its own line shows it.
 Of a refused table the commands before the refused one are shown, then why it is refused.
 ",
     run,

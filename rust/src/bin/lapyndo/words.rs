@@ -1,6 +1,6 @@
 //! Commands in words: p3, v0, a1, sums and counts.
 
-use crate::scan::{Block, Code, Line, Scan, Term};
+use crate::scan::{Block, Code, Line, Scan};
 use std::fmt::Write;
 
 /// The operators of conditions by their number.
@@ -24,13 +24,14 @@ pub fn block(block: Block) -> String {
     }
 }
 
-/// A sum, and a constant that is left out beside terms if it is 0.
-pub fn sum(normal: bool, terms: &[Term], constant: i64) -> String {
+/// The sum of a condition or an effect without terms of weight 0, and a constant that is left out
+/// beside terms if it is 0.
+fn sum(normal: bool, line: &Line, constant: i64) -> String {
     let mut text = String::new();
-    for term in terms {
+    for term in line.contributing() {
         add(&mut text, term.weight, &variable(normal, term.variable));
     }
-    if terms.is_empty() || constant != 0 {
+    if text.is_empty() || constant != 0 {
         add(&mut text, constant, "");
     }
     text
@@ -73,16 +74,17 @@ pub fn line(normal: bool, line: &Line) -> String {
         Code::Deletes => format!("deletes p{}", line.index(0)),
         Code::Term => {
             let (weight, variable) = (line.operand(1), variable(normal, line.index(0)));
-            format!("term {weight} {variable}")
+            let remark = if weight == 0 { ": no contribution" } else { "" };
+            format!("term {weight} {variable}{remark}")
         }
         Code::Condition => {
-            let (sum, constant) = (sum(normal, &line.terms, 0), line.operand(1));
+            let (sum, constant) = (sum(normal, line, 0), line.operand(1));
             format!("needs {sum} {} {constant}", sign(&COMPARISONS, line))
         }
         Code::Effect => {
             let (variable, sum) = (
                 variable(normal, line.index(1)),
-                sum(normal, &line.terms, line.operand(2)),
+                sum(normal, line, line.operand(2)),
             );
             format!("{variable} {} {sum}", sign(&CHANGES, line))
         }

@@ -1,9 +1,9 @@
--- Demands 2 and 3 at M1: their premises can be met, with the memories that document 01 names and no more.
--- Assumes nothing.
+-- Demands 2 and 3 at M1, and at a table with terms of weight 0: their premises can be met, with the memories that document 01 names and
+-- no more. Assumes nothing.
 use Prim.Native.Nat.{ℕ, zero, suc, _≤_}
 use mathlib.Core.Path.{_≡_, refl}
 use mathlib.Core.Bool.{false}
-use mathlib.Core.List.{[], _∷_}
+use mathlib.Core.List.{List, [], _∷_, _++_}
 use mathlib.Core.Option.{some}
 use native.Mathlib.Omega.{arith}
 use lib.Dec.{lit≤}
@@ -67,3 +67,51 @@ m1-read :
     ≡ some ((0, 2) ∷ (1, 4) ∷ (2, 1) ∷ [])
 unfolding computing m1
 m1-read = refl
+
+-- ---- a table with terms of weight 0
+
+-- v0 := 0·v0 + v1, goal v0 + 0·v1 ≥ 5; from v0 = 0, v1 = 5
+unfoldable pub gridGoal : List ℕ
+gridGoal =
+    (0x54 ∷ 0 ∷ 2 ∷ 1 ∷ 0x41 ∷ 0x57 ∷ 0 ∷ 0 ∷ 0 ∷ 0x57 ∷ 1 ∷ 0 ∷ 1 ∷ 0x46 ∷ 0 ∷ 0 ∷ 0 ∷ 0 ∷ 0 ∷ 0 ∷ [])
+    ++ (0x47 ∷ 0x57 ∷ 0 ∷ 0 ∷ 1 ∷ 0x57 ∷ 1 ∷ 0 ∷ 0 ∷ 0x43 ∷ 0 ∷ 0 ∷ 0 ∷ 0 ∷ 5 ∷ 0x45 ∷ [])
+
+unfoldable pub gridState : List ℕ
+gridState = 0 ∷ 0 ∷ 0 ∷ 0 ∷ 0 ∷ 0 ∷ 0 ∷ 5 ∷ []
+
+gridTable : Table
+gridTable = tableIn (reading paper (only written) gridGoal)
+
+grid-small : (u : ℕ) → u ≤ reported (endOf gridTable gridState) → wrong15 paper (relaxedTask gridTable) (layerZero gridTable gridState) u ≡ false
+unfolding computing gridGoal gridState gridTable tableIn
+grid-small zero h = refl
+grid-small (suc zero) h = refl
+grid-small (suc (suc u)) h = absurd (omega arith)
+
+pub grid-given : Given gridGoal gridState (zeros 39) (replicate 9 (pos 7)) (zeros 10)
+unfolding computing gridGoal gridState gridTable tableIn
+grid-given =
+    record {
+      table = gridTable;
+      read = refl;
+      state = refl;
+      normalRoom = lit≤ tt;
+      layerRoom = lit≤ tt;
+      planRoom = lit≤ tt;
+      small = grid-small;
+    }
+
+pub grid-demand2 : SameSolutions gridGoal (zeros 39) (grid-given .table)
+grid-demand2 = demand2 gridGoal (zeros 39) (grid-given .table) (grid-given .read) (grid-given .normalRoom)
+
+pub grid-demand3 :
+    let n = length (normalBytes (grid-given .table .task)) in
+    Answers (grid-given .table) gridGoal gridState (zeros 39) (replicate 9 (pos 7)) (zeros 10) (normalPart gridGoal (zeros 39) n)
+    (decideAnswer paper (normalPart gridGoal (zeros 39) n) gridState (replicate 9 (pos 7)))
+    (planAnswer paper (normalPart gridGoal (zeros 39) n) gridState (replicate 9 (pos 7)) (zeros 10))
+grid-demand3 = demand3 gridGoal gridState (zeros 39) (replicate 9 (pos 7)) (zeros 10) grid-given
+
+-- its one record: move 0 once
+grid-read : recordsRead 1 (planOut paper (normalPart gridGoal (zeros 39) 39) gridState (replicate 9 (pos 7)) (zeros 10)) ≡ some ((0, 1) ∷ [])
+unfolding computing gridGoal gridState
+grid-read = refl

@@ -51,6 +51,12 @@ module _ {A : Type 0} (f : A → Bool) (x : A) where
   in-any only [] t = t
   in-any only (y ∷ ys) t = or-cases (f y) (any f ys) t (λ h. inl (only y h)) (λ h. inr (in-any only ys h))
 
+-- who passed
+pub any-who : {A X : Type 0} (f : A → Bool) (xs : List A) → T (any f xs) → ((x : A) → In x xs → T (f x) → X) → X
+unfolding any
+any-who f [] t g = absurd t
+any-who f (x ∷ xs) t g = or-cases (f x) (any f xs) t (g x (inl refl)) (λ h. any-who f xs h (λ y i. g y (inr i)))
+
 -- what f gives for i, i + 1, .. is in its table, and nothing else
 module _ {A : Type 0} (f : ℕ → A) where
   pub in-tabulate : (i n j : ℕ) → i ≤ j → j < i + n → In (f j) (tabulate f i n)

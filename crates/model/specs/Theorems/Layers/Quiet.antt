@@ -20,6 +20,7 @@ use Rattle.model.specs.Circle.{isAssign, itemEdge, edge}
 use Rattle.model.specs.Theorems.Reading.WellFormed.{All, TermOk, EffectOk, ItemOk, TaskOk}
 use Rattle.model.specs.Theorems.Laws.Booleans.{T-true, and-both, or-right, or-cases, cond-cases}
 use Rattle.model.specs.Theorems.Laws.Searching.{All-at, at-All, any-at}
+use Rattle.model.specs.Theorems.Reading.Kept.{kept-normal}
 use Rattle.model.specs.Theorems.Layers.Order.{_⊑_, ⊑-refl, ⊑-trans, reaches-mono, plus-mono, _≼_, layerSum-rises}
 use Rattle.model.specs.Theorems.Layers.NextLayer.{effectOn-cases, raised-offer, raised-least, gained-cases, gained-at, move-ok}
 use Rattle.model.specs.Theorems.Reading.Circles.{EdgesWithin, edges-within, rank, rank-below, rank-rises}
@@ -63,7 +64,8 @@ assign-edge :
 unfolding itemEdge isAssign
 assign-edge L k e v j known kind at-v l =
     known .drawn u v
-    (rw (kind, at-v) (and-both (eqb v v) (any reads (e .terms)) (eqb-refl v) (any-at reads (e .terms) noTerm j l (eqb-refl u))))
+    (rw (kept-normal L (k .vars) (e .terms) (known .checked .sum .terms), kind, at-v)
+    (and-both (eqb v v) (any reads (e .terms)) (eqb-refl v) (any-at reads (e .terms) noTerm j l (eqb-refl u))))
   where
     u : ℕ
     u = getD (e .terms) j noTerm .var

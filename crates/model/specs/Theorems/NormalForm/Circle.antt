@@ -4,16 +4,17 @@ use Prim.Native.Nat.{ℕ, _+_, _*_, _/_}
 use native.Mathlib.Omega.{arith}
 use mathlib.Core.Path.{_≡_, refl}
 use mathlib.Core.Bool.{Bool, false, _&&_, _||_, or-false}
-use mathlib.Core.List.{List}
+use mathlib.Core.List.{List, map}
 use borrow.Author.Tests.{eq-eqb}
 use lib.Dec.{T, eqb, eqb→eq}
 use lib.IntN.{ℤ}
 use Rattle.model.specs.Lists.{any}
-use Rattle.model.specs.Task.{Term, Kind, assign, increase, decrease, Item, need, add, delete, condition, effect, Block, Task}
+use Rattle.model.specs.Task.{Term, kept, Kind, assign, increase, decrease, Item, need, add, delete, condition, effect, Block, Task}
 use Rattle.model.specs.NormalForm.{negated, signedTerm, signedSum, mirrored, normalEffect, normalItem, normalBlock, normalTask}
 use Rattle.model.specs.Circle.{isAssign, itemEdge, edge, Walk, one, more, Circle, circular}
 use Rattle.model.specs.Theorems.Laws.Booleans.{true-T, T-true, and-left, and-right, and-both, or-cases, not-false}
 use Rattle.model.specs.Theorems.Reading.Circles.{EdgesWithin, circular-circle, no-circle}
+use Rattle.model.specs.Theorems.Reading.Kept.{kept-any, kept-negated}
 use Rattle.model.specs.Theorems.NormalForm.SignedSums.{signed-var, negative, negated-map}
 use Rattle.model.specs.Theorems.NormalForm.Blocks.{any-map, any-implies, any-normal, any-condition}
 
@@ -22,22 +23,23 @@ abbrev stands : ℕ → List Term → Bool
 stands w ts = any (λ (t : Term). eqb (t .var) w) ts
 
 module _ (u v : ℕ) where
-  -- where u stands in a signed sum, its variable stands in the sum that it comes from
-  signed-stands : (ts : List Term) → T (stands u (signedSum ts)) → T (stands (u / 2) ts)
+  -- where u stands in a signed sum, its variable stands in what is kept of the sum that it comes from
+  signed-stands : (ts : List Term) → T (stands u (kept (signedSum ts))) → T (stands (u / 2) (kept ts))
   unfolding signedSum
   signed-stands ts h =
-      any-implies (λ (t : Term). eqb (signedTerm t .var) u) (λ (t : Term). eqb (t .var) (u / 2)) half ts
-      (rw (any-map (λ (t : Term). eqb (t .var) u) signedTerm ts) at h)
+      any-implies (λ (t : Term). eqb (signedTerm t .var) u) (λ (t : Term). eqb (t .var) (u / 2)) half (kept ts)
+      (rw (any-map (λ (t : Term). eqb (t .var) u) signedTerm (kept ts))
+      at (kept-any (λ (t : Term). eqb (t .var) u) (map signedTerm (kept ts)) h))
     where
       half : (t : Term) → T (eqb (signedTerm t .var) u) → T (eqb (t .var) (u / 2))
       half t k =
           let same : signedTerm t .var ≡ u = eqb→eq (signedTerm t .var) u k in
           true-T (eq-eqb (t .var) (u / 2) (omega (arith, signed-var t)))
 
-  negated-stands : (ts : List Term) → T (stands u (signedSum (negated ts))) → T (stands (u / 2) ts)
+  negated-stands : (ts : List Term) → T (stands u (kept (signedSum (negated ts)))) → T (stands (u / 2) (kept ts))
   negated-stands ts h =
-      rw (any-map (λ (t : Term). eqb (t .var) (u / 2)) negative ts)
-      at (rw (← negated-map ts) at (signed-stands (negated ts) h))
+      rw (any-map (λ (t : Term). eqb (t .var) (u / 2)) negative (kept ts))
+      at (rw (kept-negated ts, ← negated-map (kept ts)) at (signed-stands (negated ts) h))
 
   -- an effect on i with the sum ns, written for an effect on w with the sum ts
   side-edge :
@@ -54,12 +56,12 @@ module _ (u v : ℕ) where
   effect-edge :
       (k : Kind) (w : ℕ) (ts : List Term) (c : ℤ)
       → T (any (itemEdge u v) (normalEffect k w ts c))
-      → T (isAssign k && eqb w (v / 2) && stands (u / 2) ts)
+      → T (isAssign k && eqb w (v / 2) && stands (u / 2) (kept ts))
   unfolding any itemEdge isAssign normalEffect mirrored
   effect-edge assign w ts c h =
-      or-cases (even && stands u (signedSum ts)) (odd && stands u (signedSum (negated ts)) || false) h
-      (side-edge (2 * w) w (signedSum ts) ts (omega arith) (signed-stands ts))
-      (λ k. side-edge (2 * w + 1) w (signedSum (negated ts)) ts (omega arith) (negated-stands ts) (rw or-false at k))
+      or-cases (even && stands u (kept (signedSum ts))) (odd && stands u (kept (signedSum (negated ts))) || false) h
+      (side-edge (2 * w) w (kept (signedSum ts)) (kept ts) (omega arith) (signed-stands ts))
+      (λ k. side-edge (2 * w + 1) w (kept (signedSum (negated ts))) (kept ts) (omega arith) (negated-stands ts) (rw or-false at k))
     where
       even : Bool
       even = eqb (2 * w) v

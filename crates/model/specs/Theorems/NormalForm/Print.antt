@@ -2,18 +2,19 @@
 -- accepted for both tables or for neither. Assumes nothing.
 use Prim.Native.Nat.{ℕ, _+_, _*_, _/_, _≤_}
 use native.Mathlib.Omega.{arith}
-use mathlib.Core.Path.{_≡_, refl, ap, _∙_}
+use mathlib.Core.Path.{_≡_, refl, sym, ap, _∙_}
 use mathlib.Core.List.{List, [], _∷_, _++_, map}
 use lib.IntN.{ℤ, pos, negℤ, _+ℤ_, _-ℤ_}
 use lib.ListN.{length, length-append, length-map}
 use Rattle.model.specs.Limits.{Limits, paper}
-use Rattle.model.specs.Task.{Form, written, normal, Term, Comparison, atLeast, above, atMost, below, equal, Kind, assign, increase, decrease, Item, need, add, delete, condition, effect, Block, Task, termsOf}
+use Rattle.model.specs.Task.{Form, written, normal, Term, kept, Comparison, atLeast, above, atMost, below, equal, Kind, assign, increase, decrease, Item, need, add, delete, condition, effect, Block, Task, termsOf}
 use Rattle.model.specs.NormalForm.{negated, signedTerm, signedSum, least, normalCondition, mirrored, normalEffect, normalItem, normalBlock, normalTask}
 use Rattle.model.specs.Command.{openGoal, endTable, codeOf, width, itemBytes, itemsBytes, movesBytes, taskBytes}
 use Rattle.model.specs.Reading.{Table, accepted, only, lengthLimit, reading}
 use Rattle.model.specs.Calls.{normalBytes}
 use Rattle.model.specs.StateTable.{stateRefusal}
 use Rattle.model.specs.Theorems.Reading.WellFormed.{TaskOk}
+use Rattle.model.specs.Theorems.Reading.Kept.{kept-length}
 use Rattle.model.specs.Theorems.Reading.Accepted.{reading-length, reading-limit, reading-form, reading-task}
 use Rattle.model.specs.Theorems.NormalForm.SignedSums.{negative, negated-map}
 use Rattle.model.specs.Theorems.NormalForm.Task.{normal-ok}
@@ -23,9 +24,10 @@ use Rattle.model.specs.Theorems.Printing.Tables.{marksOf, headOf, printe
 
 -- ---- lengths
 
-length-signed : (ts : List Term) → length (signedSum ts) ≡ length ts
+-- "the normal form drops it": a signed sum has no more terms
+length-signed : (ts : List Term) → length (signedSum ts) ≤ length ts
 unfolding signedSum
-length-signed ts = length-map ts signedTerm
+length-signed ts = omega (arith, length-map (kept ts) signedTerm, kept-length ts)
 
 length-negated : (ts : List Term) → length (negated ts) ≡ length ts
 length-negated ts = rw (← negated-map ts) (length-map ts negative)
@@ -39,7 +41,7 @@ length-items (i ∷ b) d =
 -- a normal condition, and a normal effect, in front of a block
 length-least :
     (ts : List Term) (c : ℤ) (b : Block)
-    → length (itemsBytes (least ts c ∷ b)) ≡ 4 * length ts + 6 + length (itemsBytes b)
+    → length (itemsBytes (least ts c ∷ b)) ≤ 4 * length ts + 6 + length (itemsBytes b)
 unfolding itemsBytes least termsOf itemCommand width
 length-least ts c b =
     omega (arith, length-append (itemBytes (least ts c)) (itemsBytes b), length-item (least ts c), length-signed ts)
@@ -47,7 +49,7 @@ length-least ts c b =
 length-effect :
     (k : Kind) (v : ℕ) (ts : List Term) (c : ℤ) (b : Block)
     → length (itemsBytes (effect (record { kind = k; var = v; terms = signedSum ts; base = c }) ∷ b))
-    ≡ 4 * length ts + 7 + length (itemsBytes b)
+    ≤ 4 * length ts + 7 + length (itemsBytes b)
 unfolding itemsBytes termsOf itemCommand width
 length-effect k v ts c b =
     let i : Item = effect (record { kind = k; var = v; terms = signedSum ts; base = c }) in
@@ -67,7 +69,7 @@ condition-length equal ts c =
 
 mirrored-length :
     (k : Kind) (v : ℕ) (ts : List Term) (c : ℤ)
-    → length (itemsBytes (mirrored k v ts c)) ≡ 2 * (4 * length ts + 7)
+    → length (itemsBytes (mirrored k v ts c)) ≤ 2 * (4 * length ts + 7)
 unfolding mirrored itemsBytes
 mirrored-length k v ts c =
     let mirror : Item = effect (record { kind = k; var = 2 * v + 1; terms = signedSum (negated ts); base = negℤ c }) in
@@ -76,12 +78,11 @@ mirrored-length k v ts c =
 
 effect-length :
     (k : Kind) (v : ℕ) (ts : List Term) (c : ℤ)
-    → length (itemsBytes (normalEffect k v ts c)) ≡ 2 * (4 * length ts + 7)
+    → length (itemsBytes (normalEffect k v ts c)) ≤ 2 * (4 * length ts + 7)
 unfolding normalEffect
 effect-length assign v ts c = mirrored-length assign v ts c
 effect-length increase v ts c = mirrored-length increase v ts c
-effect-length decrease v ts c =
-    mirrored-length increase v (negated ts) (negℤ c) ∙ ap (λ (n : ℕ). 2 * (4 * n + 7)) (length-negated ts)
+effect-length decrease v ts c = omega (arith, mirrored-length increase v (negated ts) (negℤ c), length-negated ts)
 
 item-length : (i : Item) → length (itemsBytes (normalItem i)) ≤ 2 * length (itemBytes i)
 unfolding normalItem itemBytes itemsBytes termsOf itemCommand width
@@ -111,7 +112,7 @@ moves-length (b ∷ bs) =
       moves-length bs,
     )
 
-length-task :
+pub length-task :
     (f : Form) (k : Task)
     → length (taskBytes f k) ≡ 6 + length (movesBytes (k .moves)) + length (itemsBytes (k .goal))
 unfolding taskBytes
@@ -158,15 +159,17 @@ normal-read {L} k small room ok short =
     print-read-only normal (normalTask k) small (normal-ok L k ok) (omega (arith, normal-length k))
     ∙ ap accepted (normal-table k)
 
+-- the print of an accepted written table's task is as long as the table
+pub written-length : (t : List ℕ) {w : Table} → reading paper (only written) t ≡ accepted w → length (taskBytes written (w .task)) ≡ length t
+written-length t {w} e =
+    ap (λ (f : Form). length (taskBytes f (w .task))) (sym (reading-form paper written t e)) ∙ sym (reading-length paper (only written) t e)
+
 -- "written 32,000 .. bytes at most"
 pub written-short : (t : List ℕ) {w : Table} → reading paper (only written) t ≡ accepted w → length (taskBytes written (w .task)) ≤ 32_000
 unfolding paper lengthLimit
 written-short t {w} e =
     let limit : length t ≤ 32_000 = reading-limit paper (only written) t e in
-    let long : length t ≡ length (taskBytes (w .header .form) (w .task)) = reading-length paper (only written) t e in
-    let same : length (taskBytes (w .header .form) (w .task)) ≡ length (taskBytes written (w .task)) =
-    ap (λ (f : Form). length (taskBytes f (w .task))) (reading-form paper written t e) in
-    omega arith
+    omega (arith, written-length t e)
 
 -- The normal form of every accepted written table is a table that decide and plan accept: head 4E with the same propositions,
 -- twice the variables and as many moves, and the normal task.

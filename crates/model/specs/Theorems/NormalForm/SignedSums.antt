@@ -7,10 +7,11 @@ use mathlib.Core.List.{List, [], _∷_, map}
 use lib.IntN.{ℤ, pos, negℤ, _+ℤ_, _*ℤ_}
 use lib.Signed.{ltZ, ltZ-yes, _<ℤ_, _≤ℤ_}
 use Rattle.integer.specs.Linear.{lt-false, neg-neg, neg-sum, neg-*, *-neg}
-use Rattle.model.specs.Task.{Term}
+use Rattle.model.specs.Task.{Term, kept}
 use Rattle.model.specs.Move.{State, sum}
 use Rattle.model.specs.NormalForm.{negated, signedTerm, signedSum, normalState}
 use Rattle.model.specs.Theorems.Laws.Booleans.{cond-cases, not-false}
+use Rattle.model.specs.Theorems.Reading.Kept.{kept-sum}
 
 -- "Signed variable 2i is v_i and 2i+1 is −v_i."
 pub even-value : (s : State) (i : ℕ) → normalState s .val (2 * i) ≡ s .val i
@@ -63,11 +64,15 @@ signed-product s t =
     ∙ ap negℤ (*-neg (t .weight) (s .val (t .var)))
     ∙ neg-neg (t .weight *ℤ s .val (t .var)))
 
--- A signed sum has in the normal state the value of the sum that it comes from.
+signed-terms : (s : State) (ts : List Term) → sum (normalState s .val) (map signedTerm ts) ≡ sum (s .val) ts
+unfolding sum
+signed-terms s [] = refl
+signed-terms s (t ∷ ts) = ap₂ _+ℤ_ (signed-product s t) (signed-terms s ts)
+
+-- A signed sum has in the normal state the value of the sum that it comes from: what it drops contributes nothing.
 pub signed-sum : (s : State) (ts : List Term) → sum (normalState s .val) (signedSum ts) ≡ sum (s .val) ts
-unfolding sum signedSum
-signed-sum s [] = refl
-signed-sum s (t ∷ ts) = ap₂ _+ℤ_ (signed-product s t) (signed-sum s ts)
+unfolding signedSum
+signed-sum s ts = signed-terms s (kept ts) ∙ kept-sum (s .val) ts
 
 -- −S term by term
 abbrev pub negative : Term → Term

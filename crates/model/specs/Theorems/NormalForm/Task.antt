@@ -8,11 +8,12 @@ use lib.IntN.{ℤ, pos, negℤ, natAbs, _+ℤ_, _-ℤ_}
 use lib.ListN.{length-map}
 use Rattle.integer.specs.Linear.{zlin, +-comm, neg-up, neg-dn, natAbs-split, abs-neg, size-below, size-above}
 use Rattle.model.specs.Limits.{Limits}
-use Rattle.model.specs.Task.{written, normal, Term, Comparison, atLeast, above, atMost, below, equal, Kind, assign, increase, decrease, Item, need, add, delete, condition, effect, Block, Task}
+use Rattle.model.specs.Task.{written, normal, Term, kept, Comparison, atLeast, above, atMost, below, equal, Kind, assign, increase, decrease, Item, need, add, delete, condition, effect, Block, Task}
 use Rattle.model.specs.NormalForm.{negated, signedTerm, signedSum, least, normalCondition, mirrored, normalEffect, normalItem, normalBlock, normalTask}
 use Rattle.model.specs.Theorems.Reading.WellFormed.{All, Rising, WeightOk, TermOk, SumOk, BoundOk, KindOk, ConditionOk, ItemOk, BlockOk, GoalItem, TaskOk}
 use Rattle.model.specs.Theorems.Laws.Searching.{All-map}
 use Rattle.model.specs.Theorems.Reading.Circles.{edges-within}
+use Rattle.model.specs.Theorems.Reading.Kept.{kept-length, kept-rising, kept-weighs}
 use Rattle.model.specs.Theorems.NormalForm.Names.{normal-once}
 use Rattle.model.specs.Theorems.NormalForm.Circle.{normal-no-circle}
 use Rattle.model.specs.Theorems.NormalForm.SignedSums.{signed-term-cases, signed-var, negative, negated-map}
@@ -32,11 +33,11 @@ rising-of-map f h (t ∷ ts) r =
     (All-of-map (λ (u : Term). f t .var < u .var) f ts (h t) (r .0), rising-of-map f h ts (r .1))
 
 module _ (L : Limits) (n : ℕ) where
-  -- "Normal: weights 1..1000"
-  signed-weight : (t : Term) → WeightOk L written (t .weight) → WeightOk L normal (signedTerm t .weight)
-  signed-weight t ok =
+  -- "Normal: weights 1..1000", of a term that is kept
+  signed-weight : (t : Term) → WeightOk L written (t .weight) → 0 < natAbs (t .weight) → WeightOk L normal (signedTerm t .weight)
+  signed-weight t ok weighs =
       signed-term-cases (λ (u : Term). WeightOk L normal (u .weight)) t
-      (λ plus. (omega zlin, ok .1))
+      (λ plus. (omega zlin, ok))
       (λ minus. (
         omega (zlin, natAbs-split (t .weight), neg-up (t .weight), neg-dn (t .weight)),
         omega (arith, abs-neg (t .weight)),
@@ -48,10 +49,12 @@ module _ (L : Limits) (n : ℕ) where
   signed-sum-ok ts ok =
       record {
         terms =
-            All-of-map (TermOk L normal (2 * n)) signedTerm ts
-            (λ t h. record { var = omega (arith, signed-var t, h .var); weight = signed-weight t (h .weight) }) (ok .terms);
-        few = omega (arith, length-map ts signedTerm, ok .few);
-        rising = rising-of-map signedTerm (λ t u h. omega (arith, signed-var t, signed-var u)) ts (ok .rising);
+            All-of-map (TermOk L normal (2 * n)) signedTerm (kept ts)
+            (λ t h. record { var = omega (arith, signed-var t, h .0 .var); weight = signed-weight t (h .0 .weight) (h .1) })
+            (kept-weighs (TermOk L written n) ts (ok .terms));
+        few = omega (arith, length-map (kept ts) signedTerm, kept-length ts, ok .few);
+        rising =
+            rising-of-map signedTerm (λ t u h. omega (arith, signed-var t, signed-var u)) (kept ts) (kept-rising ts (ok .rising));
       }
 
   negated-sum-ok : (ts : List Term) → SumOk L written n ts → SumOk L written n (negated ts)

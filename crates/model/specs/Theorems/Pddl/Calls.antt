@@ -3,7 +3,7 @@
 use Prim.Native.Nat.{ℕ, _+_, _*_, _≤_, _<_}
 use mathlib.Core.Path.{_≡_, refl, sym, ap, ap₂, _∙_, subst, subst₂}
 use mathlib.Core.Logic.{_↔_}
-use mathlib.Core.List.{List, [], _∷_, _++_}
+use mathlib.Core.List.{List, _++_}
 use mathlib.Core.Option.{Option, none, some}
 use native.Mathlib.Omega.{arith}
 use lib.IntN.{ℤ}
@@ -12,14 +12,13 @@ use Rattle.integer.specs.BigEndian.{AllBytes}
 use Rattle.model.specs.declared.Refusal.{Refusal}
 use Rattle.model.specs.declared.WriteAnswer.the-variants as write
 use Rattle.model.specs.Limits.{Limits, paper}
-use Rattle.model.specs.Task.{written, need, add, delete, condition, effect, Block, Task}
+use Rattle.model.specs.Task.{written, Task}
 use Rattle.model.specs.Move.{State, real, Solves}
 use Rattle.model.specs.Reading.{Table, Verdict, accepted, refused, only, reading}
 use Rattle.model.specs.StateTable.{stateOf, stateRefusal, stateBytes}
 use Rattle.model.specs.Calls.{Output, writes, turns, fitted, campaignDecision}
 use Rattle.model.specs.Pddl.{Domain, Problem, domainText, problemText, domainOf, problemOf, taskText, textWithState, textOf, pddlText, pddlAnswer, pddlOut}
 use Rattle.model.specs.PddlMeaning.{IsPlan, TextPlan}
-use Rattle.model.specs.Theorems.Reading.WellFormed.{All, GoalItem}
 use Rattle.model.specs.Theorems.Reading.Accepted.{reading-task}
 use Rattle.model.specs.Theorems.Reading.States.{accepted-state, stateBytes-same, state-canonical}
 use Rattle.model.specs.Theorems.Printing.Outputs.{fitted-whole, fitted-short, fitted-cases, written-part}
@@ -28,7 +27,7 @@ use Rattle.model.specs.Theorems.Campaigns.OneCall.{campaign-promise}
 use Rattle.model.specs.Theorems.Pddl.Declared.{Declared, text-declared}
 use Rattle.model.specs.Theorems.Pddl.Plans.{plan-solves}
 use Rattle.model.specs.Theorems.Pddl.Documents.{one-document}
-use Rattle.model.specs.Theorems.Pddl.Text.{conditionsOf, Same, one-text}
+use Rattle.model.specs.Theorems.Pddl.Text.{conditionsOf, Same, whole-goal, one-text}
 use Rattle.model.specs.Theorems.Pddl.Sizes.{accepted-size}
 
 -- ---- what a call that writes was given
@@ -115,16 +114,6 @@ wrote-part L t bs out n e =
     wrote L t bs (take n (pddlOut L t bs out)) (length out) (written-part (pddlText L t bs (length out)) out n e)
 
 -- ---- calls that write the same
-
--- the goal has conditions only
-whole-goal : (b : Block) → All GoalItem b → conditionsOf b ≡ b
-unfolding conditionsOf
-whole-goal [] a = refl
-whole-goal (need p ∷ b) a = ap (λ (c : Block). need p ∷ c) (whole-goal b (a .1))
-whole-goal (add p ∷ b) a = absurd (a .0)
-whole-goal (delete p ∷ b) a = absurd (a .0)
-whole-goal (condition c ∷ b) a = ap (λ (d : Block). condition c ∷ d) (whole-goal b (a .1))
-whole-goal (effect e ∷ b) a = absurd (a .0)
 
 -- the tables and states of two calls that wrote the same: "the same state, moves and goal, the conditions and the effects of each in
 -- the same order"

@@ -1,5 +1,5 @@
--- PDDL text computed from bytes: M1's, that of a table with every form, the empty table's; the order of refusals; a plan of M1's text.
--- Assumes nothing.
+-- PDDL text computed from bytes: M1's, that of a table with every form, the empty table's, that of a table with a term of weight 0; the
+-- order of refusals; a plan of M1's text. Assumes nothing.
 use Prim.Native.Nat.{ℕ}
 use Prim.Native.String.{String}
 use mathlib.Core.Path.{_≡_, refl}
@@ -13,6 +13,7 @@ use Rattle.model.specs.StateTable.{stateOf}
 use Rattle.model.specs.Pddl.{pddlAnswer, pddlOut}
 use Rattle.model.specs.PddlMeaning.{TextPlan}
 use Rattle.model.specs.Theorems.Campaigns.Tables.{zeros, m1, m1Normal, emptyGoal}
+use Rattle.model.specs.Theorems.Campaigns.Cases.{grid}
 use Rattle.model.specs.Theorems.Campaigns.Computing.{computing}
 use Rattle.model.specs.Theorems.Campaigns.Instance.{tableIn, m1Table}
 use Rattle.model.specs.Theorems.Pddl.Calls.{Wrote, text-plans}
@@ -121,25 +122,50 @@ emptyText =
     ∷ "  (:goal (and)))"
     ∷ [])
 
+-- v0 := 0·v0 + v1
+unfoldable pub gridText : List ℕ
+gridText =
+    textLines
+    ("(define (domain campaign)"
+    ∷ "  (:requirements :strips :fluents)"
+    ∷ "  (:functions"
+    ∷ "    (v0)"
+    ∷ "    (v1))"
+    ∷ "  (:action a0"
+    ∷ "    :parameters ()"
+    ∷ "    :precondition (and)"
+    ∷ "    :effect (and"
+    ∷ "      (assign (v0) (+ (* 0 (v0)) (+ (* 1 (v1)) 0))))))"
+    ∷ "(define (problem start)"
+    ∷ "  (:domain campaign)"
+    ∷ "  (:init"
+    ∷ "    (= (v0) 0)"
+    ∷ "    (= (v1) 0))"
+    ∷ "  (:goal (and)))"
+    ∷ [])
+
 pub record Cases : Type 0 where
   pub m1-text : pddlOut paper m1 (zeros 9) (zeros 631) ≡ m1Text
   -- "the answer carries the length written from the start"
   pub m1-length : pddlAnswer paper m1 (zeros 9) (zeros 631) ≡ write.Written 631
   pub mixed-text : pddlOut paper mixed mixedState (zeros 596) ≡ mixedText
   pub empty-text : pddlOut paper emptyGoal [] (zeros 134) ≡ emptyText
+  -- weight 0: "The PDDL text writes it out."
+  pub grid-text : pddlOut paper grid (zeros 8) (zeros 325) ≡ gridText
   -- "Too short a buffer is 13 .. and comes last": behind the table's refusals and the state's
   pub short : pddlAnswer paper m1 (zeros 9) (zeros 630) ≡ write.Refused (record { number = 13; place = 0 })
   pub state-first : pddlAnswer paper m1 (zeros 8) [] ≡ write.Refused (record { number = 8; place = 0 })
   pub table-first : pddlAnswer paper m1Normal [] [] ≡ write.Refused (record { number = 3; place = 0 })
 
 pub cases : Cases
-unfolding computing textLines m1 m1Normal emptyGoal m1Text mixed mixedState mixedText emptyText
+unfolding computing textLines m1 m1Normal emptyGoal m1Text mixed mixedState mixedText emptyText grid gridText
 cases =
     record {
       m1-text = refl;
       m1-length = refl;
       mixed-text = refl;
       empty-text = refl;
+      grid-text = refl;
       short = refl;
       state-first = refl;
       table-first = refl;

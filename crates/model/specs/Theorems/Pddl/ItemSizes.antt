@@ -60,7 +60,7 @@ module _ (vars : ℕ) (few-vars : vars ≤ 16) where
   unfolding sumOf expressionText ascii paper
   sum-size [] c ok small = omega (arith, number-size 6 c (omega arith))
   sum-size (t ∷ ts) c ok small =
-      let weight : natAbs (t .weight) ≤ 1000 = ok .0 .weight .1 in
+      let weight : natAbs (t .weight) ≤ 1000 = ok .0 .weight in
       let var : t .var < vars = ok .0 .var in
       simp length-append
       (omega (arith, sum-size ts c (ok .1) small, number-size 3 (t .weight) (omega arith), head-size (t .var) (omega arith)))

@@ -13,6 +13,7 @@ use Rattle.model.specs.Move.{State}
 use Rattle.model.specs.Pddl.{Expression, number, fluent, plus, times, Formula, atom, compare, Change, gain, lose, alter, Action, Domain, Fact, given, equals, Problem, domainText, problemText, sumOf, compareOf, alterOf, formulasOf, changesOf, actionOf, actionsFrom, domainOf, truths, values, problemOf, taskText}
 use Rattle.model.specs.PddlMeaning.{Initial}
 use Rattle.model.specs.Theorems.Laws.Searching.{length-tabulate, tabulate-same}
+use Rattle.model.specs.Theorems.Reading.WellFormed.{All, GoalItem}
 use Rattle.model.specs.Theorems.Reading.Agreeing.{AgreeBelow}
 use Rattle.model.specs.Theorems.Pddl.Plans.{initial-agrees, trimmed, initial-exists}
 use Rattle.model.specs.Theorems.Pddl.Documents.{one-document}
@@ -35,6 +36,16 @@ effectsOf (add p ∷ b) = add p ∷ effectsOf b
 effectsOf (delete p ∷ b) = delete p ∷ effectsOf b
 effectsOf (condition c ∷ b) = effectsOf b
 effectsOf (effect e ∷ b) = effect e ∷ effectsOf b
+
+-- the goal has conditions only
+pub whole-goal : (b : Block) → All GoalItem b → conditionsOf b ≡ b
+unfolding conditionsOf
+whole-goal [] a = refl
+whole-goal (need p ∷ b) a = ap (λ (c : Block). need p ∷ c) (whole-goal b (a .1))
+whole-goal (add p ∷ b) a = absurd (a .0)
+whole-goal (delete p ∷ b) a = absurd (a .0)
+whole-goal (condition c ∷ b) a = ap (λ (d : Block). condition c ∷ d) (whole-goal b (a .1))
+whole-goal (effect e ∷ b) a = absurd (a .0)
 
 -- "the same state, moves and goal, the conditions and the effects of each in the same order"
 pub record Same (k n : Task) (s t : State) : Type 0 where

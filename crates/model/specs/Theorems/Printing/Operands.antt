@@ -53,9 +53,7 @@ kind-range normal decrease ok = absurd ok
 module _ (L : Limits) where
   pub weight-range : (f : Form) (z : ℤ) → WeightOk L f z → T (weightInRange L f z)
   unfolding weightInRange
-  weight-range written z ok =
-      and-both (leb 1 (natAbs z)) (leb (natAbs z) (L .weight))
-      (le→leb 1 (natAbs z) (ok .0)) (le→leb (natAbs z) (L .weight) (ok .1))
+  weight-range written z ok = le→leb (natAbs z) (L .weight) ok
   weight-range normal z ok =
       and-both (leZ (pos 1) z) (leb (natAbs z) (L .weight))
       (true-T (le-leZ (ok .0))) (le→leb (natAbs z) (L .weight) (ok .1))
@@ -68,7 +66,7 @@ module _ (L : Limits) where
       (true-T (le-leZ (ok .0))) (true-T (le-leZ (ok .1)))
 
   pub weight-size : (f : Form) (z : ℤ) → WeightOk L f z → natAbs z ≤ L .weight
-  weight-size written z ok = ok .1
+  weight-size written z ok = ok
   weight-size normal z ok = ok .1
 
   pub bound-size : (f : Form) (z : ℤ) → BoundOk L f z → natAbs z ≤ L .constant + 1

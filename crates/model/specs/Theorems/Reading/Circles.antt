@@ -9,9 +9,10 @@ use native.Mathlib.Omega.{arith}
 use lib.Dec.{T, T-not, not-T, eqb, eqb→eq, eqb-refl}
 use Rattle.model.specs.Limits.{Limits}
 use Rattle.model.specs.Lists.{any, anyBelow}
-use Rattle.model.specs.Task.{Form, Item, need, add, delete, condition, effect, Task}
+use Rattle.model.specs.Task.{kept, Form, Item, need, add, delete, condition, effect, Task}
 use Rattle.model.specs.Circle.{isAssign, itemEdge, edge, Walk, one, more, Circle, walkTo, circular}
-use Rattle.model.specs.Theorems.Reading.WellFormed.{All, ItemOk, BlockOk}
+use Rattle.model.specs.Theorems.Reading.WellFormed.{All, ItemOk, BlockOk, TermOk}
+use Rattle.model.specs.Theorems.Reading.Kept.{kept-all}
 use Rattle.model.specs.Theorems.Laws.Booleans.{T-true, true-T, not-false, false-not, T-cases, or-cases, and-left, and-right, and-both}
 use Rattle.model.specs.Theorems.Laws.Searching.{anyBelow-cases, anyBelow-at}
 use Rattle.model.specs.Theorems.Laws.Counting.{count, count-most, count-grows, count-mono, count-fewer, count-last, count-first}
@@ -47,11 +48,11 @@ module _ (L : Limits) (f : Form) (props vars u v : ℕ) where
       on-v = isAssign (e .kind) && eqb (e .var) v
 
       reads-u : Bool
-      reads-u = any (λ w. eqb (w .var) u) (e .terms)
+      reads-u = any (λ w. eqb (w .var) u) (kept (e .terms))
 
       source : u < vars
       source =
-          any-among (λ w. eqb (w .var) u) (e .terms) (h .sum .terms) (and-right on-v reads-u t)
+          any-among (λ w. eqb (w .var) u) (kept (e .terms)) (kept-all (TermOk L f vars) (e .terms) (h .sum .terms)) (and-right on-v reads-u t)
           (λ w w-ok s. rw (eqb→eq (w .var) u s) at (w-ok .var))
 
       target : v < vars

@@ -21,10 +21,7 @@ vars-in-range L normal n h =
 
 pub weight-in-range : (L : Limits) (f : Form) (z : ℤ) → T (weightInRange L f z) → WeightOk L f z
 unfolding weightInRange
-weight-in-range L written z h =
-    let a = leb 1 (natAbs z) in
-    let b = leb (natAbs z) (L .weight) in
-    (leb→le 1 (natAbs z) (and-left a b h), leb→le (natAbs z) (L .weight) (and-right a b h))
+weight-in-range L written z h = leb→le (natAbs z) (L .weight) h
 weight-in-range L normal z h =
     let a = leZ (pos 1) z in
     let b = leb (natAbs z) (L .weight) in

@@ -23,9 +23,9 @@ abbrev pub Rising : List Term → Type 0
 Rising [] = Unit {0}
 Rising (t ∷ ts) = All (λ (u : Term). t .var < u .var) ts × Rising ts
 
--- "Written: weights −1000..1000 except 0 .. Normal: weights 1..1000"
+-- "Written: weights −1000..1000", 0 among them (02) ".. Normal: weights 1..1000"
 abbrev pub WeightOk : Limits → Form → ℤ → Type 0
-WeightOk L written w = (1 ≤ natAbs w) × (natAbs w ≤ L .weight)
+WeightOk L written w = natAbs w ≤ L .weight
 WeightOk L normal w = (pos 1 ≤ℤ w) × (natAbs w ≤ L .weight)
 
 pub record TermOk (L : Limits) (f : Form) (vars : ℕ) (t : Term) : Type 0 where

@@ -9,10 +9,11 @@ use lib.Signed.{_≤ℤ_}
 use Rattle.integer.specs.Linear.{zlin, up, dn, le-in, neg-up, neg-dn, diff, scaled, natAbs-split, abs-mul, size-above, size-below}
 use Rattle.integer.specs.Linear as Linear
 use Rattle.model.specs.Limits.{paper}
-use Rattle.model.specs.Task.{Form, written, normal, Term}
+use Rattle.model.specs.Task.{Form, Term}
 use Rattle.model.specs.Move.{sum}
 use Rattle.model.specs.Theorems.Reading.WellFormed.{All, TermOk, SumOk}
 use Rattle.model.specs.Theorems.Laws.Searching.{All-map}
+use Rattle.model.specs.Theorems.Printing.Operands as operands
 
 -- ---- places between two bounds
 
@@ -116,11 +117,10 @@ pub sum-few : {f : Form} {vars : ℕ} {ts : List Term} → SumOk paper f vars ts
 unfolding paper
 sum-few ok = record { terms = ok .terms; few = ok .few }
 
--- "Written: weights −1000..1000 except 0 .. Normal: weights 1..1000"
+-- "Written: weights −1000..1000 .. Normal: weights 1..1000"
 pub weight-size : {f : Form} {vars : ℕ} {t : Term} → TermOk paper f vars t → natAbs (t .weight) ≤ 1000
 unfolding paper
-weight-size {f = written} ok = ok .weight .1
-weight-size {f = normal} ok = ok .weight .1
+weight-size {f} {t = t} ok = operands.weight-size paper f (t .weight) (ok .weight)
 
 module _ {A : Type 0} (P : A → Type 0) where
   All-take : (n : ℕ) (xs : List A) → All P xs → All P (take n xs)
