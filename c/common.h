@@ -56,7 +56,7 @@ static inline bool refused(const char *call, uint64_t answer) {
     if (lapyndo_refusal(answer) == 0) {
         return false;
     }
-    printf("%s: refusal %" PRIu32 " place %" PRIu32 "\n", call, lapyndo_refusal(answer), lapyndo_place(answer));
+    printf("%s: refusal %" PRIu32 " place %" PRIu32 "\n", call, lapyndo_refusal(answer), lapyndo_refusal_place(answer));
     return true;
 }
 

@@ -1,5 +1,5 @@
-/* The campaign planning engine for hosts in C: planning a campaign, reading, normalising and stepping, and writing PDDL
- * for other planners.
+/* The campaign planning engine for hosts in C: planning a campaign, finding the part of the goal that blocks, reading,
+ * normalising and stepping, and writing PDDL for other planners.
  *
  * Every call takes any bytes and answers one 64-bit number:
  *
@@ -88,6 +88,26 @@ uint64_t lapyndo_campaign(const uint8_t *table, size_t table_len, const uint8_t 
                           uint8_t *normal, size_t normal_len, int64_t *layers, size_t layers_len, uint8_t *out,
                           size_t out_len, uint64_t *decision, uint64_t *records, uint64_t *first);
 
+/* Finds the part of the goal that blocks, from a normal table and a state: where there is "no plan", the first 50 or 43
+ * command of the goal, in table order, that the last layer does not meet. No list of moves, of any length, reaches that
+ * part alone: while it stays in the goal, giving up other parts does not help.
+ *
+ * lapyndo_normalise writes the normal table. A written condition with = has two parts there, S >= c and then -S >= -c, and
+ * every other one part, in the order of the written goal.
+ *
+ * Result: the offset of that command in the normal table, of a 43 itself and not of its first term; 0 if nothing blocks,
+ * which is so exactly where there is a plan. See lapyndo_offset.
+ * Refusals, in the order of the checks: 1 to 7; 8 and 9; 15 and 14. A normal table may have 64,000 bytes.
+ *
+ * state:  see lapyndo_step; two signed variables are one variable there.
+ * layers: P + A + N * (layers + 1) numbers suffice. P, N and A are the normal table's counts, and there are at most
+ *         (A + N + 1) * (N + 1) layers. The call leaves there what lapyndo_campaign leaves. Accepted, the entries and the
+ *         values of every layer, and the numbers behind are kept. Refused, every layer made before after 15, and after 14
+ *         with a place above 0; otherwise all numbers are kept.
+ */
+uint64_t lapyndo_blocking(const uint8_t *table, size_t table_len, const uint8_t *state, size_t state_len, int64_t *layers,
+                          size_t layers_len);
+
 /* Makes all checks of a written or normal table.
  *
  * Result: the head; see lapyndo_kind and the three counts.
@@ -139,7 +159,7 @@ uint64_t lapyndo_pddl(const uint8_t *table, size_t table_len, const uint8_t *sta
 static inline uint32_t lapyndo_refusal(uint64_t answer) { return (uint32_t)(answer >> 32); }
 
 /* Of a refusal: its place. */
-static inline uint32_t lapyndo_place(uint64_t answer) { return (uint32_t)answer; }
+static inline uint32_t lapyndo_refusal_place(uint64_t answer) { return (uint32_t)answer; }
 
 /* Of an accepted lapyndo_campaign, or of its decision, if that is no refusal: 1 for "no plan", otherwise 0. */
 static inline int lapyndo_no_plan(uint64_t answer) { return (int)(answer >> 31 & 1); }
@@ -147,6 +167,9 @@ static inline int lapyndo_no_plan(uint64_t answer) { return (int)(answer >> 31 &
 /* Of an accepted lapyndo_campaign, or of its decision, if that is no refusal: the reported layers, which are the number of
  * the last layer. */
 static inline uint32_t lapyndo_layers(uint64_t answer) { return (uint32_t)answer & 0x7FFFFFFF; }
+
+/* Of an accepted lapyndo_blocking: the offset of the part that blocks, 0 if nothing blocks. */
+static inline size_t lapyndo_offset(uint64_t answer) { return (size_t)(uint32_t)answer; }
 
 /* Of an accepted lapyndo_normalise, lapyndo_step or lapyndo_pddl: the number of bytes written. */
 static inline size_t lapyndo_length(uint64_t answer) { return (size_t)(uint32_t)answer; }

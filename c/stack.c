@@ -47,6 +47,8 @@ static void call_campaign(void) {
 
 static void call_pddl(void) { lapyndo_pddl(written, written_len, state, state_len, out, room); }
 
+static void call_blocking(void) { lapyndo_blocking(normal, normal_len, state, state_len, layers, LAYER_NUMBERS); }
+
 #ifdef PLANNING
 uint64_t lapyndo_block(const uint8_t *table, size_t table_len, uint64_t block, uint8_t *out, size_t out_len);
 uint64_t lapyndo_decide(const uint8_t *table, size_t table_len, const uint8_t *state, size_t state_len,
@@ -73,6 +75,7 @@ static struct {
     {"step", call_step, 0},
     {"campaign", call_campaign, 0},
     {"pddl", call_pddl, 0},
+    {"blocking", call_blocking, 0},
 #ifdef PLANNING
     {"block", call_block, 0},
     {"decide", call_decide, 0},

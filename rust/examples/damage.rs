@@ -7,7 +7,7 @@
 
 use campaign::call::{Call, CallKind};
 use campaign::fenced::Fenced;
-use campaign::generate::{call, damage, full_length, grid, Rng, Task};
+use campaign::generate::{call, damage, full_length, grid, long_goal, Rng, Task};
 use campaign::proved::PROVED;
 use campaign::reference::table::Kind;
 use campaign::room;
@@ -51,7 +51,7 @@ fn long_call(rng: &mut Rng) -> Call {
         true => grid(rng, length),
         false => full_length(rng, kind, length),
     };
-    match rng.below(4) {
+    match rng.below(5) {
         0 => Call {
             table,
             ..CallKind::Read.call()
@@ -62,6 +62,7 @@ fn long_call(rng: &mut Rng) -> Call {
             ..CallKind::Normalise.call()
         },
         2 => Task { table, state }.decide(1_000),
+        3 => long_goal(rng, length).blocking(1_000),
         _ => Task { table, state }.pddl(room::text_bytes(length)),
     }
 }

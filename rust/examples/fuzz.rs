@@ -1,10 +1,10 @@
 //! What a coverage-guided fuzzer runs on each input: the proved engine, its memories behind
 //! fences, compared with the reference. `./fuzz` in the repository's root builds and runs it.
 
-use campaign::call::Fill;
+use campaign::call::{Call, Fill};
 use campaign::engine::REFERENCE;
 use campaign::fenced::Fenced;
-use campaign::generate::{call, damage, Rng};
+use campaign::generate::{blocked, call, damage, Rng, Task};
 use campaign::harness::compare_over;
 use campaign::input::{decode, encode};
 use campaign::proved::PROVED;
@@ -59,7 +59,8 @@ pub unsafe extern "C" fn LLVMFuzzerCustomMutator(
     }
 }
 
-/// Now and then another call, or the same one with a damaged table or state.
+/// Now and then another call, the same one with a damaged table or state, or a `blocking` of the same
+/// task with a goal that mostly cannot be reached.
 fn changed(input: &[u8], seed: u32) -> Option<Vec<u8>> {
     let mut rng = Rng::new(u64::from(seed));
     match rng.below(16) {
@@ -68,6 +69,11 @@ fn changed(input: &[u8], seed: u32) -> Option<Vec<u8>> {
             let mut call = decode(input);
             damage(&mut rng, &mut call);
             encode(&call)
+        }
+        5 => {
+            let Call { table, state, .. } = decode(input);
+            let task = blocked(&mut rng, &Task { table, state });
+            encode(&task.blocking(rng.below(200)))
         }
         _ => None,
     }

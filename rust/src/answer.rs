@@ -166,6 +166,26 @@ impl fmt::Display for Plan {
     }
 }
 
+/// What `blocking` answers.
+#[derive(Clone, Copy, Debug, PartialEq, Eq)]
+pub enum Blocking {
+    /// The offset, in the normal table, of the first 50 or 43 of the goal that the last layer does
+    /// not meet.
+    Blocks {
+        offset: u64,
+    },
+    Nothing,
+}
+
+impl fmt::Display for Blocking {
+    fn fmt(&self, f: &mut fmt::Formatter<'_>) -> fmt::Result {
+        match self {
+            Blocking::Blocks { offset } => write!(f, "blocks {offset}"),
+            Blocking::Nothing => write!(f, "nothing"),
+        }
+    }
+}
+
 /// What `campaign` answers: the answers of `decide` and of `plan`, or both times the refusal of
 /// `normalise`.
 #[derive(Clone, Copy, Debug, PartialEq, Eq)]

@@ -19,6 +19,7 @@ pub enum CallKind {
     Plan,
     Campaign,
     Pddl,
+    Blocking,
     Listing,
 }
 
@@ -34,7 +35,7 @@ pub enum Field {
 }
 
 impl CallKind {
-    pub const ALL: [CallKind; 9] = [
+    pub const ALL: [CallKind; 10] = [
         CallKind::Read,
         CallKind::Block,
         CallKind::Normalise,
@@ -43,11 +44,12 @@ impl CallKind {
         CallKind::Plan,
         CallKind::Campaign,
         CallKind::Pddl,
+        CallKind::Blocking,
         CallKind::Listing,
     ];
 
     /// The calls that the engine exports.
-    pub const EXPORTED: &'static [CallKind] = Self::ALL.split_at(8).0;
+    pub const EXPORTED: &'static [CallKind] = Self::ALL.split_at(9).0;
 
     /// What calls of this kind are given.
     pub fn fields(self) -> &'static [Field] {
@@ -61,6 +63,7 @@ impl CallKind {
             CallKind::Plan => &[Table, State, Numbers, Room],
             CallKind::Campaign => &[Table, State, Normal, Numbers, Room],
             CallKind::Pddl => &[Table, State, Room],
+            CallKind::Blocking => &[Table, State, Numbers],
             CallKind::Listing => &[Table, State],
         }
     }
@@ -105,6 +108,7 @@ impl CallKind {
             CallKind::Plan => &[("plan.txt", 44), ("document-01/plan.txt", 617)],
             CallKind::Campaign => &[("campaign.txt", 43)],
             CallKind::Pddl => &[("pddl.txt", 52)],
+            CallKind::Blocking => &[("blocking.txt", 107)],
             CallKind::Listing => &[("listing.txt", 95), ("document-01/listing.txt", 264)],
         }
     }

@@ -1,10 +1,10 @@
 //! The calls of an engine, so that one harness serves every implementation.
 
-use crate::answer::{Answer, Campaign, Decision, Head, Plan, Refusal};
+use crate::answer::{Answer, Blocking, Campaign, Decision, Head, Plan, Refusal};
 use crate::reference;
 
-/// An implementation of the five calls, the reader, the campaign in one call, the PDDL text and
-/// the listing.
+/// An implementation of the five calls, the reader, the campaign in one call, the PDDL text, the
+/// goal part that blocks and the listing.
 ///
 /// A refusal leaves outputs as they were. Layer memory after a refusal holds what the
 /// specification says of that refusal.
@@ -36,6 +36,11 @@ pub trait Engine {
 
     /// A written table and a state as PDDL 2.1 text.
     fn pddl(&self, table: &[u8], state: &[u8], out: &mut [u8]) -> Result<usize, Refusal>;
+
+    /// The first part of a normal table's goal that the last layer does not meet, where `decide`
+    /// answers "no plan"; refusals and layer memory are those of `decide`.
+    fn blocking(&self, table: &[u8], state: &[u8], layers: &mut [i64])
+        -> Result<Blocking, Refusal>;
 
     /// What the listing program prints; by default made of `campaign`.
     fn listing(&self, task: &[u8], state: &[u8]) -> String {
@@ -120,6 +125,7 @@ pub struct Calls {
     pub plan: Planning,
     pub campaign: Campaigning,
     pub pddl: Pddl,
+    pub blocking: FindBlocking,
     pub listing: Listing,
 }
 
@@ -130,6 +136,7 @@ type Step = fn(&[u8], &[u8], u64, &mut [u8]) -> Result<usize, Refusal>;
 type Decide = fn(&[u8], &[u8], &mut [i64]) -> Result<Decision, Refusal>;
 type Planning = fn(&[u8], &[u8], &mut [i64], &mut [u8]) -> Result<Plan, Refusal>;
 type Pddl = fn(&[u8], &[u8], &mut [u8]) -> Result<usize, Refusal>;
+pub type FindBlocking = fn(&[u8], &[u8], &mut [i64]) -> Result<Blocking, Refusal>;
 /// This and the next are given the other calls too.
 pub type Campaigning = fn(&Calls, &[u8], &[u8], Lent) -> Campaign;
 type Listing = fn(&Calls, &[u8], &[u8]) -> String;
@@ -144,6 +151,7 @@ pub const REFERENCE: Calls = Calls {
     plan: reference::plan,
     campaign: made_campaign,
     pddl: reference::pddl,
+    blocking: reference::blocking,
     listing: |_, task, state| reference::listing(task, state),
 };
 
@@ -158,6 +166,7 @@ impl Calls {
         plan: |_, _, _, _| absent("plan"),
         campaign: made_campaign,
         pddl: |_, _, _| absent("pddl"),
+        blocking: |_, _, _| absent("blocking"),
         listing: made_listing,
     };
 }
@@ -203,6 +212,15 @@ impl Engine for Calls {
 
     fn pddl(&self, table: &[u8], state: &[u8], out: &mut [u8]) -> Result<usize, Refusal> {
         (self.pddl)(table, state, out)
+    }
+
+    fn blocking(
+        &self,
+        table: &[u8],
+        state: &[u8],
+        layers: &mut [i64],
+    ) -> Result<Blocking, Refusal> {
+        (self.blocking)(table, state, layers)
     }
 
     fn listing(&self, task: &[u8], state: &[u8]) -> String {

@@ -3,7 +3,7 @@
 
 #![allow(unsafe_code)]
 
-use crate::answer::{Campaign, Decision, Head, Plan, Refusal};
+use crate::answer::{Blocking, Campaign, Decision, Head, Plan, Refusal};
 use crate::engine::{Engine, Lent};
 use crate::guarded::{Canary, MARGIN};
 use std::ffi::{c_int, c_long, c_void};
@@ -199,6 +199,16 @@ impl<E: Engine> Engine for Fenced<E> {
     fn pddl(&self, table: &[u8], state: &[u8], out: &mut [u8]) -> Result<usize, Refusal> {
         let [table, state] = [table, state].map(Fence::reading);
         writing(out, |out| self.0.pddl(&table, &state, out))
+    }
+
+    fn blocking(
+        &self,
+        table: &[u8],
+        state: &[u8],
+        layers: &mut [i64],
+    ) -> Result<Blocking, Refusal> {
+        let [table, state] = [table, state].map(Fence::reading);
+        writing(layers, |layers| self.0.blocking(&table, &state, layers))
     }
 }
 

@@ -1,5 +1,6 @@
 //! Inputs from a seed: tasks, damaged tables, bytes at random, and calls.
 
+mod blocked;
 mod call;
 mod damage;
 mod grid;
@@ -11,7 +12,8 @@ mod text;
 mod tuned;
 
 pub use crate::hex::hex;
-pub use call::{call, campaign_call, normal_length, pddl_call, sized_calls};
+pub use blocked::{blocked, long_goal};
+pub use call::{blocking_call, call, campaign_call, normal_length, pddl_call, sized_calls};
 pub use damage::{
     command_string, damage, deletions, insertions, random_bytes, single_byte_changes, spoil,
     truncations, wrong_state,

@@ -1,7 +1,9 @@
 //! Engines that do one thing otherwise than the reference, to test that comparisons find them.
 
+mod blocking;
 mod weight_zero;
 
+use self::blocking::BLOCKING;
 use crate::answer::{Campaign, Reason, Refusal};
 use crate::call::CallKind;
 use crate::engine::{Calls, Campaigning, Engine, REFERENCE};
@@ -33,7 +35,7 @@ pub fn check_found(kinds: &[CallKind], found: impl Fn(CallKind, &dyn Engine) -> 
     for kind in kinds {
         assert!(!found(*kind, &HONEST), "honest: {}", kind.name());
     }
-    for impostor in IMPOSTORS.iter().chain(&WEIGHT_ZERO) {
+    for impostor in IMPOSTORS.iter().chain(&WEIGHT_ZERO).chain(&BLOCKING) {
         for kind in impostor.kinds.iter().filter(|kind| kinds.contains(kind)) {
             let found = found(*kind, &impostor.engine);
             assert!(found, "{}: {}", impostor.trick, kind.name());

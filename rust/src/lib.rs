@@ -17,6 +17,7 @@ pub mod hex;
 pub mod impostors;
 pub mod input;
 pub mod meaning;
+pub mod parts;
 pub mod proved;
 pub mod reference;
 pub mod room;

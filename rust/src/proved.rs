@@ -5,7 +5,7 @@
 
 pub mod raw;
 
-use crate::answer::{Answer, Campaign, Decision, Head, Plan, Refusal};
+use crate::answer::{Answer, Blocking, Campaign, Decision, Head, Plan, Refusal};
 use crate::engine::{Calls, Lent};
 use crate::guarded::Guarded;
 
@@ -19,6 +19,7 @@ pub const PROVED: Calls = Calls {
     plan,
     campaign: |_, table, state, lent| campaign(table, state, lent),
     pddl,
+    blocking,
     ..Calls::NONE
 };
 
@@ -86,6 +87,18 @@ pub fn campaign(table: &[u8], state: &[u8], lent: Lent) -> Campaign {
 
 pub fn pddl(table: &[u8], state: &[u8], out: &mut [u8]) -> Result<usize, Refusal> {
     raw::pddl(table, state, out).map(|length| length as usize)
+}
+
+pub fn blocking(table: &[u8], state: &[u8], layers: &mut [i64]) -> Result<Blocking, Refusal> {
+    raw::blocking(table, state, layers).map(blocked)
+}
+
+/// No part stands at offset 0, so 0 is free to say that nothing blocks.
+fn blocked(result: u32) -> Blocking {
+    match u64::from(result) {
+        0 => Blocking::Nothing,
+        offset => Blocking::Blocks { offset },
+    }
 }
 
 /// Plan's answer from a call that is lent the two further numbers.
@@ -165,6 +178,12 @@ mod tests {
     #[should_panic(expected = "refusal 4294967295 is unknown")]
     fn an_unwritten_decision_is_found() {
         both(|_| REFUSED);
+    }
+
+    #[test]
+    fn the_part_that_blocks_is_taken_from_its_number() {
+        assert_eq!(blocked(0), Blocking::Nothing);
+        assert_eq!(blocked(5), Blocking::Blocks { offset: 5 });
     }
 
     #[test]

@@ -1,6 +1,10 @@
 //! Two engines compared on many calls, counted by what they answer.
 
-use crate::call::{Call, Fill};
+mod blocking;
+
+pub use blocking::Shares;
+
+use crate::call::{Call, CallKind, Fill};
 use crate::commands::has_zero_term;
 use crate::engine::{Engine, REFERENCE};
 use crate::generate::Rng;
@@ -14,6 +18,7 @@ pub struct Tally<'e> {
     counts: [usize; 16],
     /// Calls of a written table with a term of weight 0.
     zeros: usize,
+    blocking: Shares,
 }
 
 impl<'e> Tally<'e> {
@@ -23,6 +28,7 @@ impl<'e> Tally<'e> {
             rng: Rng::new(seed),
             counts: [0; 16],
             zeros: 0,
+            blocking: Shares::default(),
         }
     }
 
@@ -33,9 +39,13 @@ impl<'e> Tally<'e> {
     pub fn check(&mut self, call: &Call) {
         let fill = Fill::Seeded(self.rng.next_u64());
         self.zeros += usize::from(has_zero_term(&call.table));
-        match compare_over(call, fill, &REFERENCE, self.engine) {
-            Ok(outcome) => self.counts[refusal_number(&outcome)] += 1,
+        let answer = match compare_over(call, fill, &REFERENCE, self.engine) {
+            Ok(answer) => answer,
             Err(difference) => panic!("{difference}\n  before: {fill:?}"),
+        };
+        self.counts[refusal_number(&answer)] += 1;
+        if call.kind == CallKind::Blocking {
+            self.blocking.add(call, &answer);
         }
     }
 
@@ -60,6 +70,11 @@ impl<'e> Tally<'e> {
         for number in numbers {
             assert!(counts[*number] >= 5, "refusal {number}: {counts:?}");
         }
+    }
+
+    /// What calls of `blocking` had to tell apart.
+    pub fn blocking(&self) -> &Shares {
+        &self.blocking
     }
 
     /// Fails unless at least so many calls had a written table with a term of weight 0.

@@ -3,8 +3,9 @@
 use campaign::call::{Call, CallKind};
 use campaign::engine::{Calls, Engine, REFERENCE};
 use campaign::fenced::Fenced;
-use campaign::generate::{call, m1, random_bytes, Rng};
+use campaign::generate::{call, m1, random_bytes, Rng, Task};
 use campaign::harness::compare;
+use campaign::hex::bytes;
 use campaign::impostors::check_found;
 use campaign::input::{decode, encode, ROOM};
 use campaign::tally::Tally;
@@ -99,6 +100,31 @@ fn a_difference_shows_the_call() {
 #[should_panic(expected = "refusal 2")]
 fn a_missing_refusal_is_found() {
     Tally::new(&REFERENCE, 1).expect(0, &[2]);
+}
+
+#[test]
+#[should_panic(expected = "behind a met part: 0 only")]
+fn a_missing_share_of_blocking_is_found() {
+    let tally = Tally::new(&REFERENCE, 1);
+    tally.blocking().expect(&[("behind a met part", 1)]);
+}
+
+/// A call that a part behind a met one blocks, one where nothing blocks, and both with less memory.
+#[test]
+fn shares_of_blocking_are_counted() {
+    let mut tally = Tally::new(&REFERENCE, 1);
+    for table in ["4e 02 00 00 47 50 00 50 01 45", "4e 02 00 00 47 50 00 45"] {
+        let [table, state] = [table, "01 00"].map(bytes);
+        let task = Task { table, state };
+        tally.check(&task.blocking(2));
+        tally.check(&task.blocking(1));
+    }
+    let shares = ["blocks", "behind a met part", "a proposition", "nothing"];
+    for name in shares {
+        assert_eq!(tally.blocking().count(name), 1, "{name}");
+    }
+    assert_eq!(tally.blocking().count("14 at layer 0"), 2);
+    assert_eq!(tally.blocking().count("layers"), 0);
 }
 
 #[test]

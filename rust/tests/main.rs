@@ -3,6 +3,7 @@
 mod campaigns;
 mod common;
 mod corpus;
+mod engine_blocking;
 mod engine_campaign;
 mod engine_decide;
 mod engine_pddl;
@@ -18,7 +19,10 @@ mod pddl_text;
 mod properties;
 mod refusals;
 mod tool;
+mod tool_readme;
+mod tool_script;
 mod tool_use;
+mod tool_why;
 
 /// A file that is not named above would not be run.
 #[test]

@@ -46,6 +46,11 @@ fn pddl() {
 }
 
 #[test]
+fn blocking() {
+    check_lines(&REFERENCE, CallKind::Blocking);
+}
+
+#[test]
 fn listing() {
     check_lines(&REFERENCE, CallKind::Listing);
 }

@@ -1,5 +1,6 @@
 //! Properties of the specification on generated inputs: real lists, plans and layers.
 
+mod blocking;
 mod memory;
 mod tables;
 mod weight_zero;

@@ -86,7 +86,7 @@ fn every_command_on_every_example() {
         assert_eq!(name, example.file_name().and_then(|name| name.to_str()));
         let read = |name| fs::read(example.join(name)).expect("a file");
         let folder = Folder::of(&read("task.bin"), &read("state.bin"));
-        assert_eq!(check_session(&folder.0, session), 6);
+        assert_eq!(check_session(&folder.0, session), 7);
         for file in PDDL {
             let written = fs::read(folder.0.join(file)).expect("a file");
             assert_eq!(written, read(file), "{}/{file}", example.display());
@@ -97,13 +97,13 @@ fn every_command_on_every_example() {
 
 #[test]
 fn answers_that_no_example_has() {
-    assert!(check_sessions(ANSWERS) >= 32);
+    assert!(check_sessions(ANSWERS) >= 49);
 }
 
 /// 13 and 14 never come up, and 1 needs a long table.
 #[test]
 fn refusals_are_explained() {
-    assert!(check_sessions(REFUSALS) >= 80);
+    assert!(check_sessions(REFUSALS) >= 88);
     for number in [2, 3, 4, 5, 6, 7, 8, 9, 10, 11, 12, 15] {
         assert!(
             REFUSALS.contains(&format!("refusal {number} place ")),
@@ -121,7 +121,7 @@ refusal 1 place 0: the table is too long
   where    task.bin as a whole: 32001 bytes
   why      a written table has 32000 bytes at most
 ";
-    for words in ["show task.bin", "decide .", "plan .", "pddl ."] {
+    for words in ["show task.bin", "decide .", "plan .", "why .", "pddl ."] {
         let words: Vec<&str> = words.split(' ').collect();
         let printed = lapyndo(&folder.0, &words);
         assert_eq!((printed.status, &*printed.out), (1, text), "{words:?}");
@@ -172,10 +172,11 @@ fn check_printed(task: &Task, folder: &Folder) -> usize {
     let plan = normal.and_then(|normal| planned(&PROVED, &normal, state));
     let after = proved::step(table, state, 0, &mut vec![0; state.len()]);
     let text = texted(&PROVED, task);
-    let answers: [(&[&str], Option<Refusal>); 5] = [
+    let answers: [(&[&str], Option<Refusal>); 6] = [
         (&["show", "task.bin"], proved::read(table).err()),
         (&["decide", "."], plan.as_ref().err().copied()),
         (&["plan", "."], plan.as_ref().err().copied()),
+        (&["why", "."], plan.as_ref().err().copied()),
         (&["step", ".", "a0"], after.err()),
         (&["pddl", "."], text.as_ref().err().copied()),
     ];

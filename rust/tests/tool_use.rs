@@ -10,10 +10,11 @@ use std::io;
 use std::os::unix::fs::symlink;
 use std::process::{Command, Stdio};
 
-const COMMANDS: [(&str, &str); 5] = [
+const COMMANDS: [(&str, &str); 6] = [
     ("show", "FILE"),
     ("decide", "FOLDER"),
     ("plan", "FOLDER"),
+    ("why", "FOLDER"),
     ("step", "FOLDER MOVE"),
     ("pddl", "FOLDER"),
 ];
@@ -104,6 +105,7 @@ fn wrong_words() {
         ("help pan", "there is no command 'pan'; see lapyndo --help"),
         ("help plan .", "usage: lapyndo help [COMMAND]"),
         ("plan", "0 arguments given; usage: lapyndo plan FOLDER"),
+        ("why . x", "2 arguments given; usage: lapyndo why FOLDER"),
         (
             "show task.bin x",
             "2 arguments given; usage: lapyndo show FILE",
@@ -144,6 +146,7 @@ fn files_that_cannot_be_read() {
     for words in [
         vec!["decide", "."],
         vec!["plan", "."],
+        vec!["why", "."],
         vec!["step", ".", "0"],
         vec!["pddl", "."],
     ] {

@@ -9,10 +9,10 @@ use Rattle.integer.specs.BigEndian.{half, signed, signedBytes, length-signedByt
 use Rattle.model.specs.Limits.{paper}
 use Rattle.model.specs.Task.{Term, Item, need, add, delete, condition, effect, Block, termsOf}
 use Rattle.model.specs.Command.{codeOf, comparisonCode, kindCode, termBytes, itemsBytes}
-use Rattle.model.specs.Theorems.Printing.Items.{itemCommand, itemOperands}
+use Rattle.model.specs.Theorems.Printing.Items.{itemCommand, itemOperands, closing}
 use Rattle.model.specs.Theorems.Reading.WellFormed.{All, ItemOk, SumOk}
 use Rattle.block.specs.Bytes.{At, at-same, at-place, at-head, at-behind, at-tail, at-signed, at-length}
-use Rattle.block.specs.Items.{Ranges, Left, Terms, closing, first-parts, closing-long, behind-term, Followed, ConditionFound, EffectFound, bound-small, base-small}
+use Rattle.block.specs.Items.{Ranges, Left, Terms, first-parts, closing-long, behind-term, Followed, ConditionFound, EffectFound, bound-small, base-small}
 
 -- the item at `from`, of which n terms are passed and the terms `ts` are left
 pub record Passed (k : Ranges) (part : List ℕ) (from n : ℕ) (rest : Block) : Type 0 where

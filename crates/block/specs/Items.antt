@@ -12,7 +12,7 @@ use Rattle.model.specs.Limits.{paper, largestValue}
 use Rattle.model.specs.Task.{Form, written, normal, Term, Condition, Effect, Item, need, add, delete, condition, effect, Block, termsOf}
 use Rattle.model.specs.Command.{term, codeOf, comparisonCode, kindCode, termBytes, itemsBytes}
 use Rattle.model.specs.Theorems.Printing.Operands.{weight-size}
-use Rattle.model.specs.Theorems.Printing.Items.{itemCommand, itemOperands, item-parts}
+use Rattle.model.specs.Theorems.Printing.Items.{closing, item-parts}
 use Rattle.model.specs.Theorems.Reading.WellFormed.{All, WeightOk, SumOk, BoundOk, ConditionOk, EffectOk, ItemOk}
 use Rattle.block.specs.Bytes.{At, at-same, at-place, at-head, at-behind, at-tail, at-room, at-signed, at-length}
 use Rattle.block.specs.declared.ItemAt.{ItemAt}
@@ -63,9 +63,6 @@ pub terms-place :
 terms-place h e f = record { after = h .after; bytes = at-place (h .bytes) e; many = h .many ∙ f; ok = h .ok }
 
 -- ---- an item is the terms of its sum and the command that closes it
-
-unfoldable pub closing : Item → List ℕ
-closing i = codeOf (itemCommand i) ∷ itemOperands i
 
 pub first-parts : (i : Item) (b : Block) → itemsBytes (i ∷ b) ≡ termBytes (termsOf i) ++ (closing i ++ itemsBytes b)
 unfolding itemsBytes closing

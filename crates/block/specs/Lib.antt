@@ -7,4 +7,5 @@ pub mod Sums
 pub mod Terms
 pub mod Remaining
 pub mod Blocks
+pub mod Unmet
 pub mod Parts

@@ -15,6 +15,7 @@ ghost use Rattle.block.specs.Items.{Ranges, Left, Readable, behind, Next
 ghost use Rattle.block.specs.Closing.{Closed, Closable};
 ghost use Rattle.block.specs.Sums.{Summable, IsSum, IsValue, LayerSummable, IsLayerSum, IsLayerValue, isMark};
 ghost use Rattle.block.specs.Blocks.{Testable, IsTest, IsApplicable, LayerTestable, IsLayerTest, IsUsable};
+ghost use Rattle.block.specs.Unmet.{IsUnmet};
 
 // One item, with the offset behind it. The terms of a condition's or an effect's sum stand from `from` on.
 pub enum ItemAt {
@@ -307,18 +308,19 @@ pub fn applicable(part: &[u8], state: &[u8], values: &[i64]) -> bool
     }
 }
 
-// Do all conditions of the block, one of a normal table, hold in the layer of these propositions and values?
-pub fn usable(part: &[u8], has: &[bool], layer: &[i64]) -> bool
+// The offset in the part of the first 50 or 43 that the layer of these propositions and values does not meet; the part's length where
+// it meets all. The block is one of a normal table.
+pub fn unmet(part: &[u8], has: &[bool], layer: &[i64]) -> usize
     requires { ⌜ LayerTestable (now part) (now has) (now layer) ⌝ }
-    ensures { λ r. ⌜ IsUsable (now (part .entry)) (now (has .entry)) (now (layer .entry)) r ⌝ }
+    ensures { λ r. ⌜ IsUnmet (now (part .entry)) (now (has .entry)) (now (layer .entry)) r ⌝ }
 {
     let mut at = 1;
     loop {
         let item = next(part, at);
         match item {
-            ItemAt::Need { prop, after: _ } => {
+            ItemAt::Need { prop, after } => {
                 if !has[prop] {
-                    return false;
+                    return after - 2;
                 }
             }
             ItemAt::Condition {
@@ -326,17 +328,25 @@ pub fn usable(part: &[u8], has: &[bool], layer: &[i64]) -> bool
                 bound,
                 from,
                 terms,
-                after: _,
+                after,
             } => {
                 if !condition_reached(part, bound, from, terms, layer) {
-                    return false;
+                    return after - 6;
                 }
             }
             ItemAt::End => {
-                return true;
+                return part.len();
             }
             _ => {}
         }
         at = behind(item);
     }
+}
+
+// Do all conditions of the block, one of a normal table, hold in the layer of these propositions and values?
+pub fn usable(part: &[u8], has: &[bool], layer: &[i64]) -> bool
+    requires { ⌜ LayerTestable (now part) (now has) (now layer) ⌝ }
+    ensures { λ r. ⌜ IsUsable (now (part .entry)) (now (has .entry)) (now (layer .entry)) r ⌝ }
+{
+    unmet(part, has, layer) >= part.len()
 }

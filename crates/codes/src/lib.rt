@@ -1,10 +1,11 @@
 // The answers as one 64-bit number each, for hosts (crates/model/specs/Exports.antt).
 ghost use mathlib.Core.Path.{_≡_};
 ghost use Prim.Native.Nat.{_<_, _≤_};
-ghost use Rattle.model.specs.Exports.{refusalCode, readCode, writeCode, decideCode, planCode, planRecordCount, planFirstMoves};
-ghost use Rattle.model.specs.Theorems.Sizes.Answers.{placeLimit, resultLimit, ReadSmall, WriteSmall, DecideSmall, PlanSmall};
+ghost use Rattle.model.specs.Exports.{refusalCode, readCode, writeCode, decideCode, planCode, planRecordCount, planFirstMoves, blockingCode};
+ghost use Rattle.model.specs.Theorems.Sizes.Answers.{placeLimit, resultLimit, ReadSmall, WriteSmall, DecideSmall, PlanSmall, BlockingSmall};
 ghost use Rattle.model.specs.Limits.{lastNumber};
 ghost use Rattle.codes.specs.Parts.{partCode};
+use model::BlockingAnswer;
 use model::DecideAnswer;
 use model::PlanAnswer;
 use model::ReadAnswer;
@@ -88,6 +89,17 @@ pub fn plan_code(a: PlanAnswer, records: &mut u64, first: &mut u64) -> u64
             2147483648 + layers
         }
         PlanAnswer::Refused(r) => refusal_code(r),
+    }
+}
+
+pub fn blocking_code(a: BlockingAnswer) -> u64
+    requires { ⌜ BlockingSmall a ⌝ }
+    ensures { λ c. ⌜ c ≡ blockingCode a ⌝ }
+{
+    match a {
+        BlockingAnswer::Blocks { offset } => offset,
+        BlockingAnswer::Nothing => 0,
+        BlockingAnswer::Refused(r) => refusal_code(r),
     }
 }
 

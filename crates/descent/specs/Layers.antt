@@ -1,23 +1,16 @@
 -- One layer down from layer memory: what stands in the memory, the wants of the layer above, and what is taken. Assumes nothing.
-use Prim.Native.Nat.{ℕ, suc, _+_, _*_, _≤_, _<_}
-use native.Mathlib.Nat.{mul-le-mul-left, mul-suc, mul-zero}
+use Prim.Native.Nat.{ℕ, _+_, _*_, _≤_, _<_}
 use native.Mathlib.Omega.{arith}
 use mathlib.Core.Path.{_≡_, refl, sym, ap, _∙_, subst}
 use mathlib.Core.Bool.{Bool, false}
 use mathlib.Core.List.{List}
 use lib.IntN.{ℤ, pos}
 use lib.ListN.{length, getD}
-use Rattle.model.specs.Limits.{paper}
 use Rattle.model.specs.Task.{normal, Task}
 use Rattle.model.specs.Move.{State}
-use Rattle.model.specs.Layer.{layer, layerAt}
-use Rattle.model.specs.Memory.{wrong15}
-use Rattle.model.specs.Plan.{Wants, noWants, low, wantBlock, carried, carriedDown, takeProp, takeValue, descend}
+use Rattle.model.specs.Layer.{layerAt}
+use Rattle.model.specs.Plan.{Wants, noWants, wantBlock, carried, carriedDown, takeProp, takeValue, descend}
 use Rattle.model.specs.Lists.{foldBelow}
-use Rattle.model.specs.Theorems.Reading.WellFormed.{TaskOk}
-use Rattle.model.specs.Theorems.Layers.Memories.{Holds, size}
-use Rattle.model.specs.Theorems.Sizes.States.{SmallState}
-use Rattle.model.specs.Theorems.Sizes.Layers.{layer-small}
 use Rattle.table.specs.Outlines.{partAt}
 use Rattle.reader.specs.Parts.{PartIn}
 use Rattle.block.specs.Parts.{rangesOf}
@@ -30,83 +23,16 @@ use Rattle.achievers.specs.Search.{Parts}
 use Rattle.taking.specs.Taking.{EncodesTaken}
 use Rattle.targets.specs.Carrying.{Carriable, Carried}
 use Rattle.taking.specs.Descending.{Descendable, PropsTakeable, propsBelow, PropsTaken, SmallTargets, ValuesTakeable, ValuesTaken}
-use Rattle.stored_layer.specs.View.{Filled, heldAt, numberAt, lowAt, view-has, view-used, view-row, start-row, low-row}
-
--- the bound on layers, (A + N + 1) × (N + 1), for 64 moves and 32 signed variables
-abbrev pub layerLimit : ℕ
-layerLimit = 3_201
+use Rattle.model.specs.Theorems.Sizes.Stored.{StoredLayers}
+use Rattle.stored_layer.specs.Stored.{stored-props, stored-vars, stored-moves, stored-has, stored-row, stored-low}
+use Rattle.stored_layer.specs.View.{Filled, heldAt, numberAt, lowAt, view-used}
 
 -- a table with its blocks' marks, and a memory that holds the layers 0 to m of its task, the answer layer
 pub record Stored (table marks : List ℕ) (layers : List ℤ) (props vars moves m : ℕ) : Type 0 where
   pub task : Task
   pub start : State
-  pub ok : TaskOk paper normal task
   pub parts : Parts table marks task
-  pub props-is : task .props ≡ props
-  pub vars-is : task .vars ≡ vars
-  pub moves-is : length (task .moves) ≡ moves
-  pub old : List ℤ
-  pub held : Holds task start (suc m) m old layers
-  pub room : size task start (suc m) ≤ length old
-  pub small : SmallState (task .vars) start
-  pub right : (t : ℕ) → t ≤ m → wrong15 paper task start t ≡ false
-  pub bounded : m ≤ layerLimit
-
-module _ {table marks : List ℕ} {layers : List ℤ} {props vars moves m : ℕ} (x : Stored table marks layers props vars moves m) where
-  pub stored-props : props ≤ 120
-  unfolding paper
-  stored-props = omega (arith, x .ok .props, x .props-is)
-
-  pub stored-vars : vars ≤ 32
-  unfolding paper
-  stored-vars = omega (arith, x .ok .vars .0, x .vars-is)
-
-  pub stored-moves : moves ≤ 64
-  unfolding paper
-  stored-moves = omega (arith, x .ok .moves, x .moves-is)
-
-  -- the places of layer t
-  pub stored-room : {t : ℕ} → t ≤ m → props + moves + vars * t + vars ≤ length layers
-  stored-room {t} h =
-      let step : suc t ≤ suc m = omega arith in
-      let most : vars * suc t ≤ vars * suc m = mul-le-mul-left vars step in
-      let enough : props + moves + vars * suc m ≤ length (x .old) =
-      subst (λ (i : ℕ). props + moves + i * suc m ≤ length (x .old)) (x .vars-is)
-      (subst (λ (i : ℕ). i + moves + x .task .vars * suc m ≤ length (x .old)) (x .props-is)
-      (subst (λ (i : ℕ). x .task .props + i + x .task .vars * suc m ≤ length (x .old)) (x .moves-is) (x .room))) in
-      omega (arith, x .held .same-length, mul-suc vars t)
-
-  pub stored-entries : props + moves ≤ length layers
-  stored-entries = omega (arith, stored-room {t = 0} (omega arith))
-
-  module _ {t : ℕ} (h : t ≤ m) {row : List ℤ} (read : Filled (pos 0) (numberAt layers (props + moves + vars * t)) vars 32 row) where
-    pub stored-row : LayerRow (x .task .vars) row (layerAt (x .task) (x .start) t .val)
-    stored-row =
-        view-row (x .ok) (x .held) (omega arith) (layer-small (x .task) (x .start) t (x .small) (x .right t h))
-        (omega (arith, read .long, stored-vars, x .vars-is))
-        (λ v i. read .done v (omega (arith, x .vars-is)) ∙ place v)
-      where
-        place : (v : ℕ) → numberAt layers (props + moves + vars * t) v ≡ numberAt layers (x .task .props + length (x .task .moves) + x .task .vars * t) v
-        place v =
-            ap (λ (i : ℕ). numberAt layers (i + moves + vars * t) v) (sym (x .props-is))
-            ∙ ap (λ (i : ℕ). numberAt layers (x .task .props + i + vars * t) v) (sym (x .moves-is))
-            ∙ ap (λ (i : ℕ). numberAt layers (x .task .props + length (x .task .moves) + i * t) v) (sym (x .vars-is))
-
-    pub stored-low :
-        {start lows : List ℤ} → Row (x .task .vars) start (x .start .val)
-        → Filled (pos 0) (lowAt row start) vars 32 lows
-        → Row (x .task .vars) lows (low (layerAt (x .task) (x .start) t) (x .start))
-    stored-low b filled =
-        low-row (layerAt (x .task) (x .start) t) (x .start) (x .small) stored-row b
-        (omega (arith, filled .long, stored-vars, x .vars-is))
-        (λ v i. filled .done v (omega (arith, x .vars-is)))
-
-  -- "Layer 0 is the state."
-  pub stored-start : {row : List ℤ} → Filled (pos 0) (numberAt layers (props + moves)) vars 32 row → Row (x .task .vars) row (x .start .val)
-  unfolding layerAt layer
-  stored-start {row} read =
-      let here : props + moves ≡ props + moves + vars * 0 = omega (arith, mul-zero vars) in
-      start-row (x .small) (stored-row {t = 0} (omega arith) (subst (λ (i : ℕ). Filled (pos 0) (numberAt layers i) vars 32 row) here read))
+  pub memory : StoredLayers task start props vars moves m m layers
 
 -- ---- the goal's wants in the answer layer
 
@@ -123,10 +49,10 @@ pub record GoalWanted {table marks : List ℕ} {layers start : List ℤ} {props 
 
 module _ {table marks : List ℕ} {layers start : List ℤ} {props vars moves m : ℕ} (x : GoalWantable table marks layers start props vars moves m) where
   pub goal-part-in : PartIn table marks moves
-  goal-part-in = subst (PartIn table marks) (x .stored .moves-is) (x .stored .parts .inside (length (x .stored .task .moves)) (omega arith))
+  goal-part-in = subst (PartIn table marks) (x .stored .memory .moves-is) (x .stored .parts .inside (length (x .stored .task .moves)) (omega arith))
 
   pub start-long : vars ≤ length start
-  start-long = omega (arith, x .start-is .long, x .stored .vars-is)
+  start-long = omega (arith, x .start-is .long, x .stored .memory .vars-is)
 
   module _ {row lows : List ℤ} (read : Filled (pos 0) (numberAt layers (props + moves + vars * m)) vars 32 row) (filled : Filled (pos 0) (lowAt row start) vars 32 lows) where
     abbrev pub goal-wantable : {part : List ℕ} {t : Targets} → part ≡ partAt table marks moves → t ≡ fresh → BlockWantable part row lows t
@@ -140,12 +66,12 @@ module _ {table marks : List ℕ} {layers start : List ℤ} {props vars moves m 
           form = refl;
           left =
               subst (λ (l : List ℕ). Left (rangesOf normal (x .stored .task)) l 1 (x .stored .task .goal))
-              (ap (partAt table marks) (x .stored .moves-is) ∙ sym e) (x .stored .parts .goal);
-          values = stored-row (x .stored) (omega arith) read;
-          low-values = stored-low (x .stored) (omega arith) read (x .start-is) filled;
+              (ap (partAt table marks) (x .stored .memory .moves-is) ∙ sym e) (x .stored .parts .goal);
+          values = stored-row (x .stored .memory) (omega arith) read;
+          low-values = stored-low (x .stored .memory) (omega arith) read (x .start-is) filled;
           encoded =
               subst (λ (u : Targets). Encodes (x .stored .task .props) (x .stored .task .vars) u noWants) (sym f)
-              (encodes-none (omega (arith, stored-props (x .stored), x .stored .props-is)) (omega (arith, stored-vars (x .stored), x .stored .vars-is)));
+              (encodes-none (omega (arith, stored-props (x .stored .memory), x .stored .memory .props-is)) (omega (arith, stored-vars (x .stored .memory), x .stored .memory .vars-is)));
         }
 
     pub goal-wanted : {part : List ℕ} {t r : Targets} (e : part ≡ partAt table marks moves) (f : t ≡ fresh) → BlockWanted (goal-wantable e f) r → GoalWanted x r
@@ -180,26 +106,26 @@ module _ {table marks : List ℕ} {layers start : List ℤ} {props vars moves t 
               record {
                 task = x .stored .task;
                 over = layerAt (x .stored .task) (x .stored .start) t;
-                many = x .stored .moves-is;
-                long = omega (arith, read-used .long, stored-moves (x .stored));
+                many = x .stored .memory .moves-is;
+                long = omega (arith, read-used .long, stored-moves (x .stored .memory));
                 parts = x .stored .parts;
                 used-is =
                     λ b h.
-                    read-used .done b h ∙ ap (λ (i : ℕ). heldAt layers i t b) (sym (x .stored .props-is))
-                    ∙ view-used (x .stored .ok) (x .stored .held) (x .below) b (omega (arith, x .stored .moves-is));
+                    read-used .done b h ∙ ap (λ (i : ℕ). heldAt layers i t b) (sym (x .stored .memory .props-is))
+                    ∙ view-used (x .stored .memory .ok) (x .stored .memory .held) (x .below) b (omega (arith, x .stored .memory .moves-is));
               };
           start = x .stored .start;
           wants = x .wants;
-          few = stored-moves (x .stored);
-          values = stored-row (x .stored) (omega (arith, x .below)) read;
-          low-values = stored-low (x .stored) (omega (arith, x .below)) read (x .start-is) filled;
+          few = stored-moves (x .stored .memory);
+          values = stored-row (x .stored .memory) (omega (arith, x .below)) read;
+          low-values = stored-low (x .stored .memory) (omega (arith, x .below)) read (x .start-is) filled;
         }
 
     pub has-long : props ≤ length has
-    has-long = omega (arith, read-has .long, stored-props (x .stored))
+    has-long = omega (arith, read-has .long, stored-props (x .stored .memory))
 
     pub has-of : (p : ℕ) → p < props → getD has p false ≡ layerAt (x .stored .task) (x .stored .start) t .has p
-    has-of p h = read-has .done p h ∙ view-has (x .stored .ok) (x .stored .held) (omega (arith, x .below)) p (omega (arith, x .stored .props-is))
+    has-of p h = stored-has (x .stored .memory) (omega (arith, x .below)) read-has p (omega (arith, x .stored .memory .props-is))
 
     -- the wants of layer t + 1, and layer t
     abbrev pub layer-carriable : Carriable props vars has row upper
@@ -208,13 +134,13 @@ module _ {table marks : List ℕ} {layers start : List ℤ} {props vars moves t 
           wants = x .wants;
           over = layerAt (x .stored .task) (x .stored .start) t;
           encoded =
-              subst (λ (n : ℕ). Encodes props n upper (x .wants)) (x .stored .vars-is)
-              (subst (λ (n : ℕ). Encodes n (x .stored .task .vars) upper (x .wants)) (x .stored .props-is) (x .encoded));
+              subst (λ (n : ℕ). Encodes props n upper (x .wants)) (x .stored .memory .vars-is)
+              (subst (λ (n : ℕ). Encodes n (x .stored .task .vars) upper (x .wants)) (x .stored .memory .props-is) (x .encoded));
           long = has-long;
           has-is = has-of;
           values =
-              subst (λ (n : ℕ). LayerRow n row (layerAt (x .stored .task) (x .stored .start) t .val)) (x .stored .vars-is)
-              (stored-row (x .stored) (omega (arith, x .below)) read);
+              subst (λ (n : ℕ). LayerRow n row (layerAt (x .stored .task) (x .stored .start) t .val)) (x .stored .memory .vars-is)
+              (stored-row (x .stored .memory) (omega (arith, x .below)) read);
         }
 
     module _ {kept : Targets} (carried-is : Carried layer-carriable kept) where
@@ -222,13 +148,13 @@ module _ {table marks : List ℕ} {layers start : List ℤ} {props vars moves t 
       layer-props =
           record {
             scene = layer-scene;
-            many = x .stored .props-is;
+            many = x .stored .memory .props-is;
             long = has-long;
             has-is = has-of;
-            wanted-is = λ p h. x .encoded .prop p (omega (arith, x .stored .props-is));
+            wanted-is = λ p h. x .encoded .prop p (omega (arith, x .stored .memory .props-is));
             kept =
-                subst (λ (n : ℕ). Encodes (x .stored .task .props) n kept (carried (layerAt (x .stored .task) (x .stored .start) t) (x .wants))) (sym (x .stored .vars-is))
-                (subst (λ (n : ℕ). Encodes n vars kept (carried (layerAt (x .stored .task) (x .stored .start) t) (x .wants))) (sym (x .stored .props-is)) (carried-is .is));
+                subst (λ (n : ℕ). Encodes (x .stored .task .props) n kept (carried (layerAt (x .stored .task) (x .stored .start) t) (x .wants))) (sym (x .stored .memory .vars-is))
+                (subst (λ (n : ℕ). Encodes n vars kept (carried (layerAt (x .stored .task) (x .stored .start) t) (x .wants))) (sym (x .stored .memory .props-is)) (carried-is .is));
           }
 
     module _ {kept taken : Targets} {counts : List ℕ} (carried-is : Carried layer-carriable kept) (props-done : PropsTaken (layer-props carried-is) props taken counts) where
@@ -236,10 +162,10 @@ module _ {table marks : List ℕ} {layers start : List ℤ} {props vars moves t 
       layer-values =
           record {
             scene = layer-scene;
-            many = x .stored .vars-is;
-            start-values = subst (λ (i : ℕ). Row i start (x .stored .start .val)) (x .stored .vars-is) (x .start-is);
+            many = x .stored .memory .vars-is;
+            start-values = subst (λ (i : ℕ). Row i start (x .stored .start .val)) (x .stored .memory .vars-is) (x .start-is);
             small = x .small;
-            targets-are = λ v h. x .encoded .target v (omega (arith, x .stored .vars-is));
+            targets-are = λ v h. x .encoded .target v (omega (arith, x .stored .memory .vars-is));
             descent = propsBelow layer-scene props;
             taken = props-done .is;
           }
@@ -253,7 +179,7 @@ module _ {table marks : List ℕ} {layers start : List ℤ} {props vars moves t 
           record {
             is =
                 subst (λ (n : ℕ). EncodesTaken k r more (foldBelow (takeValue k l s (x .wants)) n (foldBelow (takeProp k l s (x .wants)) (k .props) (carriedDown l (x .wants)))))
-                (sym (x .stored .vars-is))
+                (sym (x .stored .memory .vars-is))
                 (subst (λ (n : ℕ). EncodesTaken k r more (foldBelow (takeValue k l s (x .wants)) vars (foldBelow (takeProp k l s (x .wants)) n (carriedDown l (x .wants)))))
-                (sym (x .stored .props-is)) (d .is));
+                (sym (x .stored .memory .props-is)) (d .is));
           }

@@ -1,8 +1,9 @@
 // The engine for its hosts: exported calls, each answered by one 64-bit number (crates/model/specs/Exports.antt).
 ghost use mathlib.Core.Path.{_≡_};
-ghost use Rattle.model.specs.Exports.{readCode, writeCode, decideCode, planCode, planRecordCount, planFirstMoves, blockAnswer, blockCopy};
+ghost use Rattle.model.specs.Exports.{readCode, writeCode, decideCode, planCode, planRecordCount, planFirstMoves, blockingCode, blockAnswer, blockCopy};
 ghost use Rattle.model.specs.Limits.{paper};
 ghost use Rattle.model.specs.Calls.{readAnswer, planAnswer, planMemory, planOut, stepAnswer, stepOut, normaliseAnswer, normaliseOut, decideAnswer, decideMemory, blockPart, blockRefusal, campaignDecision, campaignPlan, campaignMemory, campaignOut};
+ghost use Rattle.model.specs.Blocking.{blockingAnswer, blockingMemory};
 ghost use Rattle.model.specs.Pddl.{pddlAnswer, pddlOut};
 ghost use Rattle.model.specs.Theorems.Campaigns.OneCall.{Promise};
 
@@ -58,6 +59,15 @@ pub extern "C" fn lapyndo_decide(table: &[u8], state: &[u8], layers: &mut [i64])
         × (now (layers .exit) ≡ decideMemory paper (now (table .entry)) (now (state .entry)) (now (layers .entry))) ⌝ }
 {
     codes::decide_code(layers::decide(table, state, layers))
+}
+
+// The goal part that blocks.
+#[no_mangle]
+pub extern "C" fn lapyndo_blocking(table: &[u8], state: &[u8], layers: &mut [i64]) -> u64
+    ensures { λ c. ⌜ (c ≡ blockingCode (blockingAnswer paper (now (table .entry)) (now (state .entry)) (now (layers .entry))))
+        × (now (layers .exit) ≡ blockingMemory paper (now (table .entry)) (now (state .entry)) (now (layers .entry))) ⌝ }
+{
+    codes::blocking_code(blocking::blocking(table, state, layers))
 }
 
 // Plan, for tests. The number of records and the first moves are written in an answer only.

@@ -27,7 +27,7 @@ pub record IsMet (table marks : List ℕ) (moves : ℕ) (has : List Bool) (row :
   pub is : (k : Task) (l : Layer) → Outline normal table marks k → moves ≡ length (k .moves) → LayerState (rangesOf normal k) has row l → t ≡ usable l (k .goal)
 
 -- the goal stands in its part
-goal-at : {table marks : List ℕ} {moves : ℕ} {part : List ℕ} {k : Task} → part ≡ partAt table marks moves → Outline normal table marks k → moves ≡ length (k .moves) → Left (rangesOf normal k) part 1 (k .goal)
+pub goal-at : {table marks : List ℕ} {moves : ℕ} {part : List ℕ} {k : Task} → part ≡ partAt table marks moves → Outline normal table marks k → moves ≡ length (k .moves) → Left (rangesOf normal k) part 1 (k .goal)
 goal-at {table} {marks} {k} e o c =
     subst (λ (x : List ℕ). Left (rangesOf normal k) x 1 (k .goal)) (sym (e ∙ ap (partAt table marks) c)) (goal-left (o .ok) (o .goal))
 

@@ -15,6 +15,8 @@ use Rattle.model.specs.declared.DecideAnswer.{DecideAnswer}
 use Rattle.model.specs.declared.DecideAnswer.the-variants as decide
 use Rattle.model.specs.declared.PlanAnswer.{PlanAnswer}
 use Rattle.model.specs.declared.PlanAnswer.the-variants as plan
+use Rattle.model.specs.declared.BlockingAnswer.{BlockingAnswer}
+use Rattle.model.specs.declared.BlockingAnswer.the-variants as blocking
 use Rattle.model.specs.Memory.{overwrite}
 
 unfoldable pub refusalCode : Refusal → ℕ
@@ -51,6 +53,12 @@ unfoldable pub planFirstMoves : PlanAnswer → ℕ → ℕ
 planFirstMoves (plan.Plan layer layers records moves) old = moves
 planFirstMoves (plan.NoPlan layers records moves) old = moves
 planFirstMoves (plan.Refused r) old = old
+
+-- the offset; 0: nothing blocks
+unfoldable pub blockingCode : BlockingAnswer → ℕ
+blockingCode (blocking.Blocks offset) = offset
+blockingCode blocking.Nothing = 0
+blockingCode (blocking.Refused r) = refusalCode r
 
 -- the block reader's part: its length, and as much of it as fits copied to an output
 unfoldable pub blockAnswer : List ℕ → Option Refusal → WriteAnswer
@@ -95,3 +103,8 @@ planApart c records moves =
     apart
     (λ n. elim (leb (2 ^ 31) n) [ true ↦ plan.NoPlan (n - 2 ^ 31) records moves | false ↦ plan.Plan n n records moves ])
     (λ r. plan.Refused r) c
+
+-- no part of a goal stands at offset 0
+unfoldable pub blockingApart : ℕ → BlockingAnswer
+blockingApart c =
+    apart (λ n. elim (eqb n 0) [ true ↦ blocking.Nothing | false ↦ blocking.Blocks n ]) (λ r. blocking.Refused r) c

@@ -11,6 +11,7 @@ pub mod Reading
 pub mod StateTable
 pub mod Memory
 pub mod Calls
+pub mod Blocking
 pub mod Listing
 pub mod Ascii
 pub mod Pddl

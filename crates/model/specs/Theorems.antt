@@ -24,10 +24,16 @@
 --   Solving.plan-solves; Records.records-rising; FirstMoves
 --
 -- Sizes: every number on the way, and every number of an answer, is small enough for the machine's.
---   Layers.next-size; Plans.targets-small; Answers.plan-small
+--   Layers.next-size; Plans.targets-small; Answers.plan-small, blocking-small
 --
 -- Campaigns: the trial campaigns by computation; demand 2 and demand 3 from bytes to answers; the codes of answers.
 --   Trials; Demand2.demand2; EndToEnd.demand3; Codes
+--
+-- Blocking: the goal part that blocks: the first part that the last layer does not meet, and where its command stands; the answer, case
+-- by case with that of decide; it is the true reason of "no plan", in the normal table and in the written one, from bytes to the answer.
+--   Parts.first-unmet, part-print, part-code, offset-one; Calls.blocks-means, blocks-where, nothing-where, refused-where;
+--   Reason.last-reachable, first-unreachable, keeping-unreachable; Written.came-from, came-one, keeping-item;
+--   EndToEnd.true-reason, written-reason, no-plan-reason, blocks-unsolvable; Cases; Instance
 --
 -- Pddl: the PDDL text of a table and a state: what stands in it, that its names are declared, how long it is, that the same text comes
 -- from the same state, moves and goal, that it shows terms of weight 0, and that each form means what its command means, by PDDL 2.1: the
@@ -44,4 +50,5 @@ pub mod Layers
 pub mod Plans
 pub mod Sizes
 pub mod Campaigns
+pub mod Blocking
 pub mod Pddl

@@ -46,3 +46,10 @@ pub enum PlanAnswer {
     },
     Refused(Refusal),
 }
+
+// "gives the offset .. of the first 50 or 43 command of the goal"; "If decide answers otherwise, the tool says that nothing blocks."
+pub enum BlockingAnswer {
+    Blocks { offset: u64 },
+    Nothing,
+    Refused(Refusal),
+}

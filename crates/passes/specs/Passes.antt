@@ -21,7 +21,8 @@ use Rattle.block.specs.Sums.{Row}
 use Rattle.targets.specs.declared.Targets.{Targets}
 use Rattle.targets.specs.Encoding.{targetLimit, Encodes}
 use Rattle.taking.specs.Descending.{SmallTargets}
-use Rattle.descent.specs.Layers.{Stored, stored-moves, GoalWantable, GoalWanted, LayerDescendable, LayerDescended}
+use Rattle.stored_layer.specs.Stored.{stored-moves}
+use Rattle.descent.specs.Layers.{Stored, GoalWantable, GoalWanted, LayerDescendable, LayerDescended}
 use Rattle.records.specs.Records.{countAt, records-same, recordBytes-append, recordBytes-layer, records-layer-length, put-before}
 
 -- ---- the wants of each layer
@@ -69,7 +70,7 @@ module _ {table marks : List ℕ} {layers : List ℤ} {props vars moves m : ℕ}
           start-is = row;
           wants = wantsAt (x .task) (x .start) m (suc t);
           encoded = d .encoded;
-          small = small-targets (targets-small (x .ok) (x .small) m (x .right) (x .bounded) (suc t) h);
+          small = small-targets (targets-small (x .memory .ok) (x .memory .small) m (x .memory .right) (x .memory .bounded) (suc t) h);
         }
 
     module _ {r : Targets} {counts : List ℕ} (e : LayerDescended walk-layer r counts) where
@@ -89,7 +90,7 @@ module _ {table marks : List ℕ} {layers : List ℤ} {props vars moves m : ℕ}
                 λ u.
                 records-same u (descentAt (x .task) (x .start) m t .count) (countAt counts) 0 (length (x .task .moves))
                 (λ b lt. sym (e .is .count b (omega arith)))
-                ∙ ap (layerRecords u (countAt counts) 0) (x .moves-is);
+                ∙ ap (layerRecords u (countAt counts) 0) (x .memory .moves-is);
           }
 
 -- ---- records of layers
@@ -162,7 +163,7 @@ module _ {table marks : List ℕ} {layers : List ℤ} {props vars moves m : ℕ}
       record {
         walked = walked;
         total = omega (arith, ap length (records-answer (x .task) (x .start) m));
-        firsts = omega (arith, ap firstMoves (records-answer (x .task) (x .start) m), ap firstMoves (none-counted m moves e (stored-moves x)));
+        firsts = omega (arith, ap firstMoves (records-answer (x .task) (x .start) m), ap firstMoves (none-counted m moves e (stored-moves (x .memory))));
       }
 
   module _ {t : ℕ} {w : Targets} {counts : List ℕ} {n : ℕ} (h : t < m) (s : Surveying x (suc t) w counts n) {u : Targets} {more : List ℕ} {c : ℕ} (walked : Walked x t u) (counted : Counted x t more) (is : c ≡ length (layerRecords 0 (countAt more) 0 moves)) where
@@ -180,7 +181,7 @@ module _ {table marks : List ℕ} {layers : List ℤ} {props vars moves m : ℕ}
         }
 
   pub survey-few : {t : ℕ} {w : Targets} {counts : List ℕ} {n : ℕ} → Surveying x t w counts n → n ≤ 204_864
-  survey-few s = omega (arith, s .total, records-most (x .ok) (x .start) m (x .bounded))
+  survey-few s = omega (arith, s .total, records-most (x .memory .ok) (x .start) m (x .memory .bounded))
 
   pub survey-end : (t : ℕ) {w : Targets} {counts : List ℕ} {n first : ℕ} → t ≤ 0 → Surveying x t w counts n → first ≡ firstMoves (layerRecords 0 (countAt counts) 0 moves) → Surveyed x n first
   unfolding recordsFrom firstMoves

@@ -1,12 +1,9 @@
 -- The answer of `plan` with what the two lent memories hold afterwards. Assumes nothing.
-use Prim.Native.Nat.{ℕ, suc, _+_, _*_, _/_, _≤_, _<_}
-use native.Mathlib.Numerals.{add-one}
+use Prim.Native.Nat.{ℕ, _*_, _≤_, _<_}
 use native.Mathlib.Omega.{arith}
 use mathlib.Core.Path.{_≡_, refl, sym, ap, _∙_, subst}
-use mathlib.Core.Bool.{false}
 use mathlib.Core.List.{List, []}
-use mathlib.Core.Option.{none}
-use borrow.Author.Tests.{le-ltb, ltb-false}
+use borrow.Author.Tests.{le-ltb}
 use lib.IntN.{ℤ}
 use lib.ListN.{length}
 use Rattle.integer.specs.Store.{put}
@@ -16,22 +13,15 @@ use Rattle.model.specs.declared.PlanAnswer.the-variants as plan
 use Rattle.model.specs.Limits.{paper}
 use Rattle.model.specs.Task.{normal, Task}
 use Rattle.model.specs.Move.{State, moveAt}
-use Rattle.model.specs.Layer.{Outcome, reached, exhausted, reported, outcome}
-use Rattle.model.specs.Memory.{room, wrong15, wrong14, refuses, overwrite, Built, answered, stopped, stopAt, build, builtMemory}
-use Rattle.model.specs.StateTable.{stateRefusal}
+use Rattle.model.specs.Layer.{reached, exhausted, reported}
+use Rattle.model.specs.Memory.{overwrite, Built, answered, stopped}
 use Rattle.model.specs.Plan.{Record, firstMoves}
 use Rattle.model.specs.Calls.{writes, fitted, outputAfter, Ready, ready, unready, prepared, memoryOf, decideMemory, recordBytes, planRecords, planned, planFitted, planOf, planAnswer, planMemory, planOutOf, planOut, Output}
-use Rattle.model.specs.Theorems.Laws.Booleans.{not-false, or-right}
-use Rattle.model.specs.Theorems.Laws.Searching.{firstFrom-cases}
 use Rattle.model.specs.Theorems.Plans.Records.{length-recordBytes}
-use Rattle.model.specs.Theorems.Reading.WellFormed.{TaskOk}
-use Rattle.model.specs.Theorems.Layers.Building.{built-outcome}
-use Rattle.model.specs.Theorems.Layers.Memories.{Holds, size, memory-holds}
-use Rattle.model.specs.Theorems.Sizes.States.{SmallState, accepted-small, normalState-small}
 use Rattle.model.specs.Theorems.Campaigns.Demand3.{planLayers}
 use Rattle.model.specs.Theorems.Printing.Outputs.{fitted-whole, fitted-short, plan-whole, plan-short, put-first}
 use Rattle.model.specs.Theorems.Campaigns.EndToEnd.{LayersWithin, plan-within}
-use Rattle.model.specs.Theorems.Sizes.Plans.{answered-passes, reported-most}
+use Rattle.model.specs.Theorems.Sizes.Stored.{stepsOf}
 use Rattle.table.specs.Outlines.{Outline}
 use Rattle.reader.specs.Parts.{outline-part}
 use Rattle.block.specs.Parts.{move-left, goal-left}
@@ -40,6 +30,7 @@ use Rattle.layers.specs.declared.Built.the-variants as building
 use Rattle.layers.specs.Starting.{startOf}
 use Rattle.layers.specs.Building.{IsBuilt, builtOf}
 use Rattle.layers.specs.Preparing.{ReadyIn}
+use Rattle.layers.specs.Leaving.{built-layers}
 use Rattle.achievers.specs.Search.{Parts}
 use Rattle.descent.specs.Layers.{Stored}
 use Rattle.passes.specs.Passes.{planRecords as storedRecords}
@@ -55,65 +46,16 @@ outlined-parts {table} {marks} {k} o =
       goal = goal-left (o .ok) (o .goal);
     }
 
--- where the layers are built to the end, there was room for each of them
-answered-room :
-    (k : Task) (s : State) (n : ℕ) {o : Outcome}
-    → build paper k s n ≡ answered o
-    → (u : ℕ)
-    → u ≤ reported (outcome k s)
-    → wrong14 k n u ≡ false
-unfolding build stopAt
-answered-room k s n {o} e u h =
-    firstFrom-cases (refuses paper k s n) (λ f. stopAt paper k s f (outcome k s) ≡ answered o → wrong14 k n u ≡ false) 0 (suc (reported (outcome k s)))
-    (λ t low high bad before stopped-is. cc)
-    (λ never same. not-false (wrong14 k n u) (λ short. never u (omega arith) (omega arith) (or-right (wrong15 paper k s u) (wrong14 k n u) short)))
-    e
-
--- "N even": the signed variables of an accepted state
-start-small : {k : Task} (props : ℕ) {vars : ℕ} (bs : List ℕ) → TaskOk paper normal k → vars ≡ k .vars → stateRefusal paper props (vars / 2) bs ≡ none → SmallState (k .vars) (startOf props bs)
-unfolding paper
-start-small {k} props {vars} bs ok e accepted =
-    normalState-small {vars = vars / 2} (omega (arith, ok .vars .1, e)) (accepted-small props (vars / 2) bs accepted)
-
 module _ {t bs marks : List ℕ} {props vars moves m : ℕ} {mem mem′ : List ℤ} (r : ReadyIn t bs marks props vars moves) (b : IsBuilt (r .task) (startOf props bs) mem mem′ (building.Reached m)) where
-  is-reached : build paper (r .task) (startOf props bs) (length mem) ≡ answered (reached m)
-  unfolding builtOf
-  is-reached = sym (b .ended)
-
-  is-outcome : m ≡ reported (outcome (r .task) (startOf props bs))
-  unfolding reported
-  is-outcome = ap reported (built-outcome paper (r .task) (startOf props bs) (length mem) (reached m) is-reached)
-
-  enough : size (r .task) (startOf props bs) (suc m) ≤ length mem
-  unfolding wrong14 room
-  enough =
-      let k = r .task in
-      let fits = ltb-false (length mem) (k .props + length (k .moves) + k .vars * (m + 1)) (answered-room k (startOf props bs) (length mem) is-reached m (omega (arith, is-outcome))) in
-      rw (add-one m) at fits
-
   -- the memory holds the layers up to the answer layer
   pub built-stored : Stored t marks mem′ props vars moves m
-  unfolding builtMemory
+  unfolding builtOf reported stepsOf
   built-stored =
-      let k = r .task in
-      let s = startOf props bs in
       record {
-        task = k;
-        start = s;
-        ok = r .outlined .ok;
+        task = r .task;
+        start = startOf props bs;
         parts = outlined-parts (r .outlined);
-        props-is = sym (r .counts .props-is);
-        vars-is = sym (r .counts .vars-is);
-        moves-is = sym (r .counts .moves-is);
-        old = mem;
-        held =
-            subst (Holds k s (suc m) m mem)
-            (sym (b .memory ∙ ap (λ (x : Built). overwrite (builtMemory k s x) mem) is-reached))
-            (memory-holds k s (suc m) m mem enough);
-        room = enough;
-        small = start-small props bs (r .outlined .ok) (r .counts .vars-is) (r .accepted-state);
-        right = λ u h. answered-passes k s (length mem) is-reached u (omega (arith, is-outcome));
-        bounded = omega (arith, is-outcome, reported-most (r .outlined .ok) s);
+        memory = built-layers r b (reached m) refl;
       }
 
 -- ---- what the call answers and leaves

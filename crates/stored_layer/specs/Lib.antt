@@ -1,2 +1,3 @@
 -- The specification of reading a stored layer back.
 pub mod View
+pub mod Stored

@@ -4,19 +4,20 @@ use Prim.Native.Nat.{ℕ, zero, suc, _+_, _-_, _≤_, _<_}
 use native.Mathlib.Numerals.{add-one}
 use native.Mathlib.Omega.{arith}
 use mathlib.Core.Path.{_≡_, sym, ap, ap₂, _∙_, subst}
-use mathlib.Core.List.{List, [], _∷_}
-use lib.ListN.{length, getD, take, drop}
-use lib.Seq.{slice, take-nil}
+use mathlib.Core.List.{List, [], _∷_, _++_}
+use lib.ListN.{length, getD, take, drop, length-append}
+use lib.Seq.{slice, take-nil, take-append-seam}
 use Rattle.integer.specs.BigEndian.{AllBytes}
 use Rattle.model.specs.declared.Refusal.{Refusal}
 use Rattle.model.specs.declared.ReadAnswer.{ReadAnswer}
 use Rattle.model.specs.declared.ReadAnswer.the-variants as read
 use Rattle.model.specs.Limits.{paper}
-use Rattle.model.specs.Task.{Form, Task}
-use Rattle.model.specs.Command.{openMove, openGoal, codeOf, itemsBytes, taskBytes}
+use Rattle.model.specs.Task.{Form, Block, Task}
+use Rattle.model.specs.Command.{openMove, openGoal, codeOf, itemsBytes, movesBytes, taskBytes}
 use Rattle.model.specs.Reading.{Table, accepted, refused, only, lengthLimit, reading}
 use Rattle.model.specs.Theorems.Reading.WellFormed.{TaskOk}
 use Rattle.model.specs.Theorems.Reading.Accepted.{Accepted, reading-accepted, reading-form, reading-head}
+use Rattle.model.specs.Theorems.Reading.Marks.{starts-at}
 use Rattle.model.specs.Theorems.Reading.Parts.{move-part, goal-part}
 use Rattle.table.specs.Answer.{Outlined, answer-accepted, answer-refused}
 
@@ -46,6 +47,8 @@ pub record Outline (f : Form) (table marks : List ℕ) (k : Task) : Type 0 where
   pub within : (b : ℕ) → b ≤ length (k .moves) → getD marks (b + 1) 0 ≤ length table
   pub move : (b : ℕ) → b < length (k .moves) → partAt table marks b ≡ codeOf openMove ∷ itemsBytes (getD (k .moves) b [])
   pub goal : partAt table marks (length (k .moves)) ≡ codeOf openGoal ∷ itemsBytes (k .goal)
+  -- the goal stands behind the head and the moves
+  pub goal-mark : getD marks (length (k .moves)) 0 ≡ 4 + length (movesBytes (k .moves))
 
 -- what is above 0 stands within the list
 pub inside-list : (l : List ℕ) (i : ℕ) → 0 < getD l i 0 → i < length l
@@ -80,6 +83,14 @@ module _ (f : Form) (table marks : List ℕ) (t : Table) (e : reading paper (onl
         ∙ ap₂ (λ (x y : ℕ). slice x y table) (same b (omega (arith, outline-moves)))
         (same (b + 1) (omega (arith, outline-moves)) ∙ ap (λ (n : ℕ). getD (t .marks) n 0) (add-one b))
 
+    goal-at : getD marks (length (t .task .moves)) 0 ≡ 4 + length (movesBytes (t .task .moves))
+    goal-at =
+        let ms = t .task .moves in
+        same (length ms) (omega (arith, outline-moves))
+        ∙ ap (λ (l : List ℕ). getD l (length ms) 0) (a .marks)
+        ∙ starts-at 4 (ms ++ (t .task .goal ∷ [])) (length ms) (omega (arith, length-append ms (t .task .goal ∷ [])))
+        ∙ ap (λ (bs : List Block). 4 + length (movesBytes bs)) (take-append-seam ms (t .task .goal ∷ []))
+
     pub outline-of : Outline f table marks (t .task)
     outline-of =
         record {
@@ -94,6 +105,7 @@ module _ (f : Form) (table marks : List ℕ) (t : Table) (e : reading paper (onl
           within = last;
           move = λ b h. part-is b (omega arith) ∙ move-part a all b h;
           goal = part-is (length (t .task .moves)) (omega arith) ∙ goal-part a all;
+          goal-mark = goal-at;
         }
 
 -- the head that was read, of an accepted table

@@ -141,6 +141,7 @@ impl Buffers {
                 format!("{plan} decision {decision}")
             }
             CallKind::Pddl => accepted(engine.pddl(table, state, out)),
+            CallKind::Blocking => shown(engine.blocking(table, state, layers)),
             CallKind::Listing => engine.listing(table, state).replace('\n', "\\n"),
         })
     }

@@ -1,5 +1,6 @@
 //! Calls with inputs of all sorts, for comparing engines.
 
+use super::blocked::blocked;
 use super::damage::{command_string, random_bytes, spoil, wrong_state};
 use super::grid::long_sum;
 use super::maker::{state_for, task};
@@ -45,6 +46,7 @@ pub fn call(rng: &mut Rng) -> Call {
             state,
             ..CallKind::Step.call()
         },
+        (Kind::Normal, 2..=4) => blocking_of(rng, &Task { table, state }),
         (Kind::Normal, _) => planning_call(rng, &Task { table, state }),
     }
 }
@@ -59,6 +61,13 @@ pub fn campaign_call(rng: &mut Rng) -> Call {
 pub fn pddl_call(rng: &mut Rng) -> Call {
     let task = any_task(rng, Kind::Written);
     pddl_of(rng, &task)
+}
+
+/// A `blocking` of a table that is mostly accepted and whose goal mostly cannot be reached, with
+/// memory that is mostly enough.
+pub fn blocking_call(rng: &mut Rng) -> Call {
+    let task = any_task(rng, Kind::Normal);
+    blocking_of(rng, &task)
 }
 
 /// `decide` and `plan` of a task with every size of memory and of output that matters:
@@ -191,6 +200,15 @@ fn campaign_of(rng: &mut Rng, task: &Task) -> Call {
 
 fn pddl_of(rng: &mut Rng, task: &Task) -> Call {
     task.pddl(around(rng, text_length(task)))
+}
+
+fn blocking_of(rng: &mut Rng, task: &Task) -> Call {
+    let task = match rng.chance(7, 8) {
+        true => blocked(rng, task),
+        false => task.clone(),
+    };
+    let (numbers, _) = planning_sizes(rng, &task);
+    task.blocking(numbers)
 }
 
 /// Numbers of memory and bytes of output at or around what a normal table needs.

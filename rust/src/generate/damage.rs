@@ -64,7 +64,11 @@ pub fn command_string(rng: &mut Rng) -> Vec<u8> {
         }
     }
     commands.push(vec![0x45]);
-    if commands[0][0] == Kind::Written.byte() && rng.chance(1, 2) {
+    let share = match commands[0][0] == Kind::Written.byte() {
+        true => 2,
+        false => 4,
+    };
+    if rng.chance(1, share) {
         set_weights_to_0(rng, &mut commands);
     }
     while rng.chance(2, 5) {

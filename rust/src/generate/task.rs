@@ -62,6 +62,14 @@ impl Task {
         }
     }
 
+    /// `blocking` of this task with so many numbers of memory.
+    pub fn blocking(&self, numbers: usize) -> Call {
+        Call {
+            numbers,
+            ..self.call(CallKind::Blocking)
+        }
+    }
+
     /// `pddl` of this task with so many bytes of output.
     pub fn pddl(&self, room: usize) -> Call {
         Call {

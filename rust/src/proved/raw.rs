@@ -75,6 +75,15 @@ extern "C" {
         out: *mut u8,
         out_len: usize,
     ) -> u64;
+
+    fn lapyndo_blocking(
+        table: *const u8,
+        table_len: usize,
+        state: *const u8,
+        state_len: usize,
+        layers: *mut i64,
+        layers_len: usize,
+    ) -> u64;
 }
 
 /// The result in an answer's number, or the refusal.
@@ -205,6 +214,20 @@ pub fn pddl(table: &[u8], state: &[u8], out: &mut [u8]) -> Result<u32, Refusal> 
             state.len(),
             out.as_mut_ptr(),
             out.len(),
+        )
+    })
+}
+
+/// The offset of the part that blocks; 0 where nothing does.
+pub fn blocking(table: &[u8], state: &[u8], layers: &mut [i64]) -> Result<u32, Refusal> {
+    answered(unsafe {
+        lapyndo_blocking(
+            table.as_ptr(),
+            table.len(),
+            state.as_ptr(),
+            state.len(),
+            layers.as_mut_ptr(),
+            layers.len(),
         )
     })
 }

@@ -5,6 +5,7 @@
 
 #![forbid(unsafe_code)]
 
+mod blocking;
 mod circle;
 mod layers;
 mod listing;
@@ -22,10 +23,10 @@ pub use normal::{normal_conditions, normal_form};
 pub use plan::Record;
 pub use state::State;
 
-use crate::answer::{Decision, Head, Plan, Reason, Refusal};
+use crate::answer::{Answer, Blocking, Decision, Head, Plan, Reason, Refusal};
 use crate::room;
 use layers::{End, Layers};
-use parse::{parse, Wanted};
+use parse::{parse, Parsed, Wanted};
 use table::{Kind, Table};
 
 /// Checks a table of either kind and answers its head.
@@ -89,6 +90,20 @@ pub fn decide(table: &[u8], state: &[u8], layers: &mut [i64]) -> Result<Decision
     built.decision()
 }
 
+/// Tells which part of a normal table's goal blocks where there is no plan.
+pub fn blocking(table: &[u8], state: &[u8], layers: &mut [i64]) -> Result<Blocking, Refusal> {
+    let (Parsed { ranges, .. }, built) = build_layers(table, state, layers)?;
+    if built.decision()?.answer != Answer::NoPlan {
+        return Ok(Blocking::Nothing);
+    }
+    let goal = ranges.last().expect("the goal is the last block").clone();
+    let last = built.stored.last().expect("layer 0 is stored");
+    let unmet = blocking::first_unmet(&table[goal.clone()], last);
+    let unmet = unmet.expect("the last layer does not meet the goal");
+    let offset = (goal.start + unmet) as u64;
+    Ok(Blocking::Blocks { offset })
+}
+
 /// Decides the relaxed task of a normal table and writes the records of its plan.
 pub fn plan(
     table: &[u8],
@@ -96,10 +111,10 @@ pub fn plan(
     layers: &mut [i64],
     out: &mut [u8],
 ) -> Result<Plan, Refusal> {
-    let (normal, built) = build_layers(table, state, layers)?;
+    let (Parsed { table, .. }, built) = build_layers(table, state, layers)?;
     let decision = built.decision()?;
     let (records, first) = match built.end {
-        End::Goal => plan::extract(&normal, &built.stored),
+        End::Goal => plan::extract(&table, &built.stored),
         End::Equal | End::Refused(_) => (Vec::new(), 0),
     };
     let bytes: Vec<u8> = records.iter().flat_map(|r| r.encode()).collect();
@@ -112,12 +127,12 @@ fn build_layers(
     table: &[u8],
     state: &[u8],
     memory: &mut [i64],
-) -> Result<(Table, Layers), Refusal> {
-    let normal = parse(table, Wanted::Only(Kind::Normal))?.table;
-    let state = State::parse(&normal, state)?;
-    let built = Layers::build(&normal, &state, memory.len())?;
+) -> Result<(Parsed, Layers), Refusal> {
+    let parsed = parse(table, Wanted::Only(Kind::Normal))?;
+    let state = State::parse(&parsed.table, state)?;
+    let built = Layers::build(&parsed.table, &state, memory.len())?;
     built.write(memory);
-    Ok((normal, built))
+    Ok((parsed, built))
 }
 
 /// Parses an accepted table and its state, of either kind.

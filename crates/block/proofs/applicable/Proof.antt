@@ -120,7 +120,7 @@ passes c =
     ∙ not-false (w .3 .result) (w .4 .left))))
     (λ w.
     subst (Passes start) (sym (w .1))
-    (no-condition (start .args .part .now) (Over _ _) holds (λ s p. refl) (λ s p. refl) (λ s e. refl) (c .before .next .result) (w .0 .keys4))))
+    (no-condition (start .args .part .now) (Over _ _) (λ s. all (holds s)) (λ s p. all-true (holds s) refl) (λ s p. all-true (holds s) refl) (λ s e. all-true (holds s) refl) (c .before .next .result) (w .0 .keys4))))
     (c .match .came)
 
 loop-less : tie.Need-loop-less Inv-loop μ-loop

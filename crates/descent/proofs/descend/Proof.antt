@@ -2,7 +2,8 @@
 use Prim.Native.Nat.{_-_}
 use native.Mathlib.Omega.{arith}
 use mathlib.Core.Path.{refl, sym}
-use Rattle.descent.specs.Layers.{stored-props, stored-vars, stored-moves, stored-entries, stored-room, layer-carriable, layer-props, layer-values, layer-descended}
+use Rattle.stored_layer.specs.Stored.{stored-props, stored-vars, stored-moves, stored-entries, stored-room}
+use Rattle.descent.specs.Layers.{layer-carriable, layer-props, layer-values, layer-descended}
 use borrow.Author.Needs.{needs}
 use Rattle.descent.proofs.descend.Statement.{statement}
 use Rattle.descent.proofs.descend.Tie as tie
@@ -13,12 +14,12 @@ sub-lower c = omega (arith, c .before .before .pre .1)
 read-entries-requires : tie.Need-read-entries-requires
 read-entries-requires c κs =
     let p = c .before .before .before .pre in
-    (omega (arith, stored-entries (p .0 .stored)), stored-props (p .0 .stored), omega (arith, p .0 .below, p .0 .stored .bounded), refl)
+    (omega (arith, stored-entries (p .0 .stored .memory)), stored-props (p .0 .stored .memory), omega (arith, p .0 .below, p .0 .stored .memory .bounded), refl)
 
 read-entries-requires-2 : tie.Need-read-entries-requires-2
 read-entries-requires-2 c κs =
     let p = c .before .before .before .before .before .pre in
-    (stored-entries (p .0 .stored), omega (arith, stored-moves (p .0 .stored)), omega (arith, p .0 .below, p .0 .stored .bounded), refl)
+    (stored-entries (p .0 .stored .memory), omega (arith, stored-moves (p .0 .stored .memory)), omega (arith, p .0 .below, p .0 .stored .memory .bounded), refl)
 
 add-read-row : tie.Need-add-read-row
 add-read-row c = search needs
@@ -26,17 +27,17 @@ add-read-row c = search needs
 mul-read-row : tie.Need-mul-read-row
 mul-read-row c =
     let p = c .before .before .before .before .before .before .pre .0 in
-    omega (arith, stored-room (p .stored) {t = c .before .before .before .before .before .before .args .t - 1} (omega (arith, p .below)))
+    omega (arith, stored-room (p .stored .memory) {t = c .before .before .before .before .before .before .args .t - 1} (omega (arith, p .below)))
 
 add-read-row-2 : tie.Need-add-read-row-2
 add-read-row-2 c =
     let p = c .before .before .before .before .before .before .pre .0 in
-    omega (arith, stored-room (p .stored) {t = c .before .before .before .before .before .before .args .t - 1} (omega (arith, p .below)))
+    omega (arith, stored-room (p .stored .memory) {t = c .before .before .before .before .before .before .args .t - 1} (omega (arith, p .below)))
 
 read-row-requires : tie.Need-read-row-requires
 read-row-requires c κs =
     let p = c .before .before .before .before .before .before .before .pre .0 in
-    (stored-room (p .stored) (omega (arith, p .below)), stored-vars (p .stored), refl)
+    (stored-room (p .stored .memory) (omega (arith, p .below)), stored-vars (p .stored .memory), refl)
 
 slice-aggregate-low-row : tie.Need-slice-aggregate-low-row
 slice-aggregate-low-row c = search needs
@@ -44,7 +45,7 @@ slice-aggregate-low-row c = search needs
 low-row-requires : tie.Need-low-row-requires
 low-row-requires c κs =
     let p = c .before .before .before .before .before .before .before .before .before .before .pre .0 in
-    (omega (arith, stored-vars (p .stored), c .before .before .read-row .ensures .long), omega (arith, p .start-is .long, p .stored .vars-is), stored-vars (p .stored), refl)
+    (omega (arith, stored-vars (p .stored .memory), c .before .before .read-row .ensures .long), omega (arith, p .start-is .long, p .stored .memory .vars-is), stored-vars (p .stored .memory), refl)
 
 slice-aggregate-carry-down : tie.Need-slice-aggregate-carry-down
 slice-aggregate-carry-down c = search needs

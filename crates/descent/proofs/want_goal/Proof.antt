@@ -1,7 +1,8 @@
 -- `want_goal` meets its contract. Assumes nothing.
 use native.Mathlib.Omega.{arith}
 use mathlib.Core.Path.{refl}
-use Rattle.descent.specs.Layers.{stored-vars, stored-room, goal-part-in, start-long, goal-wantable, goal-wanted}
+use Rattle.stored_layer.specs.Stored.{stored-vars, stored-room}
+use Rattle.descent.specs.Layers.{goal-part-in, start-long, goal-wantable, goal-wanted}
 use borrow.Author.Needs.{needs}
 use Rattle.descent.proofs.want_goal.Statement.{statement}
 use Rattle.descent.proofs.want_goal.Tie as tie
@@ -10,13 +11,13 @@ add-read-row : tie.Need-add-read-row
 add-read-row c = search needs
 
 mul-read-row : tie.Need-mul-read-row
-mul-read-row c = omega (arith, stored-room (c .before .before .pre .stored) {t = c .before .before .args .m} (omega arith))
+mul-read-row c = omega (arith, stored-room (c .before .before .pre .stored .memory) {t = c .before .before .args .m} (omega arith))
 
 add-read-row-2 : tie.Need-add-read-row-2
-add-read-row-2 c = omega (arith, stored-room (c .before .before .pre .stored) {t = c .before .before .args .m} (omega arith))
+add-read-row-2 c = omega (arith, stored-room (c .before .before .pre .stored .memory) {t = c .before .before .args .m} (omega arith))
 
 read-row-requires : tie.Need-read-row-requires
-read-row-requires c κs = let p = c .before .before .before .pre in (stored-room (p .stored) (omega arith), stored-vars (p .stored), refl)
+read-row-requires c κs = let p = c .before .before .before .pre in (stored-room (p .stored .memory) (omega arith), stored-vars (p .stored .memory), refl)
 
 slice-aggregate-low-row : tie.Need-slice-aggregate-low-row
 slice-aggregate-low-row c = search needs
@@ -24,7 +25,7 @@ slice-aggregate-low-row c = search needs
 low-row-requires : tie.Need-low-row-requires
 low-row-requires c κs =
     let p = c .before .before .before .before .before .before .pre in
-    (omega (arith, stored-vars (p .stored), c .before .before .read-row .ensures .long), start-long p, stored-vars (p .stored), refl)
+    (omega (arith, stored-vars (p .stored .memory), c .before .before .read-row .ensures .long), start-long p, stored-vars (p .stored .memory), refl)
 
 part-requires : tie.Need-part-requires
 part-requires c κs = goal-part-in (c .before .before .before .before .before .before .before .pre)

@@ -6,4 +6,5 @@ pub mod Targets
 pub mod Counts
 pub mod Descents
 pub mod Plans
+pub mod Stored
 pub mod Answers

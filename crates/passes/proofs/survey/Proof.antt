@@ -6,7 +6,7 @@ use mathlib.Core.Path.{_≡_, sym, ap, _∙_}
 use borrow.Author.Needs.{needs}
 use lib.ListN.{length, length-replicate}
 use Rattle.records.specs.Records.{keptBytes}
-use Rattle.descent.specs.Layers.{stored-moves}
+use Rattle.stored_layer.specs.Stored.{stored-moves}
 use Rattle.passes.specs.Passes.{Begun, walk-layer, walk-next, walk-long, walk-counted, Surveying, survey-start, survey-down, survey-next, survey-few, survey-end}
 use Rattle.passes.specs.Keeping.{Kept, kept-start, kept-down, kept-next, kept-end}
 use Rattle.passes.proofs.survey.Statement.{statement}
@@ -58,7 +58,7 @@ count-taken-requires c κs =
     let x = i .before .before .before .before .before .before .pre .0 in
     let s = survey-down (i .loop-test .taken) (i .before .loop .inv .3 x .0) in
     let lt : i .before .loop .t - 1 < i .before .before .before .before .before .before .args .m = omega (arith, i .loop-test .taken, i .before .loop .inv .0) in
-    omega (arith, walk-long (x .stored) (x .row) lt (s .walked) (c .before .descend .ensures (walk-layer (x .stored) (x .row) lt (s .walked))), stored-moves (x .stored))
+    omega (arith, walk-long (x .stored) (x .row) lt (s .walked) (c .before .descend .ensures (walk-layer (x .stored) (x .row) lt (s .walked))), stored-moves (x .stored .memory))
 
 add-records : tie.Need-add-records Inv-loop μ-loop
 add-records c =
@@ -84,7 +84,7 @@ keep-records-requires c κs =
     let s = survey-down (i .loop-test .taken) (i .before .loop .inv .3 x .0) in
     let lt : i .before .loop .t - 1 < i .before .before .before .before .before .before .args .m = omega (arith, i .loop-test .taken, i .before .loop .inv .0) in
     let e = c .before .before .before .before .descend .ensures (walk-layer (x .stored) (x .row) lt (s .walked)) in
-    let few = stored-moves (x .stored) in
+    let few = stored-moves (x .stored .memory) in
     (i .before .loop .inv .2, omega (arith, walk-long (x .stored) (x .row) lt (s .walked) e, few), few, omega (arith, c .before .before .count-taken .ensures .0))
 
 loop-less : tie.Need-loop-less Inv-loop μ-loop
@@ -116,7 +116,7 @@ slice-aggregate-first-moves c = search needs
 first-moves-requires : tie.Need-first-moves-requires Inv-loop μ-loop
 first-moves-requires c κs =
     let l = c .before .before in
-    let few = stored-moves (l .before .before .before .before .before .pre .0 .stored) in
+    let few = stored-moves (l .before .before .before .before .before .pre .0 .stored .memory) in
     (omega (arith, l .loop .inv .1, few), few)
 
 same-length : tie.Need-same-length Inv-loop μ-loop

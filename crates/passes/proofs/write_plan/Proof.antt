@@ -3,7 +3,7 @@
 use Prim.Native.Nat.{_-_, _≤_, _<_}
 use native.Mathlib.Omega.{arith}
 use mathlib.Core.Path.{sym}
-use Rattle.descent.specs.Layers.{stored-moves}
+use Rattle.stored_layer.specs.Stored.{stored-moves}
 use Rattle.passes.specs.Passes.{walk-layer, walk-next, walk-long, walk-counted, Writable, Backwards, backwards-start, backwards-down, backwards-length, back-enough, back-room, back-next, backwards-end}
 use Rattle.passes.proofs.write_plan.Statement.{statement}
 use Rattle.passes.proofs.write_plan.Tie as tie
@@ -49,10 +49,10 @@ count-taken-requires c κs =
     let x = i .before .before .before .before .before .before .pre in
     let s = backwards-down (i .loop-test .taken) (i .before .loop .inv .1 x) in
     let lt : i .before .loop .t - 1 < i .before .before .before .before .before .before .args .m = omega (arith, i .loop-test .taken, i .before .loop .inv .0) in
-    omega (arith, walk-long (x .begun .stored) (x .begun .row) lt (s .walked) (c .before .descend .ensures (walk-layer (x .begun .stored) (x .begun .row) lt (s .walked))), stored-moves (x .begun .stored))
+    omega (arith, walk-long (x .begun .stored) (x .begun .row) lt (s .walked) (c .before .descend .ensures (walk-layer (x .begun .stored) (x .begun .row) lt (s .walked))), stored-moves (x .begun .stored .memory))
 
 mul-at-2 : tie.Need-mul-at-2 Inv-loop μ-loop
-mul-at-2 c = omega (arith, c .count-taken .ensures .1, stored-moves (c .before .before .before .before .before .before .before .before .before .before .pre .begun .stored))
+mul-at-2 c = omega (arith, c .count-taken .ensures .1, stored-moves (c .before .before .before .before .before .before .before .before .before .before .pre .begun .stored .memory))
 
 sub-at : tie.Need-sub-at Inv-loop μ-loop
 sub-at c =
@@ -78,8 +78,8 @@ write-records-requires c κs =
     let s = backwards-down (i .loop-test .taken) (i .before .loop .inv .1 x) in
     let lt : i .before .loop .t - 1 < i .before .before .before .before .before .before .args .m = omega (arith, i .loop-test .taken, i .before .loop .inv .0) in
     let e = c .before .before .before .before .descend .ensures (walk-layer (x .begun .stored) (x .begun .row) lt (s .walked)) in (
-      omega (arith, walk-long (x .begun .stored) (x .begun .row) lt (s .walked) e, stored-moves (x .begun .stored)),
-      stored-moves (x .begun .stored),
+      omega (arith, walk-long (x .begun .stored) (x .begun .row) lt (s .walked) e, stored-moves (x .begun .stored .memory)),
+      stored-moves (x .begun .stored .memory),
       back-room x lt s (walk-next (x .begun .stored) (x .begun .row) lt (s .walked) e) (walk-counted (x .begun .stored) (x .begun .row) lt (s .walked) e) (c .before .before .count-taken .ensures .0),
     )
 

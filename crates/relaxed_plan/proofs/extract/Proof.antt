@@ -3,7 +3,7 @@ use native.Mathlib.Omega.{arith}
 use mathlib.Core.Path.{refl}
 use borrow.Author.Needs.{needs}
 use Rattle.model.specs.Theorems.Sizes.Plans.{records-most}
-use Rattle.descent.specs.Layers.{stored-vars, stored-room, stored-entries, stored-start}
+use Rattle.stored_layer.specs.Stored.{stored-vars, stored-room, stored-entries, stored-start}
 use Rattle.relaxed_plan.specs.Answer.{extracted-short, extracted-written}
 use Rattle.passes.specs.Passes.{planRecords, walk-goal, walk-begun}
 use Rattle.passes.specs.Keeping.{kept-copied}
@@ -11,18 +11,18 @@ use Rattle.relaxed_plan.proofs.extract.Statement.{statement}
 use Rattle.relaxed_plan.proofs.extract.Tie as tie
 
 add-read-row : tie.Need-add-read-row
-add-read-row c = omega (arith, stored-entries (c .before .before .pre))
+add-read-row c = omega (arith, stored-entries (c .before .before .pre .memory))
 
 read-row-requires : tie.Need-read-row-requires
 read-row-requires c κs =
     let x = c .before .before .before .pre in
-    (omega (arith, stored-room x {t = 0} (omega arith)), stored-vars x, refl)
+    (omega (arith, stored-room (x .memory) {t = 0} (omega arith)), stored-vars (x .memory), refl)
 
 slice-aggregate-want-goal : tie.Need-slice-aggregate-want-goal
 slice-aggregate-want-goal c = search needs
 
 want-goal-requires : tie.Need-want-goal-requires
-want-goal-requires c κs = let x = c .before .before .before .before .before .before .pre in walk-goal x (stored-start x (c .before .before .read-row .ensures))
+want-goal-requires c κs = let x = c .before .before .before .before .before .before .pre in walk-goal x (stored-start (x .memory) (c .before .before .read-row .ensures))
 
 slice-aggregate-survey : tie.Need-slice-aggregate-survey
 slice-aggregate-survey c = search needs
@@ -34,7 +34,7 @@ survey-requires : tie.Need-survey-requires
 survey-requires c κs =
     let g = c .before .before .before in
     let x = g .before .before .before .before .before .before .before .pre in
-    let row = stored-start x (g .before .before .before .read-row .ensures) in
+    let row = stored-start (x .memory) (g .before .before .before .read-row .ensures) in
     (walk-begun x row (g .want-goal .ensures (walk-goal x row)), refl)
 
 mul-if1 : tie.Need-mul-if1
@@ -42,15 +42,15 @@ mul-if1 c =
     let g = c .before .before .before .before .before in
     let a = g .before .before .before .before .before .before .before in
     let x = a .pre in
-    let row = stored-start x (g .before .before .before .read-row .ensures) in
-    omega (arith, c .before .survey .ensures (walk-begun x row (g .want-goal .ensures (walk-goal x row))) .0 .total, records-most (x .ok) (x .start) (a .args .m) (x .bounded))
+    let row = stored-start (x .memory) (g .before .before .before .read-row .ensures) in
+    omega (arith, c .before .survey .ensures (walk-begun x row (g .want-goal .ensures (walk-goal x row))) .0 .total, records-most (x .memory .ok) (x .start) (a .args .m) (x .memory .bounded))
 
 returns : tie.Need-returns
 returns c x =
     let s = c .before .before in
     let g = s .before .before .before .before in
     let a = g .before .before .before .before .before .before .before .args in
-    let row = stored-start x (g .before .before .before .read-row .ensures) in
+    let row = stored-start (x .memory) (g .before .before .before .read-row .ensures) in
     let k = s .survey .ensures (walk-begun x row (g .want-goal .ensures (walk-goal x row))) .0 in
     extracted-short (planRecords x) (a .m) (a .out .now) (k .total) (k .firsts) (c .if1 .taken)
 
@@ -81,7 +81,7 @@ write-plan-requires c κs =
     let s = e .before .before in
     let g = s .before .before .before .before in
     let x = g .before .before .before .before .before .before .before .pre in
-    let row = stored-start x (g .before .before .before .read-row .ensures) in
+    let row = stored-start (x .memory) (g .before .before .before .read-row .ensures) in
     let b = walk-begun x row (g .want-goal .ensures (walk-goal x row)) in
     record { begun = b; total = s .survey .ensures b .0 .total; room = e .if1 .left }
 
@@ -95,7 +95,7 @@ returns-2 c x =
     let s = e .before .before in
     let g = s .before .before .before .before in
     let a = g .before .before .before .before .before .before .before .args in
-    let row = stored-start x (g .before .before .before .read-row .ensures) in
+    let row = stored-start (x .memory) (g .before .before .before .read-row .ensures) in
     let k = s .survey .ensures (walk-begun x row (g .want-goal .ensures (walk-goal x row))) in
     extracted-written (planRecords x) (a .m) (a .out .now) (k .0 .total) (k .0 .firsts) (e .if1 .left)
     (kept-copied x (a .out .now) (f .if2 .taken) (k .0 .total) (e .if1 .left) (k .1) (c .before .before .copy .ensures))
@@ -110,7 +110,7 @@ returns-3 c x =
     let s = e .before .before in
     let g = s .before .before .before .before in
     let a = g .before .before .before .before .before .before .before .args in
-    let row = stored-start x (g .before .before .before .read-row .ensures) in
+    let row = stored-start (x .memory) (g .before .before .before .read-row .ensures) in
     let b = walk-begun x row (g .want-goal .ensures (walk-goal x row)) in
     let k = s .survey .ensures b .0 in
     extracted-written (planRecords x) (a .m) (a .out .now) (k .total) (k .firsts) (e .if1 .left)

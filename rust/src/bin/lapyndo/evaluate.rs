@@ -27,7 +27,8 @@ impl Standing<'_> {
             .map(|sum| sum + i128::from(constant))
     }
 
-    fn holds(&self, line: &Line) -> bool {
+    /// Whether a condition is met; an effect asks for nothing.
+    pub fn holds(&self, line: &Line) -> bool {
         match line.form.code {
             Code::Needs => (self.proposition)(line.index(0)),
             Code::Condition => {

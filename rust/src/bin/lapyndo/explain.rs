@@ -2,6 +2,7 @@
 
 use crate::evaluate::{effects, Standing};
 use crate::files::{STATE, TASK};
+use crate::layer::Layer;
 use crate::refused;
 use crate::scan::{Block, Code, Line, Scan, Term};
 use crate::state::{value, value_count, State};
@@ -114,17 +115,14 @@ impl Case<'_> {
         };
         let mut rows = vec![("where", format!("layer {layer}, made from layer {before}"))];
         let scan = Scan::of(self.normal);
-        let [p, n, a] = scan.counts();
-        let values = &self.layers[p + a + n * before..];
-        let standing = Standing {
-            proposition: &|p| (0..=before as i64).contains(&self.layers[p]),
-            variable: &|v| (values[v] != i64::MAX).then(|| values[v].into()),
-        };
-        for block in (0..a).map(Block::Move) {
-            if standing.failing(&scan, block).is_empty() {
-                rows.extend(too_large(&scan, block, &standing).map(|why| ("why", why)));
+        let counts = scan.counts();
+        Layer::of(counts, self.layers, before).standing(|standing| {
+            for block in (0..counts[2]).map(Block::Move) {
+                if standing.failing(&scan, block).is_empty() {
+                    rows.extend(too_large(&scan, block, standing).map(|why| ("why", why)));
+                }
             }
-        }
+        });
         rows
     }
 }

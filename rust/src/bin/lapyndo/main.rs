@@ -11,7 +11,9 @@ mod commands;
 mod evaluate;
 mod explain;
 mod files;
+mod layer;
 mod outcome;
+mod parts;
 mod pddl;
 mod planning;
 mod refused;
@@ -19,6 +21,7 @@ mod scan;
 mod show;
 mod state;
 mod step;
+mod why;
 mod words;
 
 use std::env;

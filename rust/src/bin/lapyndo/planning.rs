@@ -53,15 +53,15 @@ can be carried out as it stands.
 const NORMAL_ROOM: usize = 64_000;
 
 /// A campaign and its normal table.
-struct Task {
-    folder: Folder,
-    normal: Vec<u8>,
+pub struct Task {
+    pub folder: Folder,
+    pub normal: Vec<u8>,
 }
 
 /// A call that answers text, lent layer memory.
-type Call<'c> = &'c dyn Fn(&Task, &mut [i64]) -> Result<String, Refusal>;
+pub type Call<'c> = &'c dyn Fn(&Task, &mut [i64]) -> Result<String, Refusal>;
 
-fn planned(words: &[OsString], call: Call) -> Done {
+pub fn planned(words: &[OsString], call: Call) -> Done {
     let folder = Folder::read(&words[0])?;
     let normal = match normal_table(&folder.table) {
         Ok(normal) => normal,
@@ -103,7 +103,7 @@ fn normal_table(table: &[u8]) -> Result<Vec<u8>, Refusal> {
 
 impl Task {
     /// P, N and A of the normal table.
-    fn counts(&self) -> [usize; 3] {
+    pub fn counts(&self) -> [usize; 3] {
         Scan::of(&self.normal).counts()
     }
 
@@ -152,7 +152,7 @@ const GUIDES: &str = "\
 A plan guides: it solves the relaxed task, in which nothing is deleted and no value falls.
 ";
 
-fn decided(decision: Decision) -> String {
+pub fn decided(decision: Decision) -> String {
     let said = match decision.answer {
         Answer::Layer(layer) => format!("plan: layer {layer} meets the goal"),
         Answer::NoPlan => "no plan: no list of moves, of any length, reaches the goal".into(),

@@ -26,7 +26,7 @@ pub fn block(block: Block) -> String {
 
 /// The sum of a condition or an effect without terms of weight 0, and a constant that is left out
 /// beside terms if it is 0.
-fn sum(normal: bool, line: &Line, constant: i64) -> String {
+pub fn sum(normal: bool, line: &Line, constant: i64) -> String {
     let mut text = String::new();
     for term in line.contributing() {
         add(&mut text, term.weight, &variable(normal, term.variable));

@@ -15,13 +15,16 @@ use Rattle.model.specs.declared.DecideAnswer.{DecideAnswer}
 use Rattle.model.specs.declared.DecideAnswer.the-variants as decide
 use Rattle.model.specs.declared.PlanAnswer.{PlanAnswer}
 use Rattle.model.specs.declared.PlanAnswer.the-variants as plan
+use Rattle.model.specs.declared.BlockingAnswer.{BlockingAnswer}
+use Rattle.model.specs.declared.BlockingAnswer.the-variants as blocking
 use Rattle.model.specs.Limits.{paper}
 use Rattle.model.specs.Pddl.{pddlAnswer}
 use Rattle.model.specs.Calls.{readAnswer, blockPart, blockRefusal, normaliseAnswer, stepAnswer, decideAnswer, planAnswer, campaignDecision, campaignPlan}
-use Rattle.model.specs.Exports.{refusalCode, readCode, writeCode, decideCode, planCode, planRecordCount, planFirstMoves, blockAnswer, codeNumber, codePlace, apart, readApart, writeApart, decideApart, planApart}
+use Rattle.model.specs.Blocking.{blockingAnswer}
+use Rattle.model.specs.Exports.{refusalCode, readCode, writeCode, decideCode, planCode, planRecordCount, planFirstMoves, blockingCode, blockAnswer, codeNumber, codePlace, apart, readApart, writeApart, decideApart, planApart, blockingApart}
 use Rattle.model.specs.Theorems.Reading.Places.{Small}
 use Rattle.model.specs.Theorems.Pddl.Sizes.{pddl-small}
-use Rattle.model.specs.Theorems.Sizes.Answers.{placeLimit, resultLimit, ReadSmall, read-small, WriteSmall, write-wider, normalise-small, step-small, block-small, DecideSmall, decide-small, PlanSmall, plan-small, campaign-decision-small, campaign-plan-small}
+use Rattle.model.specs.Theorems.Sizes.Answers.{placeLimit, resultLimit, ReadSmall, read-small, WriteSmall, write-wider, normalise-small, step-small, block-small, DecideSmall, decide-small, PlanSmall, plan-small, BlockingSmall, blocking-small, campaign-decision-small, campaign-plan-small}
 
 -- ---- the halves
 
@@ -86,6 +89,13 @@ plan-back (plan.NoPlan layers records moves) s x y =
     let bit : 2 ^ 31 ≤ code = omega arith in
     let below : code - 2 ^ 31 ≡ layers = omega arith in
     result-apart _ _ code (omega arith) ∙ rw (le-leb (2 ^ 31) code bit, below) refl
+
+-- no offset is 0
+blocking-back : (a : BlockingAnswer) → BlockingSmall a → blockingApart (blockingCode a) ≡ a
+unfolding blockingApart blockingCode
+blocking-back (blocking.Refused r) s = refusal-apart _ _ r s
+blocking-back (blocking.Blocks offset) s = result-apart _ _ offset (omega arith) ∙ rw (ne-eqb offset 0 (λ z. omega arith)) refl
+blocking-back blocking.Nothing s = result-apart _ _ 0 (omega arith)
 
 -- ---- the exported calls: each code taken apart is the answer, and the same code is the same answer
 
@@ -169,6 +179,15 @@ pub plan-one :
     → planAnswer paper t bs mem out ≡ planAnswer paper u cs other room
 plan-one t bs mem out u cs other room =
     one-plan (planAnswer paper t bs mem out) (planAnswer paper u cs other room) (plan-small t bs mem out) (plan-small u cs other room)
+
+pub blocking-apart : (t bs : List ℕ) (mem : List ℤ) → blockingApart (blockingCode (blockingAnswer paper t bs mem)) ≡ blockingAnswer paper t bs mem
+blocking-apart t bs mem = blocking-back (blockingAnswer paper t bs mem) (blocking-small t bs mem)
+
+pub blocking-one :
+    (t bs : List ℕ) (mem : List ℤ) (u cs : List ℕ) (other : List ℤ)
+    → blockingCode (blockingAnswer paper t bs mem) ≡ blockingCode (blockingAnswer paper u cs other)
+    → blockingAnswer paper t bs mem ≡ blockingAnswer paper u cs other
+blocking-one t bs mem u cs other = one-answer blockingApart (blocking-apart t bs mem) (blocking-apart u cs other)
 
 -- normalise, decide and plan in one call: decide's code, and plan's with its numbers
 pub campaign-decision-apart :

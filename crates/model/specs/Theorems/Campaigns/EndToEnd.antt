@@ -11,8 +11,8 @@ use lib.ListN.{length, drop}
 use Rattle.model.specs.Limits.{paper}
 use Rattle.model.specs.Task.{written, normal}
 use Rattle.model.specs.Move.{State, Solves, relaxed}
-use Rattle.model.specs.NormalForm.{normalTask, normalState}
-use Rattle.model.specs.StateTable.{stateOf, stateRefusal}
+use Rattle.model.specs.NormalForm.{normalTask}
+use Rattle.model.specs.StateTable.{stateRefusal}
 use Rattle.model.specs.declared.Refusal.{Refusal}
 use Rattle.model.specs.Layer.{Outcome, reached, exhausted, reported, bound}
 use Rattle.model.specs.Reading.{Table, accepted, refused, Verdict, only, reading}
@@ -222,35 +222,39 @@ module _ (t : List ℕ) (w : Table) (e : reading paper (only normal) t ≡ accep
       go (answered (exhausted m)) h = within (exhausted m) h
       go (stopped n m) h = tt
 
--- decide and plan start from an accepted table's task, or turn back
+-- decide, plan and blocking start from an accepted table's task and an accepted state, or turn back
 pub prepared-cases :
     (P : Ready → Type 0) (t bs : List ℕ)
-    → ((w : Table) → reading paper (only normal) t ≡ accepted w → (s : State) → P (ready (w .task) s))
+    → ((w : Table) → reading paper (only normal) t ≡ accepted w → stateRefusal paper (w .task .props) (w .task .vars / 2) bs ≡ none → P (ready (w .task) (layerZero w bs)))
     → ((r : Refusal) → P (unready r))
     → P (prepared paper t bs)
 unfolding prepared readyOf readyWith
 prepared-cases P t bs go back = by-verdict (reading paper (only normal) t) refl
   where
-    by-state : (w : Table) → reading paper (only normal) t ≡ accepted w → (r : Option Refusal) → P (readyWith (w .task) bs r)
-    by-state w e none = go w e (normalState (stateOf (w .task .props) bs))
-    by-state w e (some r) = back r
+    by-state :
+        (w : Table) → reading paper (only normal) t ≡ accepted w
+        → (r : Option Refusal) → stateRefusal paper (w .task .props) (w .task .vars / 2) bs ≡ r
+        → P (readyWith (w .task) bs r)
+    by-state w e none f = go w e f
+    by-state w e (some r) f = back r
 
     by-verdict : (v : Verdict) → reading paper (only normal) t ≡ v → P (readyOf paper v bs)
-    by-verdict (accepted w) e = by-state w e (stateRefusal paper (w .task .props) (w .task .vars / 2) bs)
+    by-verdict (accepted w) e = by-state w e (stateRefusal paper (w .task .props) (w .task .vars / 2) bs) refl
     by-verdict (refused r) e = back r
 
 pub decide-within : (t bs : List ℕ) (layers : List ℤ) → LayersWithin t (decideLayers (decideAnswer paper t bs layers))
 unfolding decideAnswer decideOf decideLayers
 decide-within t bs layers =
     prepared-cases (λ (r : Ready). LayersWithin t (decideLayers (decideOf paper (length layers) r))) t bs
-    (λ w e s. within-decided t w e s (length layers) (build paper (w .task) s (length layers)) refl) (λ r. tt)
+    (λ w e state. within-decided t w e (layerZero w bs) (length layers) (build paper (w .task) (layerZero w bs) (length layers)) refl) (λ r. tt)
 
 pub plan-within :
     (t bs : List ℕ) (layers : List ℤ) (out : List ℕ) → LayersWithin t (planLayers (planAnswer paper t bs layers out))
 unfolding planAnswer planOf planLayers
 plan-within t bs layers out =
     prepared-cases (λ (r : Ready). LayersWithin t (planLayers (planOf paper (length layers) (length out) r))) t bs
-    (λ w e s.
+    (λ w e state.
+    let s = layerZero w bs in
     let b : Built = build paper (w .task) s (length layers) in
     within-planned t w e s (length layers) (planRecords (w .task) s b) (length out) b refl)
     (λ r. tt)

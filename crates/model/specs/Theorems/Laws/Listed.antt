@@ -1,4 +1,4 @@
--- What stands in a list, as laws of `In`: in two lists behind each other, in a table of values, where a test passes, where all pass.
+-- What stands in a list, as laws of `In`: in two lists behind each other, at a place, in a table of values, where a test passes, where all pass.
 -- Assumes nothing.
 use Prim.Native.Nat.{ℕ, zero, suc, _+_, _≤_, _<_}
 use native.Mathlib.Omega.{arith}
@@ -7,6 +7,7 @@ use mathlib.Core.Logic.{inl, inr}
 use mathlib.Core.Bool.{Bool}
 use mathlib.Core.List.{List, [], _∷_, _++_}
 use lib.Dec.{T}
+use lib.ListN.{length, getD}
 use Rattle.model.specs.Lists.{In, any, tabulate}
 use Rattle.model.specs.Theorems.Reading.WellFormed.{All}
 use Rattle.model.specs.Theorems.Laws.Booleans.{or-left, or-right, or-cases}
@@ -26,6 +27,12 @@ module _ {A : Type 0} (x : A) where
   in-either [] ys i f g = g i
   in-either (y ∷ xs) ys (inl e) f g = f (inl e)
   in-either (y ∷ xs) ys (inr i) f g = in-either xs ys i (λ j. f (inr j)) g
+
+-- the element at a place of the list
+pub in-at : {A : Type 0} (xs : List A) (n : ℕ) (d : A) → n < length xs → In (getD xs n d) xs
+in-at [] n d h = absurd (omega arith)
+in-at (x ∷ xs) zero d h = inl refl
+in-at (x ∷ xs) (suc n) d h = inr (in-at xs n d (omega arith))
 
 -- what holds of all holds of each that stands in the list, and the other way round
 module _ {A : Type 0} (P : A → Type 0) where

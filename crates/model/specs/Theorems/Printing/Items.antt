@@ -44,6 +44,10 @@ itemOperands (delete p) = p ∷ []
 itemOperands (condition c) = comparisonCode (c .comparison) ∷ signedBytes 4 (c .bound)
 itemOperands (effect e) = kindCode (e .kind) ∷ e .var ∷ signedBytes 4 (e .base)
 
+-- the command that closes an item, with its operands
+unfoldable pub closing : Item → List ℕ
+closing i = codeOf (itemCommand i) ∷ itemOperands i
+
 pub item-parts : (i : Item) → itemBytes i ≡ termBytes (termsOf i) ++ codeOf (itemCommand i) ∷ itemOperands i
 unfolding itemBytes termsOf itemCommand itemOperands termBytes
 item-parts (need p) = refl
@@ -78,9 +82,8 @@ item-width (effect e) = rw (length-signedBytes 4 (e .base)) refl
 
 pub length-item : (i : Item) → length (itemBytes i) ≡ 4 * length (termsOf i) + width (itemCommand i)
 length-item i =
-    let closing = codeOf (itemCommand i) ∷ itemOperands i in
     rw (item-parts i)
-    (omega (arith, length-append (termBytes (termsOf i)) closing, length-terms (termsOf i), item-width i))
+    (omega (arith, length-append (termBytes (termsOf i)) (codeOf (itemCommand i) ∷ itemOperands i), length-terms (termsOf i), item-width i))
 
 pub item-sum :
     (L : Limits) (f : Form) (props vars : ℕ) (i : Item)

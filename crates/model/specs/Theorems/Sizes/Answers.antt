@@ -1,4 +1,4 @@
--- Every number of an answer is small enough for the numbers that hosts in C are given: places, lengths and reported layers
+-- Every number of an answer is small enough for the numbers that hosts in C are given: places, lengths, offsets and reported layers
 -- are far below 2^31, whatever the lengths of table, state and memories.
 -- Assumes nothing.
 use Prim.Native.Nat.{ℕ, suc, _+_, _*_, _^_, _/_, _≤_, _<_}
@@ -20,6 +20,8 @@ use Rattle.model.specs.declared.DecideAnswer.{DecideAnswer}
 use Rattle.model.specs.declared.DecideAnswer.the-variants as decide
 use Rattle.model.specs.declared.PlanAnswer.{PlanAnswer}
 use Rattle.model.specs.declared.PlanAnswer.the-variants as plan
+use Rattle.model.specs.declared.BlockingAnswer.{BlockingAnswer}
+use Rattle.model.specs.declared.BlockingAnswer.the-variants as blocking
 use Rattle.model.specs.Limits.{paper, lastNumber}
 use Rattle.model.specs.Lists.{allBelow}
 use Rattle.model.specs.Task.{Form, written, normal, Task}
@@ -30,6 +32,7 @@ use Rattle.model.specs.Memory.{wrong15, refuses, Built, answered, stoppe
 use Rattle.model.specs.Reading.{Table, Verdict, accepted, refused, Wanted, only, both, reading, lengthLimit}
 use Rattle.model.specs.StateTable.{stateOf, stateRefusal, stateBytes, valueInRange}
 use Rattle.model.specs.Calls.{readOf, readAnswer, partOf, noBlock, blockPart, blockRefusal, Output, writes, turns, fitted, writeAnswer, normalBytes, normalOf, normalised, normaliseAnswer, resultOf, moved, stepWithState, stepOf, stepped, stepAnswer, Ready, ready, unready, readyWith, readyOf, prepared, decided, decideOf, decideAnswer, planRecords, planned, planOf, planAnswer, onOutput, campaignDecision, campaignPlan}
+use Rattle.model.specs.Blocking.{blockingAnswer}
 use Rattle.model.specs.Exports.{blockAnswer}
 use Rattle.model.specs.Theorems.Reading.WellFormed.{TaskOk, VarsOk}
 use Rattle.model.specs.Theorems.Laws.Searching.{firstFrom-cases}
@@ -38,6 +41,7 @@ use Rattle.model.specs.Theorems.Reading.Accepted.{reading-ok, reading-he
 use Rattle.model.specs.Theorems.Printing.Outputs.{fitted-cases, plan-cases}
 use Rattle.model.specs.Theorems.Reading.Places.{Small, IfSome, IfRefused, small-wider, refused-wider, reading-refused, state-refused}
 use Rattle.model.specs.Theorems.NormalForm.Print.{written-short, normal-fits}
+use Rattle.model.specs.Theorems.Blocking.Calls.{blocks-inside, answers-cases}
 use Rattle.model.specs.Theorems.Sizes.Plans.{reported-most, records-most, firstMoves-small}
 
 -- A place stands at most three bytes behind the end of a table, which has at most 64,000 bytes; places of states (at most 184)
@@ -178,7 +182,7 @@ step-small t bs b out =
         by-state (k .task) (reading-task paper written t e) (stateRefusal paper (k .task .props) (k .task .vars) bs) (state-refused paper (k .task .props) (k .task .vars) bs)
     go (refused r) e h = h
 
--- ---- decide and plan
+-- ---- decide, plan and blocking
 
 -- decide and plan run on a well-formed normal task, or turn back with a small refusal
 abbrev ReadySmall : Ready → Type 0
@@ -256,6 +260,21 @@ plan-small t bs layers out = go (prepared paper t bs) (prepared-small t bs)
         plan-cases (length out) (planRecords k s b) b PlanSmall (λ whole. by-built k s ok b (build-small k s (length layers)))
         (record { positive = lit≤ tt; number = lit≤ tt; place = lit≤ tt })
     go (unready r) small = small
+
+-- an offset is behind the head and the 47, and within the table: so none is 0, the code of "nothing blocks"
+abbrev pub BlockingSmall : BlockingAnswer → Type 0
+BlockingSmall (blocking.Blocks offset) = (5 ≤ offset) × (offset < 64_000)
+BlockingSmall blocking.Nothing = Unit {0}
+BlockingSmall (blocking.Refused r) = Small placeLimit r
+
+-- refusals are those of decide
+pub blocking-small : (t bs : List ℕ) (layers : List ℤ) → BlockingSmall (blockingAnswer paper t bs layers)
+blocking-small t bs layers =
+    answers-cases t bs layers (λ d b. DecideSmall d → BlockingSmall b) (λ m small. tt)
+    (λ d o a small.
+    let inside = blocks-inside a in
+    (inside .0, omega (arith, inside .1, reading-limit paper (only normal) t (a .read), limit-most (only normal) t)))
+    (λ r small. small) (decide-small t bs layers)
 
 -- ---- campaign
 
