@@ -96,20 +96,40 @@ impl CallKind {
         self.records()[0].0
     }
 
-    /// All files of this call's outcomes, and how many each has: the newest, and those of document
-    /// 01, which still hold.
+    /// All files of this call's outcomes, and how many each has: the newest, those of document 01,
+    /// which still hold, and those on comparisons.
     pub fn records(self) -> &'static [(&'static str, usize)] {
         match self {
-            CallKind::Read => &[("read.txt", 160), ("document-01/read.txt", 443)],
-            CallKind::Block => &[("block.txt", 95), ("document-01/block.txt", 296)],
-            CallKind::Normalise => &[("normalise.txt", 160), ("document-01/normalise.txt", 436)],
-            CallKind::Step => &[("step.txt", 151), ("document-01/step.txt", 599)],
+            CallKind::Read => &[
+                ("read.txt", 160),
+                ("document-01/read.txt", 443),
+                ("comparisons/read.txt", 4),
+            ],
+            CallKind::Block => &[
+                ("block.txt", 95),
+                ("document-01/block.txt", 296),
+                ("comparisons/block.txt", 4),
+            ],
+            CallKind::Normalise => &[
+                ("normalise.txt", 160),
+                ("document-01/normalise.txt", 436),
+                ("comparisons/normalise.txt", 4),
+            ],
+            CallKind::Step => &[
+                ("step.txt", 151),
+                ("document-01/step.txt", 599),
+                ("comparisons/step.txt", 5),
+            ],
             CallKind::Decide => &[("decide.txt", 88), ("document-01/decide.txt", 637)],
             CallKind::Plan => &[("plan.txt", 44), ("document-01/plan.txt", 617)],
-            CallKind::Campaign => &[("campaign.txt", 43)],
-            CallKind::Pddl => &[("pddl.txt", 52)],
+            CallKind::Campaign => &[("campaign.txt", 43), ("comparisons/campaign.txt", 4)],
+            CallKind::Pddl => &[("pddl.txt", 52), ("comparisons/pddl.txt", 3)],
             CallKind::Blocking => &[("blocking.txt", 107)],
-            CallKind::Listing => &[("listing.txt", 95), ("document-01/listing.txt", 264)],
+            CallKind::Listing => &[
+                ("listing.txt", 95),
+                ("document-01/listing.txt", 264),
+                ("comparisons/listing.txt", 4),
+            ],
         }
     }
 }

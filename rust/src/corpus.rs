@@ -1,4 +1,5 @@
-//! The calls that are kept from fuzzing, a line each: the call's name, then its fields.
+//! The calls that are kept, from fuzzing and some by hand, a line each: the call's name, then its
+//! fields.
 
 use crate::call::{Call, CallKind};
 use crate::harness::outcomes;

@@ -131,7 +131,7 @@ pub struct Calls {
 
 type Read = fn(&[u8]) -> Result<Head, Refusal>;
 type Block = fn(&[u8], u64) -> Result<&[u8], Refusal>;
-type Normalise = fn(&[u8], &mut [u8]) -> Result<usize, Refusal>;
+pub type Normalise = fn(&[u8], &mut [u8]) -> Result<usize, Refusal>;
 type Step = fn(&[u8], &[u8], u64, &mut [u8]) -> Result<usize, Refusal>;
 type Decide = fn(&[u8], &[u8], &mut [i64]) -> Result<Decision, Refusal>;
 type Planning = fn(&[u8], &[u8], &mut [i64], &mut [u8]) -> Result<Plan, Refusal>;

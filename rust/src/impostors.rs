@@ -1,16 +1,19 @@
 //! Engines that do one thing otherwise than the reference, to test that comparisons find them.
 
 mod blocking;
+mod changed;
+mod comparisons;
+mod reading;
 mod weight_zero;
 
 use self::blocking::BLOCKING;
 use crate::answer::{Campaign, Reason, Refusal};
 use crate::call::CallKind;
 use crate::engine::{Calls, Campaigning, Engine, REFERENCE};
-use crate::reference::table::{Block, Change, Comparison, Item};
-use crate::reference::{
-    block, decide, normalise, parse_table, parse_task, pddl, pddl_text, plan, read, step,
-};
+use crate::reference::table::{Change, Comparison, Item};
+use crate::reference::{block, decide, normalise, parse_task, pddl, pddl_text, plan, read, step};
+use changed::{each, retold};
+use comparisons::COMPARISONS;
 use weight_zero::WEIGHT_ZERO;
 
 /// The reference, with listings made of its other calls, as its campaigns are.
@@ -35,7 +38,8 @@ pub fn check_found(kinds: &[CallKind], found: impl Fn(CallKind, &dyn Engine) -> 
     for kind in kinds {
         assert!(!found(*kind, &HONEST), "honest: {}", kind.name());
     }
-    for impostor in IMPOSTORS.iter().chain(&WEIGHT_ZERO).chain(&BLOCKING) {
+    let others = [&WEIGHT_ZERO[..], &BLOCKING, &COMPARISONS];
+    for impostor in IMPOSTORS.iter().chain(others.into_iter().flatten()) {
         for kind in impostor.kinds.iter().filter(|kind| kinds.contains(kind)) {
             let found = found(*kind, &impostor.engine);
             assert!(found, "{}: {}", impostor.trick, kind.name());
@@ -337,24 +341,6 @@ const fn campaigning(campaign: Campaigning) -> Calls {
 
 fn at_0(refusal: Refusal) -> Refusal {
     refusal.reason.at(0)
-}
-
-/// The text of an accepted table after a change of its blocks.
-fn retold(
-    table: &[u8],
-    state: &[u8],
-    out: &mut [u8],
-    change: impl Fn(&mut Block),
-) -> Result<usize, Refusal> {
-    let Ok(mut changed) = parse_table(table) else {
-        return pddl(table, state, out);
-    };
-    changed.blocks_mut().for_each(change);
-    pddl(&changed.encode(), state, out)
-}
-
-fn each(block: &mut Block, change: fn(&mut Item)) {
-    block.items.iter_mut().for_each(change);
 }
 
 fn not_above(item: &mut Item) {

@@ -1,4 +1,5 @@
-//! The calls that are kept from fuzzing, on the proved engine with its memories behind fences.
+//! The calls that are kept, from fuzzing and some by hand, on the proved engine with its memories
+//! behind fences.
 
 use campaign::call::{Call, CallKind, Field};
 use campaign::corpus::kept;

@@ -5,6 +5,7 @@ mod common;
 mod corpus;
 mod engine_blocking;
 mod engine_campaign;
+mod engine_comparisons;
 mod engine_decide;
 mod engine_pddl;
 mod engine_plan;

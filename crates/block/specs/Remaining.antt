@@ -3,16 +3,16 @@ use Prim.Native.Nat.{ℕ, _≤_, _<_}
 use native.Mathlib.Omega.{arith}
 use mathlib.Core.Path.{_≡_, sym, ap, _∙_, subst}
 use mathlib.Core.List.{List, [], _∷_, _++_}
+use lib.Dec.{T}
 use lib.IntN.{ℤ, natAbs}
 use lib.ListN.{length}
-use Rattle.model.specs.Limits.{paper}
+use Rattle.model.specs.Limits.{paper, comparisonInRange}
 use Rattle.model.specs.Task.{written, Condition, Kind, assign, increase, decrease, Effect, Item, need, add, delete, condition, effect, Block}
 use Rattle.model.specs.Command.{kindCode, itemsBytes}
 use Rattle.model.specs.Reading.{comparisonOf, kindOf}
-use Rattle.model.specs.Theorems.Printing.Operands.{comparison-back, kind-back}
+use Rattle.model.specs.Theorems.Printing.Operands.{comparison-back, comparison-range, kind-back}
 use Rattle.block.specs.Bytes.{At, at-length}
 use Rattle.block.specs.Items.{Ranges, Left, Readable, readable, left-end, Followed, ConditionIs, EffectIs, ConditionFound, EffectFound, Found, behind, Next}
-use Rattle.block.specs.Sums.{code-small}
 use Rattle.block.specs.Terms.{SumAt, termsAt, terms-read}
 use Rattle.block.specs.declared.ItemAt.{ItemAt}
 use Rattle.block.specs.declared.ItemAt.the-variants.{Need, Add, Delete, Condition as ConditionAt, Effect as EffectAt, End}
@@ -31,7 +31,8 @@ itemsOf part End = []
 -- what writing it needs
 pub record ConditionWritable (part : List ℕ) (o : ℕ) (c : ℤ) (from n : ℕ) : Type 0 where
   pub sum : SumAt part from n
-  pub comparison : o ≤ 4
+  -- the operator's number is in the range that reading lets pass
+  pub comparison : T (comparisonInRange written o)
   pub bound : natAbs c ≤ 1_000_000
 
 pub record EffectWritable (part : List ℕ) (kd v : ℕ) (c : ℤ) (from n : ℕ) : Type 0 where
@@ -104,7 +105,7 @@ module _ {part : List ℕ} {at : ℕ} {rest : Block} (r : Remaining part at rest
         writable =
             record {
               sum = record { ranges = ranges; few = r .few-vars; ts = f .it .terms; terms = f .is .terms };
-              comparison = omega (arith, f .is .comparison, code-small (f .it .comparison));
+              comparison = subst (λ (m : ℕ). T (comparisonInRange written m)) (f .is .comparison) (comparison-range written (f .it .comparison) tt);
               bound = subst (λ (z : ℤ). natAbs z ≤ 1_000_000) (f .is .bound) (f .followed .ok .bound);
             };
       }

@@ -389,14 +389,6 @@ coded equal s c = refl
 pub compares-code : (o : Comparison) (n : ℕ) (s c : ℤ) → comparisonCode o ≡ n → comparesBy n s c ≡ compares o s c
 compares-code o n s c e = ap (λ (m : ℕ). comparesBy m s c) (sym e) ∙ coded o s c
 
-pub code-small : (o : Comparison) → comparisonCode o ≤ 4
-unfolding comparisonCode
-code-small atLeast = omega arith
-code-small above = omega arith
-code-small atMost = omega arith
-code-small below = omega arith
-code-small equal = omega arith
-
 -- both of two tests, made one after the other
 pub both-second : {p q a b : Bool} → p ≡ a → p ≡ true → q ≡ b → q ≡ a && b
 both-second {q} {a} {b} e t f = f ∙ ap (λ (x : Bool). x && b) (sym t ∙ e)

@@ -11,9 +11,11 @@
 -- lent output then holds.
 --   Tables.print-read-only; ReadBack.plan-read; Outputs.put-first
 --
--- NormalForm: a task and its normal form run alike, and the print of the normal form is accepted; with and without its terms of weight 0 a
--- task has the same normal form, steps and solutions; the calls answer and write the same for tables that differ only in such terms.
---   Moves.written-normal; Print.normal-accepted; ZeroTerms.without-normal, without-solves, without-ok, filled-ok; ZeroTables.lean-accepted,
+-- NormalForm: the five comparisons, one law an operator; a task and its normal form run alike, and the print of the normal form is accepted;
+-- with and without its terms of weight 0 a task has the same normal form, steps and solutions; the calls answer and write the same for
+-- tables that differ only in such terms.
+--   Comparisons.at-least-rule, above-rule, at-most-rule, below-rule, equal-rule, other-refused; Moves.written-normal;
+--   Print.normal-accepted; ZeroTerms.without-normal, without-solves, without-ok, filled-ok; ZeroTables.lean-accepted,
 --   lean-normalise-out, lean-step-out, same-answers, filled-accepted
 --
 -- Layers: layers rise; the outcome is the one layer that is `Reached` or `Exhausted`, within (A + N + 1) × (N + 1); "no plan" is right; what

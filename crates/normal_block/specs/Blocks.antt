@@ -2,8 +2,8 @@
 -- Assumes nothing.
 use Prim.Native.Nat.{ℕ, _+_, _≤_, _<_}
 use native.Mathlib.Omega.{arith}
-use mathlib.Core.Path.{_≡_, refl, sym, ap, _∙_}
-use mathlib.Core.List.{List, [], _∷_, _++_, append-assoc}
+use mathlib.Core.Path.{_≡_, refl, ap, _∙_}
+use mathlib.Core.List.{List, [], _∷_, _++_}
 use lib.ListN.{length}
 use Rattle.model.specs.Task.{Block}
 use Rattle.model.specs.Command.{codeOf, needProp, addProp, deleteProp, itemBytes, itemsBytes}
@@ -15,13 +15,8 @@ use Rattle.block.specs.Remaining.{itemsOf, Remaining, remaining-none, FirstItem
 use Rattle.block.specs.declared.ItemAt.{ItemAt}
 use Rattle.block.specs.declared.ItemAt.the-variants.{Need, Add, Delete, Condition as ConditionAt, Effect as EffectAt, End}
 use Rattle.output.specs.Writing.{Written, Writing, writing-start, writing-rest, writing-behind, writing-step, writing-end}
-use Rattle.normal_block.specs.Items.{conditionPrint, condition-print, effectPrint, effect-print}
-
-itemsBytes-append : (b d : Block) → itemsBytes (b ++ d) ≡ itemsBytes b ++ itemsBytes d
-unfolding itemsBytes
-itemsBytes-append [] d = refl
-itemsBytes-append (i ∷ b) d =
-    ap (λ (l : List ℕ). itemBytes i ++ l) (itemsBytes-append b d) ∙ sym (append-assoc (itemBytes i) (itemsBytes b) (itemsBytes d))
+use Rattle.normal_condition.specs.Conditions.{items-append}
+use Rattle.normal_block.specs.Effects.{effectPrint, effect-print}
 
 -- ---- an item as it stands in a part
 
@@ -30,7 +25,7 @@ unfoldable pub printOf : List ℕ → ItemAt → List ℕ
 printOf part (Need p next) = codeOf needProp ∷ p ∷ []
 printOf part (Add p next) = codeOf addProp ∷ p ∷ []
 printOf part (Delete p next) = codeOf deleteProp ∷ p ∷ []
-printOf part (ConditionAt o c from n next) = conditionPrint (comparisonOf o) (termsAt part from n) c
+printOf part (ConditionAt o c from n next) = itemsBytes (normalCondition (comparisonOf o) (termsAt part from n) c)
 printOf part (EffectAt kd v c from n next) = effectPrint (kindOf kd) v (termsAt part from n) c
 printOf part End = []
 
@@ -47,10 +42,9 @@ print-first part (Need p next) others = refl
 print-first part (Add p next) others = refl
 print-first part (Delete p next) others = refl
 print-first part (ConditionAt o c from n next) others =
-    itemsBytes-append (normalCondition (comparisonOf o) (termsAt part from n) c) (normalBlock others)
-    ∙ ap (λ (l : List ℕ). l ++ blockPrint others) (condition-print (comparisonOf o) (termsAt part from n) c)
+    items-append (normalCondition (comparisonOf o) (termsAt part from n) c) (normalBlock others)
 print-first part (EffectAt kd v c from n next) others =
-    itemsBytes-append (normalEffect (kindOf kd) v (termsAt part from n) c) (normalBlock others)
+    items-append (normalEffect (kindOf kd) v (termsAt part from n) c) (normalBlock others)
     ∙ ap (λ (l : List ℕ). l ++ blockPrint others) (effect-print (kindOf kd) v (termsAt part from n) c)
 print-first part End others = refl
 

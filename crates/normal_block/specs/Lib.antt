@@ -1,5 +1,3 @@
--- The specifications of a block's normal form: the signs of its sums, the bytes of its items, and a block's items one by one.
-pub mod Signs
-pub mod Sums
-pub mod Items
+-- The specifications of a block's normal form: the bytes of its effects, and its items one by one.
+pub mod Effects
 pub mod Blocks

@@ -2,9 +2,11 @@
 // the offset behind what it writes, and writes only what fits (crate `output`).
 ghost use mathlib.Core.List.{_++_};
 ghost use Prim.Native.Nat.{_^_, _<_, _≤_};
+ghost use lib.Dec.{T};
 ghost use Rattle.model.specs.Ascii.{ascii};
 ghost use Rattle.model.specs.Reading.{comparisonOf, kindOf};
-ghost use Rattle.model.specs.Task.{Block};
+ghost use Rattle.model.specs.Task.{written, Block};
+ghost use Rattle.model.specs.Limits.{comparisonInRange};
 ghost use Rattle.model.specs.Pddl.{comparisonText, kindText};
 ghost use Rattle.block.specs.Remaining.{itemsOf, Writable, ConditionWritable, EffectWritable, Remaining};
 ghost use Rattle.output.specs.Writing.{Written, Room};
@@ -15,7 +17,7 @@ use block::ItemAt;
 
 // The operator of a comparison, with the bracket before it and the space behind.
 fn put_comparison(comparison: u8, out: &mut [u8], at: usize) -> usize
-    requires { ⌜ (comparison ≤ 4) × (at < 2 ^ 62) ⌝ }
+    requires { ⌜ T (comparisonInRange written comparison) × (at < 2 ^ 62) ⌝ }
     ensures { λ r. ⌜ Written (now (out .entry)) at (ascii "(" ++ comparisonText (comparisonOf comparison)) (now (out .exit)) r ⌝ }
 {
     match comparison {

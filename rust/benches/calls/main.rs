@@ -5,6 +5,7 @@
 
 mod bench;
 mod blocking;
+mod comparisons;
 mod timing;
 
 use bench::Bench;
@@ -17,6 +18,7 @@ use timing::{micros, Times};
 fn main() {
     calls_table(campaigns());
     bytes_table();
+    comparisons::table();
     text_table();
     layers_table();
     blocking::parts_table();

@@ -1,7 +1,7 @@
 //! Calls with inputs of all sorts, for comparing engines.
 
 use super::blocked::blocked;
-use super::damage::{command_string, random_bytes, spoil, wrong_state};
+use super::damage::{command_string, misname_comparison, random_bytes, spoil, wrong_state};
 use super::grid::long_sum;
 use super::maker::{state_for, task};
 use super::rng::Rng;
@@ -132,9 +132,10 @@ fn normalised(task: Task) -> Task {
 }
 
 fn spoilt_task(rng: &mut Rng, kind: Kind) -> Task {
-    match rng.below(3) {
+    match rng.below(4) {
         0 => command_task(rng),
         1 => byte_spoilt_task(rng, kind),
+        2 => comparison_spoilt_task(rng, kind),
         _ => entry_spoilt_task(rng, kind),
     }
 }
@@ -157,6 +158,12 @@ fn byte_spoilt_task(rng: &mut Rng, kind: Kind) -> Task {
         2 => task.table[at] = rng.byte(),
         _ => task.table[at] ^= 1 << rng.below(8),
     }
+    task
+}
+
+fn comparison_spoilt_task(rng: &mut Rng, kind: Kind) -> Task {
+    let mut task = task(rng, kind);
+    misname_comparison(rng, kind, &mut task.table);
     task
 }
 

@@ -2,6 +2,7 @@
 
 use super::rng::Rng;
 use crate::call::{Call, Field};
+use crate::commands::commands;
 use crate::reference::table::{
     Block, Change, Effect, Item, Kind, Table, Term, MOVE_LIMIT, NUMBER_LIMIT, PROPOSITION_LIMIT,
     TERM_LIMIT, WEIGHT_LIMIT,
@@ -211,6 +212,24 @@ pub fn spoil(rng: &mut Rng, table: &mut Table) {
         return block.items.push(again);
     }
     spoil_item(rng, kind, weight, &mut block.items[at]);
+}
+
+/// Gives a condition, if there is one, a number that is no comparison; half of the time the lowest
+/// such number.
+pub fn misname_comparison(rng: &mut Rng, kind: Kind, table: &mut [u8]) {
+    let conditions = commands(table).filter(|(_, command)| command[0] == 0x43);
+    let offsets: Vec<usize> = conditions.map(|(at, _)| at).collect();
+    let lowest = match kind {
+        Kind::Written => 5,
+        Kind::Normal => 1,
+    };
+    if !offsets.is_empty() {
+        let number = match rng.chance(1, 2) {
+            true => lowest,
+            false => rng.byte().max(lowest),
+        };
+        table[rng.pick(&offsets) + 1] = number;
+    }
 }
 
 /// A weight that is in range; in a written table it is 0 half of the time.

@@ -1,28 +1,14 @@
 //! Engines with a fault around weight 0.
 
-use super::{each, retold, Impostor, HONEST};
+use super::changed::{each, normalised, retold};
+use super::reading::{reading, Misreading, REREADING, WRITTEN};
+use super::{Impostor, HONEST};
 use crate::answer::{Reason, Refusal};
 use crate::call::CallKind;
 use crate::commands::{commands, has_zero_term, is_zero_term, without_zero_terms};
 use crate::engine::Calls;
 use crate::reference::table::{Block, Item, Kind, Term, TERM_LIMIT, WEIGHT_LIMIT};
-use crate::reference::{
-    block, decide, normal_form, normalise, parse_table, pddl, plan, read, step,
-};
-
-/// The calls that take a written table.
-const WRITTEN: &[CallKind] = &[
-    CallKind::Block,
-    CallKind::Read,
-    CallKind::Normalise,
-    CallKind::Step,
-    CallKind::Campaign,
-    CallKind::Pddl,
-    CallKind::Listing,
-];
-
-/// The same without the block reader, which hands back parts of the lent table only.
-const REREADING: &[CallKind] = WRITTEN.split_at(1).1;
+use crate::reference::{decide, parse_table, plan, read, step};
 
 /// The calls that use its normal form.
 const NORMALISING: &[CallKind] = &[CallKind::Normalise, CallKind::Campaign, CallKind::Listing];
@@ -124,27 +110,6 @@ pub const WEIGHT_ZERO: [Impostor; 10] = [
     },
 ];
 
-/// What an engine reads in a written table's place, or why it refuses the table.
-trait Misreading {
-    fn misread(table: &[u8]) -> Result<Vec<u8>, Refusal>;
-}
-
-/// An engine that reads other tables than the written ones that it is lent. Its blocks are still
-/// parts of those.
-const fn reading<M: Misreading>() -> Calls {
-    Calls {
-        read: |table| read(&M::misread(table)?),
-        block: |table, b| match block(&M::misread(table)?, b) {
-            Ok(_) => block(table, b),
-            Err(refusal) => Err(refusal),
-        },
-        normalise: |table, out| normalise(&M::misread(table)?, out),
-        step: |table, state, mv, out| step(&M::misread(table)?, state, mv, out),
-        pddl: |table, state, out| pddl(&M::misread(table)?, state, out),
-        ..HONEST
-    }
-}
-
 struct Refused;
 
 impl Misreading for Refused {
@@ -221,28 +186,6 @@ fn terms_before(table: &[u8], place: usize) -> Option<usize> {
         count = if term { count + 1 } else { 0 };
     }
     None
-}
-
-/// The normal form of a table with a weight 0 after a change of its blocks, changed itself.
-fn normalised(
-    table: &[u8],
-    out: &mut [u8],
-    before: impl Fn(&mut Block),
-    after: impl Fn(&mut Block),
-) -> Result<usize, Refusal> {
-    if !has_zero_term(table) {
-        return normalise(table, out);
-    }
-    let mut written = parse_table(table)?;
-    written.blocks_mut().for_each(before);
-    let mut normal = normal_form(&written);
-    normal.blocks_mut().for_each(after);
-    let form = normal.encode();
-    let start = out.get_mut(..form.len());
-    start
-        .ok_or(Reason::OutputShort.at(0))?
-        .copy_from_slice(&form);
-    Ok(form.len())
 }
 
 /// Gives each term of one weight another.

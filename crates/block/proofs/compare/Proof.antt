@@ -1,12 +1,16 @@
 -- `compare` meets its contract: each arm is the comparison of its number. Assumes nothing.
+use Prim.Native.Nat.{_≤_}
 use native.Mathlib.Omega.{arith}
 use mathlib.Core.Path.{_≡_, _∙_, ap₂}
 use lib.Signed.{leZ, ltZ}
 use mir.Syntax.{w64}
 use mir.Val.{toZ, ofZ}
 use Rattle.integer.specs.Linear.{back}
+use Rattle.model.specs.Task.{Comparison, written}
 use Rattle.model.specs.Command.{comparisonCode}
-use Rattle.block.specs.Sums.{comparesBy, compares-code, code-small, both-first, both-second}
+use Rattle.model.specs.Theorems.Reading.Ranges.{one-of-five}
+use Rattle.model.specs.Theorems.Printing.Operands.{comparison-range}
+use Rattle.block.specs.Sums.{comparesBy, compares-code, both-first, both-second}
 use Rattle.block.proofs.compare.Statement.{statement}
 use Rattle.block.proofs.compare.Tie as tie
 
@@ -15,6 +19,9 @@ total c = back (c .args .total) (c .fits .total .sfits)
 
 bound : (c : tie.Start) → toZ w64 (ofZ w64 (c .args .c)) ≡ c .args .c
 bound c = back (c .args .c) (c .fits .c .sfits)
+
+small : (o : Comparison) → comparisonCode o ≤ 4
+small o = one-of-five (comparisonCode o) (comparison-range written o tt)
 
 at-most-requires : tie.Need-at-most-requires
 at-most-requires c κs = tt
@@ -62,7 +69,7 @@ returns-5 : tie.Need-returns-5
 unfolding comparesBy
 returns-5 c o e =
     let s = c .before .before .before .before in
-    let four : comparisonCode o ≡ 4 = omega (arith, code-small o) in
+    let four : comparisonCode o ≡ 4 = omega (arith, small o) in
     both-second (c .before .before .at-most3 .ensures ∙ ap₂ leZ (bound s) (total s)) (c .before .if1 .taken) (c .at-most4 .ensures ∙ ap₂ leZ (total s) (bound s))
     ∙ compares-code o 4 (s .args .total) (s .args .c) four
 
@@ -70,7 +77,7 @@ returns-6 : tie.Need-returns-6
 unfolding comparesBy
 returns-6 c o e =
     let s = c .before .before .before in
-    let four : comparisonCode o ≡ 4 = omega (arith, code-small o) in
+    let four : comparisonCode o ≡ 4 = omega (arith, small o) in
     both-first (leZ (s .args .total) (s .args .c)) (c .before .at-most3 .ensures ∙ ap₂ leZ (bound s) (total s)) (c .if1 .left)
     ∙ compares-code o 4 (s .args .total) (s .args .c) four
 

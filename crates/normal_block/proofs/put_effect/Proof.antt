@@ -3,8 +3,8 @@ use native.Mathlib.Omega.{arith}
 use Rattle.integer.specs.Linear.{back}
 use Rattle.model.specs.Command.{codeOf}
 use Rattle.output.specs.Writing.{written-join}
-use Rattle.normal_block.specs.Sums.{close-short}
-use Rattle.normal_block.specs.Items.{effectBytes}
+use Rattle.normal_condition.specs.Sums.{close-short}
+use Rattle.normal_block.specs.Effects.{effectBytes}
 use Rattle.normal_block.proofs.put_effect.Statement.{statement}
 use Rattle.normal_block.proofs.put_effect.Tie as tie
 

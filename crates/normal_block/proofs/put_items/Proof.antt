@@ -26,24 +26,24 @@ loop-holds c b r = items-start (c .before .before .args .out .now) (c .before .b
 next-requires : tie.Need-next-requires Inv-loop μ-loop
 next-requires c κs = remaining-readable (own (c .before) .remaining)
 
-put-item-requires : tie.Need-put-item-requires Inv-loop μ-loop
-put-item-requires c κs =
-    let n = c .before in
-    let l = own (n .before .before) in
-    (items-split l (n .before .loop-test .taken) (n .next .ensures) .writable, items-short l (n .before .before .before .before .before .pre .short))
-
 behind-requires : tie.Need-behind-requires Inv-loop μ-loop
 behind-requires c κs = tt
+
+put-item-requires : tie.Need-put-item-requires Inv-loop μ-loop
+put-item-requires c κs =
+    let n = c .before .before in
+    let l = own (n .before .before) in
+    (items-split l (n .before .loop-test .taken) (n .next .ensures) .writable, items-short l (n .before .before .before .before .before .pre .short))
 
 loop-less : tie.Need-loop-less Inv-loop μ-loop
 loop-less c =
     let n = c .before .before .before .before .before in
-    omega (arith, c .behind .ensures, next-ahead (n .before .loop-test .taken) (n .next .ensures))
+    omega (arith, c .before .before .before .before .behind .ensures, next-ahead (n .before .loop-test .taken) (n .next .ensures))
 
 loop-again : tie.Need-loop-again Inv-loop μ-loop
 loop-again c b r =
     let n = c .before .before .before .before .before in
-    items-step (n .before .before .loop .inv b r) (n .before .loop-test .taken) (n .next .ensures) (c .before .before .before .put-item .ensures) (c .behind .ensures)
+    items-step (n .before .before .loop .inv b r) (n .before .loop-test .taken) (n .next .ensures) (c .before .before .put-item .ensures) (c .before .before .before .before .behind .ensures)
 
 same-length : tie.Need-same-length Inv-loop μ-loop
 same-length c = own (c .before) .writing .so-far .kept
@@ -59,8 +59,8 @@ put-items-spec =
     μ-loop
     loop-holds
     next-requires
-    put-item-requires
     behind-requires
+    put-item-requires
     loop-less
     loop-again
     same-length

@@ -8,7 +8,7 @@ use Rattle.integer.specs.Linear.{back}
 use Rattle.model.specs.Reading.{kindOf}
 use Rattle.output.specs.Writing.{written-same}
 use Rattle.block.specs.Terms.{termsAt}
-use Rattle.normal_block.specs.Items.{effectPrint}
+use Rattle.normal_block.specs.Effects.{effectPrint}
 use Rattle.normal_block.proofs.put_kind.Statement.{statement}
 use Rattle.normal_block.proofs.put_kind.Tie as tie
 

@@ -3,7 +3,7 @@ use Prim.Native.Nat.{_*_}
 use native.Mathlib.Omega.{arith}
 use Rattle.integer.specs.Linear.{back}
 use Rattle.output.specs.Writing.{written-join}
-use Rattle.normal_block.specs.Items.{mirrorBytes, effect-long}
+use Rattle.normal_block.specs.Effects.{mirrorBytes, effect-long}
 use Rattle.normal_block.proofs.put_mirrored.Statement.{statement}
 use Rattle.normal_block.proofs.put_mirrored.Tie as tie
 

@@ -7,6 +7,7 @@ use borrow.Author.Needs.{needs}
 use Rattle.model.specs.Ascii.{ascii}
 use Rattle.model.specs.Reading.{comparisonOf}
 use Rattle.model.specs.Pddl.{comparisonText}
+use Rattle.model.specs.Theorems.Reading.Ranges.{one-of-five}
 use Rattle.output.specs.Writing.{written-same}
 use Rattle.pddl_block.proofs.put_comparison.Statement.{statement}
 use Rattle.pddl_block.proofs.put_comparison.Tie as tie
@@ -78,7 +79,7 @@ same-length-5 c = search needs
 
 returns-5 : tie.Need-returns-5
 unfolding comparisonOf comparisonText ascii
-returns-5 c = written-same (c .before .before .put-bytes5 .ensures) (word (c .before .before .before .before .before .before .before) 4 (omega (arith, c .before .before .before .before .before .before .before .pre .0)))
+returns-5 c = written-same (c .before .before .put-bytes5 .ensures) (word (c .before .before .before .before .before .before .before) 4 (omega (arith, one-of-five _ (c .before .before .before .before .before .before .before .pre .0))))
 
 pub put-comparison-spec : {M : Type 1} → statement M
 put-comparison-spec =

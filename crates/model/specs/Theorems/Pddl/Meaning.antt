@@ -6,8 +6,7 @@ use mathlib.Core.Bool.{Bool, _&&_}
 use mathlib.Core.List.{List, [], _∷_}
 use lib.Dec.{T}
 use lib.IntN.{ℤ, pos, _+ℤ_, _*ℤ_}
-use lib.Signed.{leZ, leZ-yes, ≤ℤ-refl}
-use Rattle.integer.specs.Linear.{+-assoc, +-zero, zero-+, ≤-antisym}
+use Rattle.integer.specs.Linear.{+-assoc, +-zero, zero-+}
 use Rattle.model.specs.Lists.{all}
 use Rattle.model.specs.Task.{Term, Comparison, atLeast, above, atMost, below, equal, Condition, need, add, delete, condition, effect, Block}
 use Rattle.model.specs.Move.{State, sum, compares, holds, applicable}
@@ -15,6 +14,7 @@ use Rattle.model.specs.Pddl.{sumOf, compareOf, formulasOf}
 use Rattle.model.specs.PddlMeaning.{valueIn, Compares, Satisfies, SatisfiesAll}
 use Rattle.model.specs.Theorems.Reading.WellFormed.{All}
 use Rattle.model.specs.Theorems.Laws.Booleans.{and-left, and-right, and-both}
+use Rattle.model.specs.Theorems.NormalForm.Comparisons.{equal-test}
 use Rattle.model.specs.Theorems.Laws.Listed.{All-in, in-All}
 
 -- the text's sum is the sum of the terms and the constant
@@ -32,10 +32,7 @@ compares-meaning atLeast x y = (λ h. h .le, λ t. record { le = t })
 compares-meaning above x y = (λ h. h .lt, λ t. record { lt = t })
 compares-meaning atMost x y = (λ h. h .le, λ t. record { le = t })
 compares-meaning below x y = (λ h. h .lt, λ t. record { lt = t })
-compares-meaning equal x y = (
-  λ h. subst (λ (z : ℤ). T (leZ z x && leZ x z)) h (and-both (leZ x x) (leZ x x) (≤ℤ-refl x .le) (≤ℤ-refl x .le)),
-  λ t. ≤-antisym (leZ-yes (and-right (leZ y x) (leZ x y) t)) (leZ-yes (and-left (leZ y x) (leZ x y) t)),
-)
+compares-meaning equal x y = equal-test x y
 
 -- a condition of the text is true exactly where the command's holds
 pub condition-true : (s : State) (c : Condition) → Satisfies s (compareOf c) ↔ T (holds s (condition c))

@@ -35,9 +35,14 @@ bound-in-range L normal z h =
     let b = leZ z (pos (L .constant + 1)) in
     (record { le = and-left a b h }, record { le = and-right a b h })
 
+-- a written comparison's number is one of the five
+pub one-of-five : (n : ℕ) → T (comparisonInRange written n) → n ≤ 4
+unfolding comparisonInRange
+one-of-five n h = leb→le n 4 h
+
 pub comparison-in-range : (f : Form) (n : ℕ) → T (comparisonInRange f n) → ComparisonOk f (comparisonOf n) × (comparisonCode (comparisonOf n) ≡ n)
 unfolding comparisonInRange comparisonOf comparisonCode
-comparison-in-range written n h = (tt, go n (leb→le n 4 h))
+comparison-in-range written n h = (tt, go n (one-of-five n h))
   where
     go : (m : ℕ) → m ≤ 4 → comparisonCode (comparisonOf m) ≡ m
     go zero k = refl

@@ -1,0 +1,47 @@
+//! Engines that read other tables than the written ones that they are lent.
+
+use super::HONEST;
+use crate::answer::Refusal;
+use crate::call::CallKind;
+use crate::engine::Calls;
+use crate::reference::{block, normalise, pddl, read, step};
+
+/// The calls that take a written table.
+pub const WRITTEN: &[CallKind] = &[
+    CallKind::Block,
+    CallKind::Read,
+    CallKind::Normalise,
+    CallKind::Step,
+    CallKind::Campaign,
+    CallKind::Pddl,
+    CallKind::Listing,
+];
+
+/// The same without the block reader, which hands back parts of the lent table only.
+pub const REREADING: &[CallKind] = WRITTEN.split_at(1).1;
+
+/// What an engine reads in a written table's place, or why it refuses the table.
+pub trait Misreading {
+    fn misread(table: &[u8]) -> Result<Vec<u8>, Refusal>;
+}
+
+/// An engine with such a reader. Its blocks are still parts of the lent table: where that is read as
+/// one of another length, those that an honest engine hands back.
+pub const fn reading<M: Misreading>() -> Calls {
+    Calls {
+        read: |table| read(&M::misread(table)?),
+        block: |table, b| {
+            let other = M::misread(table)?;
+            let part = block(&other, b)?;
+            let start = part.as_ptr() as usize - other.as_ptr() as usize;
+            match other.len() == table.len() {
+                true => Ok(&table[start..start + part.len()]),
+                false => block(table, b),
+            }
+        },
+        normalise: |table, out| normalise(&M::misread(table)?, out),
+        step: |table, state, mv, out| step(&M::misread(table)?, state, mv, out),
+        pddl: |table, state, out| pddl(&M::misread(table)?, state, out),
+        ..HONEST
+    }
+}
