@@ -1,4 +1,4 @@
-/* What the programs here share: files, numbers and refusals. */
+/* What the programs here share: files, numbers, bytes and refusals. */
 #ifndef COMMON_H
 #define COMMON_H
 
@@ -49,6 +49,22 @@ static inline bool length_of(const char *text, size_t room, size_t *length) {
         fprintf(stderr, "%s: there are %zu only\n", text, room);
     }
     return value <= room;
+}
+
+/* Shows bytes in hexadecimal, on a line. */
+static inline void show_bytes(const uint8_t *bytes, size_t length) {
+    for (size_t i = 0; i < length; i++) {
+        printf("%02x", (unsigned)bytes[i]);
+    }
+    putchar('\n');
+}
+
+/* Whether a memory holds one byte only, from an offset on. */
+static inline bool holds_only(uint8_t byte, const uint8_t *memory, size_t offset, size_t room) {
+    while (offset < room && memory[offset] == byte) {
+        offset++;
+    }
+    return offset == room;
 }
 
 /* Shows a refusal; false if there is none. */

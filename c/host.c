@@ -16,13 +16,6 @@ static uint8_t after[LAPYNDO_STATE_BYTES];
 
 static size_t table_len, state_len, propositions;
 
-static void show_bytes(const uint8_t *bytes, size_t length) {
-    for (size_t i = 0; i < length; i++) {
-        printf("%02x", (unsigned)bytes[i]);
-    }
-    putchar('\n');
-}
-
 static bool show_head(void) {
     uint64_t head = lapyndo_read(table, table_len);
     if (refused("read", head)) {

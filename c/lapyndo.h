@@ -1,5 +1,5 @@
 /* The campaign planning engine for hosts in C: planning a campaign, finding the part of the goal that blocks, reading,
- * normalising and stepping, and writing PDDL for other planners.
+ * normalising and stepping, writing PDDL for other planners, and rewriting stored tables.
  *
  * Every call takes any bytes and answers one 64-bit number:
  *
@@ -25,7 +25,7 @@ extern "C" {
 /* Limits, for memories of a fixed size. */
 enum {
     LAPYNDO_WRITTEN_BYTES = 32000, /* the longest written table */
-    LAPYNDO_NORMAL_BYTES = 64000,  /* the longest normal table: room for every normal form */
+    LAPYNDO_NORMAL_BYTES = 64000,  /* the longest normal table: room for every normal form and rewritten table */
     LAPYNDO_STATE_BYTES = 184,     /* the longest state: 120 propositions, 16 values of 4 bytes */
     LAPYNDO_PDDL_BYTES = 330000    /* room for the PDDL text of every table and state */
 };
@@ -42,6 +42,8 @@ enum {
     LAPYNDO_CUT = 2,               /*   operands cut, place: the command's offset; no command where one is due,
                                         place: the table's length */
     LAPYNDO_MOVE_COUNT = 6,        /*   41 beyond the head's count, or 47 before it; place: the command's offset */
+    LAPYNDO_IDLE_MOVE = 16,        /*   a move without 2B, 2D or 46, nearly always an unfinished row; place: the offset of
+                                        the 41 or 47 that closes it. See lapyndo_rewrite for stored tables */
     LAPYNDO_OPERAND_RANGE = 4,     /*   an operand is out of range; place: the operand's offset. Weights are -1000 to
                                         1000 in a written table, 0 included, and 1 to 1000 in a normal one */
     LAPYNDO_NAMED_AGAIN = 5,       /*   named again, not rising, or a ninth term, terms of weight 0 counted; place: the
@@ -65,7 +67,7 @@ enum {
  * falls.
  *
  * Result: "no plan" or a plan, with the reported layers; see lapyndo_no_plan and lapyndo_layers.
- * Refusals, in the order of the checks: 1 to 7; 13, normal is too short; 8 and 9; 15 and 14; 13, out is too short.
+ * Refusals, in the order of the checks: 1 to 7 and 16; 13, normal is too short; 8 and 9; 15 and 14; 13, out is too short.
  *
  * state:    see lapyndo_step.
  * normal:   LAPYNDO_NORMAL_BYTES always suffice, and so does twice the length of the table. Once the table is accepted
@@ -97,7 +99,7 @@ uint64_t lapyndo_campaign(const uint8_t *table, size_t table_len, const uint8_t 
  *
  * Result: the offset of that command in the normal table, of a 43 itself and not of its first term; 0 if nothing blocks,
  * which is so exactly where there is a plan. See lapyndo_offset.
- * Refusals, in the order of the checks: 1 to 7; 8 and 9; 15 and 14. A normal table may have 64,000 bytes.
+ * Refusals, in the order of the checks: 1 to 7 and 16; 8 and 9; 15 and 14. A normal table may have 64,000 bytes.
  *
  * state:  see lapyndo_step; two signed variables are one variable there.
  * layers: P + A + N * (layers + 1) numbers suffice. P, N and A are the normal table's counts, and there are at most
@@ -111,7 +113,7 @@ uint64_t lapyndo_blocking(const uint8_t *table, size_t table_len, const uint8_t 
 /* Makes all checks of a written or normal table.
  *
  * Result: the head; see lapyndo_kind and the three counts.
- * Refusals: 1 to 7.
+ * Refusals: 1 to 7 and 16.
  * A written table may have 32,000 bytes, one with any other first byte 64,000.
  */
 uint64_t lapyndo_read(const uint8_t *table, size_t table_len);
@@ -122,7 +124,7 @@ uint64_t lapyndo_read(const uint8_t *table, size_t table_len);
  *
  * Result: the length of the normal form, at most 64,000 and at most twice that of the table. An output of twice the
  * table's length spares the engine a walk over the table for the length.
- * Refusals: 1 to 7 and 13.
+ * Refusals: 1 to 7 and 16; 13.
  * out: accepted, the normal form from the start, and the bytes behind it are kept; refused, all bytes are kept.
  */
 uint64_t lapyndo_normalise(const uint8_t *table, size_t table_len, uint8_t *out, size_t out_len);
@@ -132,7 +134,7 @@ uint64_t lapyndo_normalise(const uint8_t *table, size_t table_len, uint8_t *out,
  * A state has one byte (0 or 1) a proposition, then one 4-byte value a variable, big-endian two's complement.
  *
  * Result: the length of the state after the move, which is that of the state before it.
- * Refusals: 1 to 13.
+ * Refusals: 1 to 13 and 16.
  * out: accepted, the state after the move from the start, and the bytes behind it are kept; refused, all bytes are kept.
  */
 uint64_t lapyndo_step(const uint8_t *table, size_t table_len, const uint8_t *state, size_t state_len, uint64_t move,
@@ -146,7 +148,7 @@ uint64_t lapyndo_step(const uint8_t *table, size_t table_len, const uint8_t *sta
  * it; docs/PDDL.md describes it.
  *
  * Result: the length of the text.
- * Refusals, in the order of the checks: 1 to 7; 8 and 9; 13.
+ * Refusals, in the order of the checks: 1 to 7 and 16; 8 and 9; 13.
  *
  * state: see lapyndo_step.
  * out:   LAPYNDO_PDDL_BYTES always suffice, and so do 10 for each byte of the table and 10,000 more. Accepted, the text
@@ -154,6 +156,24 @@ uint64_t lapyndo_step(const uint8_t *table, size_t table_len, const uint8_t *sta
  */
 uint64_t lapyndo_pddl(const uint8_t *table, size_t table_len, const uint8_t *state, size_t state_len, uint8_t *out,
                       size_t out_len);
+
+/* Rewrites a stored table, written or normal: drops its moves without 2B, 2D or 46, which every other call refuses with 16.
+ *
+ * The other moves are numbered anew, in their order, and the head's count of moves falls. All else is kept byte for byte:
+ * the counts of propositions and variables too, so a state of the stored table is a state of the rewritten one. A table
+ * without such moves comes out as it is. A move with an effect that changes nothing, such as += 0, is no such move.
+ *
+ * If a list of moves solves the stored table, it solves the rewritten one once the dropped moves are left out and the others
+ * are numbered anew. A list that solves the rewritten table solves the stored one once it is numbered back.
+ *
+ * Result: the length of the rewritten table, at most that of the stored one.
+ * Refusals: 1 to 7; 13. All checks of lapyndo_read but 16 are made, of the moves that are dropped too.
+ * A written table may have 32,000 bytes, one with any other first byte 64,000.
+ *
+ * out: the length of the table always suffices. Accepted, the rewritten table from the start, and the bytes behind it are
+ *      kept; refused, all bytes are kept.
+ */
+uint64_t lapyndo_rewrite(const uint8_t *table, size_t table_len, uint8_t *out, size_t out_len);
 
 /* Of any answer: the number of the refusal, 0 if the call is accepted. */
 static inline uint32_t lapyndo_refusal(uint64_t answer) { return (uint32_t)(answer >> 32); }
@@ -171,7 +191,7 @@ static inline uint32_t lapyndo_layers(uint64_t answer) { return (uint32_t)answer
 /* Of an accepted lapyndo_blocking: the offset of the part that blocks, 0 if nothing blocks. */
 static inline size_t lapyndo_offset(uint64_t answer) { return (size_t)(uint32_t)answer; }
 
-/* Of an accepted lapyndo_normalise, lapyndo_step or lapyndo_pddl: the number of bytes written. */
+/* Of an accepted lapyndo_normalise, lapyndo_step, lapyndo_pddl or lapyndo_rewrite: the number of bytes written. */
 static inline size_t lapyndo_length(uint64_t answer) { return (size_t)(uint32_t)answer; }
 
 /* Of an accepted lapyndo_read: LAPYNDO_WRITTEN or LAPYNDO_NORMAL. */

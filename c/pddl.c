@@ -21,14 +21,6 @@ static uint8_t out[LAPYNDO_PDDL_BYTES];
 
 static size_t table_len, state_len, out_len = LAPYNDO_PDDL_BYTES;
 
-/* Whether the memory is as it was from an offset on. */
-static bool kept_from(size_t offset) {
-    while (offset < sizeof out && out[offset] == PAINT) {
-        offset++;
-    }
-    return offset == sizeof out;
-}
-
 int main(int argc, char **argv) {
     if (argc != 3 && argc != 4) {
         fputs("usage: pddl TABLE STATE [OUT]\n", stderr);
@@ -45,7 +37,7 @@ int main(int argc, char **argv) {
     bool accepted = !refused("pddl", answer);
     size_t length = accepted ? lapyndo_length(answer) : 0;
     fwrite(out, 1, length, stdout);
-    if (!kept_from(length)) {
+    if (!holds_only(PAINT, out, length, sizeof out)) {
         fputs("a byte changed that is to be kept\n", stderr);
         return 3;
     }

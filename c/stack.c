@@ -49,6 +49,14 @@ static void call_pddl(void) { lapyndo_pddl(written, written_len, state, state_le
 
 static void call_blocking(void) { lapyndo_blocking(normal, normal_len, state, state_len, layers, LAYER_NUMBERS); }
 
+/* Also of a table whose first move is dropped. */
+static void call_rewrite(void) {
+    static const uint8_t idle_first[] = {LAPYNDO_WRITTEN, 1, 0, 2, 0x41, 0x50, 0, 0x41, 0x2B, 0, 0x47, 0x45};
+    lapyndo_rewrite(written, written_len, out, room);
+    lapyndo_rewrite(normal, normal_len, out, room);
+    lapyndo_rewrite(idle_first, sizeof idle_first, out, room);
+}
+
 #ifdef PLANNING
 uint64_t lapyndo_block(const uint8_t *table, size_t table_len, uint64_t block, uint8_t *out, size_t out_len);
 uint64_t lapyndo_decide(const uint8_t *table, size_t table_len, const uint8_t *state, size_t state_len,
@@ -76,6 +84,7 @@ static struct {
     {"campaign", call_campaign, 0},
     {"pddl", call_pddl, 0},
     {"blocking", call_blocking, 0},
+    {"rewrite", call_rewrite, 0},
 #ifdef PLANNING
     {"block", call_block, 0},
     {"decide", call_decide, 0},

@@ -7,7 +7,9 @@
 
 use campaign::call::{Call, CallKind};
 use campaign::fenced::Fenced;
-use campaign::generate::{call, damage, full_length, grid, long_goal, Rng, Task};
+use campaign::generate::{
+    call, damage, full_length, grid, long_goal, long_stored, rewritten_length, Rng, Task,
+};
 use campaign::proved::PROVED;
 use campaign::reference::table::Kind;
 use campaign::room;
@@ -39,7 +41,7 @@ fn main() {
         }
         tally.check(&call);
     }
-    let every_refusal: Vec<usize> = (0..16).collect();
+    let every_refusal: Vec<usize> = (0..17).collect();
     tally.expect(1, &every_refusal);
 }
 
@@ -51,7 +53,7 @@ fn long_call(rng: &mut Rng) -> Call {
         true => grid(rng, length),
         false => full_length(rng, kind, length),
     };
-    match rng.below(5) {
+    match rng.below(6) {
         0 => Call {
             table,
             ..CallKind::Read.call()
@@ -63,6 +65,11 @@ fn long_call(rng: &mut Rng) -> Call {
         },
         2 => Task { table, state }.decide(1_000),
         3 => long_goal(rng, length).blocking(1_000),
+        4 => {
+            let stored = long_stored(rng, kind, length);
+            let room = rewritten_length(&stored.table) + rng.below(3);
+            stored.rewrite(room.saturating_sub(1))
+        }
         _ => Task { table, state }.pddl(room::text_bytes(length)),
     }
 }

@@ -4,7 +4,7 @@
 use campaign::call::{Call, Fill};
 use campaign::engine::REFERENCE;
 use campaign::fenced::Fenced;
-use campaign::generate::{blocked, call, damage, Rng, Task};
+use campaign::generate::{blocked, call, damage, rewritten_length, stored, Rng, Task};
 use campaign::harness::compare_over;
 use campaign::input::{decode, encode};
 use campaign::proved::PROVED;
@@ -59,8 +59,8 @@ pub unsafe extern "C" fn LLVMFuzzerCustomMutator(
     }
 }
 
-/// Now and then another call, the same one with a damaged table or state, or a `blocking` of the same
-/// task with a goal that mostly cannot be reached.
+/// Now and then another call, the same one with a damaged table or state, a `blocking` of the same task
+/// with a goal that mostly cannot be reached, or a `rewrite` of its table with moves that do nothing.
 fn changed(input: &[u8], seed: u32) -> Option<Vec<u8>> {
     let mut rng = Rng::new(u64::from(seed));
     match rng.below(16) {
@@ -74,6 +74,12 @@ fn changed(input: &[u8], seed: u32) -> Option<Vec<u8>> {
             let Call { table, state, .. } = decode(input);
             let task = blocked(&mut rng, &Task { table, state });
             encode(&task.blocking(rng.below(200)))
+        }
+        6 => {
+            let Call { table, state, .. } = decode(input);
+            let task = stored(&mut rng, &Task { table, state });
+            let room = rewritten_length(&task.table) + rng.below(4);
+            encode(&task.rewrite(room.saturating_sub(1)))
         }
         _ => None,
     }

@@ -21,10 +21,11 @@ pub enum Reason {
     OutputShort = 13,
     MemoryShort = 14,
     ValueRange = 15,
+    IdleMove = 16,
 }
 
 impl Reason {
-    pub const ALL: [Reason; 15] = [
+    pub const ALL: [Reason; 16] = [
         Reason::TableTooLong,
         Reason::Cut,
         Reason::Misplaced,
@@ -40,6 +41,7 @@ impl Reason {
         Reason::OutputShort,
         Reason::MemoryShort,
         Reason::ValueRange,
+        Reason::IdleMove,
     ];
 
     pub fn number(self) -> u8 {
@@ -208,11 +210,11 @@ mod tests {
     use super::*;
 
     #[test]
-    fn reasons_are_numbered_from_1_to_15() {
+    fn reasons_are_numbered_from_1_to_16() {
         let numbers: Vec<u8> = Reason::ALL.iter().map(|r| r.number()).collect();
-        assert_eq!(numbers, (1..=15).collect::<Vec<u8>>());
+        assert_eq!(numbers, (1..=16).collect::<Vec<u8>>());
         assert_eq!(Reason::from_number(14), Some(Reason::MemoryShort));
         assert_eq!(Reason::from_number(0), None);
-        assert_eq!(Reason::from_number(16), None);
+        assert_eq!(Reason::from_number(17), None);
     }
 }

@@ -20,6 +20,7 @@ pub enum CallKind {
     Campaign,
     Pddl,
     Blocking,
+    Rewrite,
     Listing,
 }
 
@@ -35,7 +36,7 @@ pub enum Field {
 }
 
 impl CallKind {
-    pub const ALL: [CallKind; 10] = [
+    pub const ALL: [CallKind; 11] = [
         CallKind::Read,
         CallKind::Block,
         CallKind::Normalise,
@@ -45,11 +46,12 @@ impl CallKind {
         CallKind::Campaign,
         CallKind::Pddl,
         CallKind::Blocking,
+        CallKind::Rewrite,
         CallKind::Listing,
     ];
 
     /// The calls that the engine exports.
-    pub const EXPORTED: &'static [CallKind] = Self::ALL.split_at(9).0;
+    pub const EXPORTED: &'static [CallKind] = Self::ALL.split_at(10).0;
 
     /// What calls of this kind are given.
     pub fn fields(self) -> &'static [Field] {
@@ -64,6 +66,7 @@ impl CallKind {
             CallKind::Campaign => &[Table, State, Normal, Numbers, Room],
             CallKind::Pddl => &[Table, State, Room],
             CallKind::Blocking => &[Table, State, Numbers],
+            CallKind::Rewrite => &[Table, Room],
             CallKind::Listing => &[Table, State],
         }
     }
@@ -96,39 +99,45 @@ impl CallKind {
         self.records()[0].0
     }
 
-    /// All files of this call's outcomes, and how many each has: the newest, those of document 01,
-    /// which still hold, and those on comparisons.
+    /// All files of this call's outcomes, and how many each has: the newest, those of the calls of
+    /// document 01, and those by hand on comparisons, on weight 0 and on moves that do nothing.
     pub fn records(self) -> &'static [(&'static str, usize)] {
         match self {
             CallKind::Read => &[
                 ("read.txt", 160),
-                ("document-01/read.txt", 443),
+                ("base/read.txt", 404),
                 ("comparisons/read.txt", 4),
+                ("weights/read.txt", 5),
             ],
             CallKind::Block => &[
-                ("block.txt", 95),
-                ("document-01/block.txt", 296),
+                ("block.txt", 139),
+                ("base/block.txt", 200),
                 ("comparisons/block.txt", 4),
+                ("idle-moves/block.txt", 16),
             ],
             CallKind::Normalise => &[
-                ("normalise.txt", 160),
-                ("document-01/normalise.txt", 436),
+                ("normalise.txt", 78),
+                ("base/normalise.txt", 274),
                 ("comparisons/normalise.txt", 4),
+                ("weights/normalise.txt", 5),
             ],
             CallKind::Step => &[
-                ("step.txt", 151),
-                ("document-01/step.txt", 599),
+                ("step.txt", 154),
+                ("base/step.txt", 355),
                 ("comparisons/step.txt", 5),
+                ("weights/step.txt", 5),
             ],
-            CallKind::Decide => &[("decide.txt", 88), ("document-01/decide.txt", 637)],
-            CallKind::Plan => &[("plan.txt", 44), ("document-01/plan.txt", 617)],
-            CallKind::Campaign => &[("campaign.txt", 43), ("comparisons/campaign.txt", 4)],
-            CallKind::Pddl => &[("pddl.txt", 52), ("comparisons/pddl.txt", 3)],
-            CallKind::Blocking => &[("blocking.txt", 107)],
+            CallKind::Decide => &[("decide.txt", 70), ("base/decide.txt", 340)],
+            CallKind::Plan => &[("plan.txt", 51), ("base/plan.txt", 468)],
+            CallKind::Campaign => &[("campaign.txt", 50), ("comparisons/campaign.txt", 4)],
+            CallKind::Pddl => &[("pddl.txt", 59), ("comparisons/pddl.txt", 3)],
+            CallKind::Blocking => &[("blocking.txt", 107), ("idle-moves/blocking.txt", 8)],
+            CallKind::Rewrite => &[("rewrite.txt", 160), ("comparisons/rewrite.txt", 4)],
             CallKind::Listing => &[
-                ("listing.txt", 95),
-                ("document-01/listing.txt", 264),
+                ("listing.txt", 125),
+                ("base/listing.txt", 274),
                 ("comparisons/listing.txt", 4),
+                ("weights/listing.txt", 5),
             ],
         }
     }

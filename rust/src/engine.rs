@@ -4,7 +4,7 @@ use crate::answer::{Answer, Blocking, Campaign, Decision, Head, Plan, Refusal};
 use crate::reference;
 
 /// An implementation of the five calls, the reader, the campaign in one call, the PDDL text, the
-/// goal part that blocks and the listing.
+/// goal part that blocks, the rewriter and the listing.
 ///
 /// A refusal leaves outputs as they were. Layer memory after a refusal holds what the
 /// specification says of that refusal.
@@ -41,6 +41,9 @@ pub trait Engine {
     /// answers "no plan"; refusals and layer memory are those of `decide`.
     fn blocking(&self, table: &[u8], state: &[u8], layers: &mut [i64])
         -> Result<Blocking, Refusal>;
+
+    /// A stored table of either kind without its moves that do nothing, the others renumbered.
+    fn rewrite(&self, table: &[u8], out: &mut [u8]) -> Result<usize, Refusal>;
 
     /// What the listing program prints; by default made of `campaign`.
     fn listing(&self, task: &[u8], state: &[u8]) -> String {
@@ -126,6 +129,7 @@ pub struct Calls {
     pub campaign: Campaigning,
     pub pddl: Pddl,
     pub blocking: FindBlocking,
+    pub rewrite: Rewrite,
     pub listing: Listing,
 }
 
@@ -137,6 +141,7 @@ type Decide = fn(&[u8], &[u8], &mut [i64]) -> Result<Decision, Refusal>;
 type Planning = fn(&[u8], &[u8], &mut [i64], &mut [u8]) -> Result<Plan, Refusal>;
 type Pddl = fn(&[u8], &[u8], &mut [u8]) -> Result<usize, Refusal>;
 pub type FindBlocking = fn(&[u8], &[u8], &mut [i64]) -> Result<Blocking, Refusal>;
+pub type Rewrite = fn(&[u8], &mut [u8]) -> Result<usize, Refusal>;
 /// This and the next are given the other calls too.
 pub type Campaigning = fn(&Calls, &[u8], &[u8], Lent) -> Campaign;
 type Listing = fn(&Calls, &[u8], &[u8]) -> String;
@@ -152,6 +157,7 @@ pub const REFERENCE: Calls = Calls {
     campaign: made_campaign,
     pddl: reference::pddl,
     blocking: reference::blocking,
+    rewrite: reference::rewrite,
     listing: |_, task, state| reference::listing(task, state),
 };
 
@@ -167,6 +173,7 @@ impl Calls {
         campaign: made_campaign,
         pddl: |_, _, _| absent("pddl"),
         blocking: |_, _, _| absent("blocking"),
+        rewrite: |_, _| absent("rewrite"),
         listing: made_listing,
     };
 }
@@ -221,6 +228,10 @@ impl Engine for Calls {
         layers: &mut [i64],
     ) -> Result<Blocking, Refusal> {
         (self.blocking)(table, state, layers)
+    }
+
+    fn rewrite(&self, table: &[u8], out: &mut [u8]) -> Result<usize, Refusal> {
+        (self.rewrite)(table, out)
     }
 
     fn listing(&self, task: &[u8], state: &[u8]) -> String {

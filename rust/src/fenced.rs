@@ -210,6 +210,11 @@ impl<E: Engine> Engine for Fenced<E> {
         let [table, state] = [table, state].map(Fence::reading);
         writing(layers, |layers| self.0.blocking(&table, &state, layers))
     }
+
+    fn rewrite(&self, table: &[u8], out: &mut [u8]) -> Result<usize, Refusal> {
+        let table = Fence::reading(table);
+        writing(out, |out| self.0.rewrite(&table, out))
+    }
 }
 
 #[cfg(test)]

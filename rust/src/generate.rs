@@ -6,22 +6,28 @@ mod damage;
 mod grid;
 mod maker;
 mod rng;
+mod scale;
 mod sizes;
+mod stored;
 mod task;
 mod text;
 mod tuned;
 
 pub use crate::hex::hex;
 pub use blocked::{blocked, long_goal};
-pub use call::{blocking_call, call, campaign_call, normal_length, pddl_call, sized_calls};
+pub use call::{
+    blocking_call, call, campaign_call, normal_length, pddl_call, rewrite_call, sized_calls,
+};
 pub use damage::{
     command_string, damage, deletions, insertions, random_bytes, single_byte_changes, spoil,
     truncations, wrong_state,
 };
 pub use grid::{grid, long_sum, m1_grid};
-pub use maker::{state_for, task, task_of};
+pub use maker::{task, task_of};
 pub use rng::Rng;
+pub use scale::state_for;
 pub use sizes::Sizes;
+pub use stored::{long_stored, rewritten_length, stored};
 pub use task::Task;
 pub use text::{text_length, wordy};
 pub use tuned::{at_value_limit, dense, full_length, large_values, m1, many_records, steep, waves};

@@ -131,6 +131,14 @@ pub fn normalised(engine: &dyn Engine, table: &[u8]) -> Result<Vec<u8>, Refusal>
     written(64_000, |out| engine.normalise(table, out))
 }
 
+/// A stored table without its moves that do nothing.
+///
+/// # Panics
+/// As `normalised`.
+pub fn rewritten(engine: &dyn Engine, table: &[u8]) -> Result<Vec<u8>, Refusal> {
+    written(table.len() + 9, |out| engine.rewrite(table, out))
+}
+
 /// The PDDL text of a task.
 ///
 /// # Panics

@@ -20,6 +20,7 @@ pub const PROVED: Calls = Calls {
     campaign: |_, table, state, lent| campaign(table, state, lent),
     pddl,
     blocking,
+    rewrite,
     ..Calls::NONE
 };
 
@@ -91,6 +92,10 @@ pub fn pddl(table: &[u8], state: &[u8], out: &mut [u8]) -> Result<usize, Refusal
 
 pub fn blocking(table: &[u8], state: &[u8], layers: &mut [i64]) -> Result<Blocking, Refusal> {
     raw::blocking(table, state, layers).map(blocked)
+}
+
+pub fn rewrite(table: &[u8], out: &mut [u8]) -> Result<usize, Refusal> {
+    raw::rewrite(table, out).map(|length| length as usize)
 }
 
 /// No part stands at offset 0, so 0 is free to say that nothing blocks.

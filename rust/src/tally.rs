@@ -1,9 +1,12 @@
 //! Two engines compared on many calls, counted by what they answer.
 
 mod blocking;
+mod rewriting;
+mod shares;
 
-pub use blocking::Shares;
+pub use shares::Shares;
 
+use crate::answer::Reason;
 use crate::call::{Call, CallKind, Fill};
 use crate::commands::has_zero_term;
 use crate::engine::{Engine, REFERENCE};
@@ -15,10 +18,11 @@ pub struct Tally<'e> {
     engine: &'e dyn Engine,
     rng: Rng,
     /// Calls by the number of their refusal; 0 for accepted ones.
-    counts: [usize; 16],
+    counts: [usize; 17],
     /// Calls of a written table with a term of weight 0.
     zeros: usize,
     blocking: Shares,
+    rewriting: Shares,
 }
 
 impl<'e> Tally<'e> {
@@ -26,9 +30,10 @@ impl<'e> Tally<'e> {
         Tally {
             engine,
             rng: Rng::new(seed),
-            counts: [0; 16],
+            counts: [0; 17],
             zeros: 0,
             blocking: Shares::default(),
+            rewriting: Shares::default(),
         }
     }
 
@@ -44,13 +49,15 @@ impl<'e> Tally<'e> {
             Err(difference) => panic!("{difference}\n  before: {fill:?}"),
         };
         self.counts[refusal_number(&answer)] += 1;
-        if call.kind == CallKind::Blocking {
-            self.blocking.add(call, &answer);
+        match call.kind {
+            CallKind::Blocking => self.blocking.add_blocking(call, &answer),
+            CallKind::Rewrite => self.rewriting.add_rewriting(call),
+            _ => {}
         }
     }
 
     /// Calls by the number of their refusal; 0 for accepted ones.
-    pub fn counts(&self) -> &[usize; 16] {
+    pub fn counts(&self) -> &[usize; 17] {
         &self.counts
     }
 
@@ -75,6 +82,20 @@ impl<'e> Tally<'e> {
     /// What calls of `blocking` had to tell apart.
     pub fn blocking(&self) -> &Shares {
         &self.blocking
+    }
+
+    /// What calls of `rewrite` had to tell apart.
+    pub fn rewriting(&self) -> &Shares {
+        &self.rewriting
+    }
+
+    /// Fails unless at least so many calls were refused for a move that does nothing.
+    ///
+    /// # Panics
+    /// If there were fewer.
+    pub fn expect_idle_moves(&self, calls: usize) {
+        let refused = self.counts[usize::from(Reason::IdleMove.number())];
+        assert!(refused >= calls, "{refused} with an idle move only");
     }
 
     /// Fails unless at least so many calls had a written table with a term of weight 0.

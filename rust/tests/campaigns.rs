@@ -182,7 +182,7 @@ fn weight_1000_passes_and_1001_is_refusal_4() {
 
 #[test]
 fn state_value_1_000_001_is_refusal_9() {
-    let table = bytes("54 01 02 01 41 47 45");
+    let table = bytes("54 01 02 01 41 2b 00 47 45");
     let state = |a: i32, b: i32| [vec![1], four(a), four(b)].concat();
     let step = |state: &[u8]| ENGINE.step(&table, state, 0, &mut [0; 9]);
     assert_eq!(step(&state(1_000_000, -1_000_000)), Ok(9));

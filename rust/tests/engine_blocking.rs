@@ -156,7 +156,7 @@ fn damaged_tables_and_states() {
         damage(&mut rng, &mut call);
         tally.check(&call);
     }
-    tally.expect(30_000, &[0, 2, 3, 4, 5, 6, 7, 8, 9, 14, 15]);
+    tally.expect(30_000, &[0, 2, 3, 4, 5, 6, 7, 8, 9, 14, 15, 16]);
     tally.blocking().expect(&[("blocks", 800)]);
 }
 

@@ -124,7 +124,7 @@ fn damaged_tables_and_states() {
         damage(&mut rng, &mut call);
         tally.check(&call);
     }
-    tally.expect(28_000, &[0, 2, 3, 4, 5, 6, 7, 8, 9, 13, 14, 15]);
+    tally.expect(28_000, &[0, 2, 3, 4, 5, 6, 7, 8, 9, 13, 14, 15, 16]);
     tally.expect_zero_terms(3_000);
 }
 

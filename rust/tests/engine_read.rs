@@ -117,7 +117,7 @@ fn damaged_tables() {
             check_read_and_block(&mut tally, &mut rng, damaged);
         }
     }
-    tally.expect(300_000, &[0, 2, 3, 4, 5, 6, 10]);
+    tally.expect(300_000, &[0, 2, 3, 4, 5, 6, 10, 16]);
     tally.expect_zero_terms(80_000);
 }
 
@@ -136,7 +136,8 @@ fn random_commands_and_bytes() {
         }
         check_read_and_block(&mut tally, &mut rng, table);
     }
-    tally.expect(160_000, &[0, 2, 3, 4, 5, 6, 7, 10]);
+    tally.expect(160_000, &[0, 2, 3, 4, 5, 6, 7, 10, 16]);
+    tally.expect_idle_moves(4_000);
     tally.expect_zero_terms(8_000);
 }
 

@@ -1,13 +1,15 @@
 //! The example campaigns: each commented listing is its binary table, each prints what is expected,
-//! and the files for other planners are what the engine writes.
+//! the files for other planners are what the engine writes, and stored tables are rewritten.
 
 use crate::common::folder::{examples, pddl_parts, PDDL};
+use campaign::answer::Reason;
+use campaign::engine::{Engine, REFERENCE};
 use campaign::generate::Task;
-use campaign::harness::texted;
+use campaign::harness::{rewritten, texted};
 use campaign::proved::PROVED;
 use campaign::reference;
 use std::fs;
-use std::path::Path;
+use std::path::{Path, PathBuf};
 
 fn read(path: &Path, name: &str) -> Vec<u8> {
     fs::read(path.join(name)).unwrap_or_else(|e| panic!("{}/{name}: {e}", path.display()))
@@ -28,16 +30,36 @@ fn bytes_of_listing(text: &str) -> Vec<u8> {
         .collect()
 }
 
+/// A table that has a commented listing beside it.
+fn listed_table(example: &Path, name: &str) -> Vec<u8> {
+    let [listing, table] = ["hex", "bin"].map(|kind| read(example, &format!("{name}.{kind}")));
+    let listing = String::from_utf8(listing).expect("text");
+    assert_eq!(bytes_of_listing(&listing), table, "{}", example.display());
+    table
+}
+
 #[test]
 fn each_listing_is_its_table() {
     for example in examples() {
-        let listing = String::from_utf8(read(&example, "task.hex")).expect("text");
-        assert_eq!(
-            bytes_of_listing(&listing),
-            read(&example, "task.bin"),
-            "{}",
-            example.display()
-        );
+        listed_table(&example, "task");
+    }
+}
+
+/// A stored table is refused for a move without an effect, and its campaign is what the rewriter
+/// makes of it.
+#[test]
+fn each_stored_table_is_rewritten() {
+    let stored = |example: &PathBuf| example.join("stored.bin").is_file();
+    let examples: Vec<PathBuf> = examples().into_iter().filter(stored).collect();
+    assert!(!examples.is_empty());
+    for example in examples {
+        let stored = listed_table(&example, "stored");
+        for engine in [PROVED, REFERENCE] {
+            let refused = engine.read(&stored).expect_err("an unfinished row");
+            assert_eq!(refused.reason, Reason::IdleMove);
+            let rewritten = rewritten(&engine, &stored);
+            assert_eq!(rewritten, Ok(read(&example, "task.bin")));
+        }
     }
 }
 

@@ -3,11 +3,12 @@
 use campaign::call::{Call, CallKind};
 use campaign::engine::{Calls, Engine, REFERENCE};
 use campaign::fenced::Fenced;
-use campaign::generate::{call, m1, random_bytes, Rng, Task};
+use campaign::generate::{call, long_stored, m1, random_bytes, Rng, Task};
 use campaign::harness::compare;
 use campaign::hex::bytes;
-use campaign::impostors::check_found;
+use campaign::impostors::{check_found, HONEST, LIMITS};
 use campaign::input::{decode, encode, ROOM};
+use campaign::reference::table::Kind;
 use campaign::tally::Tally;
 
 #[test]
@@ -79,11 +80,30 @@ fn blocks_are_parts_of_the_callers_table() {
 #[test]
 fn generated_calls_find_impostors() {
     let mut rng = Rng::new(504);
-    let calls: Vec<Call> = (0..20_000).map(|_| call(&mut rng)).collect();
+    let calls: Vec<Call> = (0..30_000).map(|_| call(&mut rng)).collect();
     check_found(&CallKind::ALL, |kind, engine| {
         let mut calls = calls.iter().filter(|call| call.kind == kind);
         calls.any(|call| compare(call, &REFERENCE, engine).is_err())
     });
+}
+
+/// As comparisons of long tables have to.
+#[test]
+fn tables_at_the_limits_find_impostors() {
+    let mut rng = Rng::new(505);
+    let lengths = [32_000, 32_001, 64_000, 64_001];
+    let kinds = [Kind::Written, Kind::Normal].into_iter();
+    let tasks = kinds.flat_map(|kind| lengths.map(|length| (kind, length)));
+    let tasks = tasks.map(|(kind, length)| long_stored(&mut rng, kind, length));
+    let calls: Vec<Call> = tasks.map(|task| task.rewrite(64_000)).collect();
+    let found = |engine| {
+        let mut calls = calls.iter();
+        calls.any(|call| compare(call, &REFERENCE, engine).is_err())
+    };
+    assert!(!found(&HONEST));
+    for impostor in &LIMITS {
+        assert!(found(&impostor.engine), "{}", impostor.trick);
+    }
 }
 
 #[test]
@@ -125,6 +145,50 @@ fn shares_of_blocking_are_counted() {
     }
     assert_eq!(tally.blocking().count("14 at layer 0"), 2);
     assert_eq!(tally.blocking().count("layers"), 0);
+}
+
+#[test]
+#[should_panic(expected = "several in a row: 0 only")]
+fn a_missing_share_of_rewriting_is_found() {
+    let tally = Tally::new(&REFERENCE, 1);
+    tally.rewriting().expect(&[("several in a row", 1)]);
+}
+
+/// A table whose first and third moves do nothing, with just enough room and one byte short.
+#[test]
+fn shares_of_rewriting_are_counted() {
+    let mut tally = Tally::new(&REFERENCE, 1);
+    let task = Task {
+        table: bytes("54 01 00 03 41 41 2b 00 41 50 00 47 45"),
+        state: vec![0],
+    };
+    tally.check(&task.rewrite(9));
+    tally.check(&task.rewrite(8));
+    for (name, count) in [
+        ("the first does nothing", 2),
+        ("the last does nothing", 2),
+        ("nothing at all", 2),
+        ("propositions alone", 2),
+        ("several in a row", 0),
+        ("sums alone", 0),
+        ("written", 2),
+        ("just enough", 1),
+        ("one byte short", 1),
+        ("enough, and shorter than the table", 1),
+    ] {
+        assert_eq!(tally.rewriting().count(name), count, "{name}");
+    }
+}
+
+#[test]
+#[should_panic(expected = "1 with an idle move only")]
+fn a_missing_share_of_idle_moves_is_found() {
+    let mut tally = Tally::new(&REFERENCE, 1);
+    tally.check(&Call {
+        table: bytes("54 00 00 01 41 47 45"),
+        ..CallKind::Read.call()
+    });
+    tally.expect_idle_moves(2);
 }
 
 #[test]

@@ -51,6 +51,11 @@ fn blocking() {
 }
 
 #[test]
+fn rewrite() {
+    check_lines(&REFERENCE, CallKind::Rewrite);
+}
+
+#[test]
 fn listing() {
     check_lines(&REFERENCE, CallKind::Listing);
 }

@@ -2,6 +2,7 @@
 
 mod blocking;
 mod memory;
+mod rewrite;
 mod tables;
 mod weight_zero;
 

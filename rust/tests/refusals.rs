@@ -1,6 +1,7 @@
 //! Every refusal of every call, its place, and which comes first.
 
 mod calls;
+mod idle_moves;
 mod weight_zero;
 
 use campaign::answer::Refusal;
@@ -94,7 +95,7 @@ fn moves_beyond_the_count_and_an_early_goal() {
     check(&[
         ("54000000 41", 6, 4),
         ("54000001 41 41", 6, 5),
-        ("54000001 41 47 41", 6, 6),
+        ("54010001 41 2b 00 47 41", 6, 8),
         ("54000000 47 41", 6, 5),
         ("54000001 47", 6, 4),
         ("54000002 41 47", 6, 5),
@@ -117,8 +118,8 @@ fn heads_out_of_range() {
         ("4e000041", 4, 3),
     ]);
     check_accepted(&["54781000 4745", "4e782000 4745"]);
-    let moves = "41".repeat(64);
-    check_accepted(&[&format!("54000040 {moves} 4745")]);
+    let moves = "41 2b 00".repeat(64);
+    check_accepted(&[&format!("54010040 {moves} 4745")]);
 }
 
 #[test]

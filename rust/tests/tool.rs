@@ -3,14 +3,15 @@
 //!
 //! A session in `data/tool/` has the files of a folder, as hexadecimal or as the name of an
 //! example; then for each `$` line the words given, all that is printed, and `=` with the status.
-//! `cat` with a file's name stands for the file itself, which may be one that was written.
+//! `cat` with a file's name stands for the file itself, which may be one that was written, and
+//! `hex` for its bytes in hexadecimal.
 
 use crate::common::folder::{examples, pddl_parts, repository, run, Folder, Printed, PDDL};
 use crate::common::tasks::{normal_tasks, spoilt_tasks};
 use campaign::answer::Refusal;
-use campaign::generate::{full_length, m1, task, wrong_state, Rng, Task};
-use campaign::harness::{normalised, planned, texted};
-use campaign::hex::bytes;
+use campaign::generate::{full_length, long_stored, m1, stored, task, wrong_state, Rng, Task};
+use campaign::harness::{normalised, planned, rewritten, texted};
+use campaign::hex::{bytes, hex};
 use campaign::proved::{self, PROVED};
 use campaign::reference::table::Kind;
 use std::fs;
@@ -20,18 +21,31 @@ const EXAMPLES: &str = include_str!("data/tool/examples.txt");
 const REFUSALS: &str = include_str!("data/tool/refusals.txt");
 const ANSWERS: &str = include_str!("data/tool/answers.txt");
 
+/// The file that `rewrite` is asked to write.
+const OUT: &str = "out.bin";
+
 /// Runs `lapyndo` in a folder.
 pub fn lapyndo(folder: &Path, words: &[&str]) -> Printed {
     run(Path::new(env!("CARGO_BIN_EXE_lapyndo")), folder, words)
 }
 
-/// What `cat` prints; nothing, and status 1, where there is no such file.
-fn cat(folder: &Path, file: &str) -> Printed {
-    let text = fs::read_to_string(folder.join(file));
+/// A file as text; nothing, and status 1, where there is no such file.
+fn shown(folder: &Path, file: &str, text: fn(Vec<u8>) -> String) -> Printed {
+    let found = fs::read(folder.join(file));
     Printed {
-        status: i32::from(text.is_err()),
-        out: text.unwrap_or_default(),
+        status: i32::from(found.is_err()),
+        out: found.map_or_else(|_| String::new(), text),
         error: String::new(),
+    }
+}
+
+fn prints(folder: &Path, words: &str) -> Printed {
+    match words.split_once(' ') {
+        Some(("cat", file)) => shown(folder, file, |bytes| {
+            String::from_utf8(bytes).expect("text")
+        }),
+        Some(("hex", file)) => shown(folder, file, |bytes| hex(&bytes) + "\n"),
+        _ => lapyndo(folder, &words.split(' ').collect::<Vec<_>>()),
     }
 }
 
@@ -46,10 +60,7 @@ fn check_session(folder: &Path, session: &str) -> usize {
     for command in commands {
         let (words, expected) = command.split_once('\n').expect("a line of words");
         let (expected, status) = expected.rsplit_once("= ").expect("a status");
-        let printed = match words.strip_prefix("cat ") {
-            Some(file) => cat(folder, file),
-            None => lapyndo(folder, &words.split(' ').collect::<Vec<_>>()),
-        };
+        let printed = prints(folder, words);
         assert_eq!(printed.out, expected, "{name}$ {words}");
         assert_eq!(printed.error, "", "{name}$ {words}");
         assert_eq!(printed.status.to_string(), status.trim(), "{name}$ {words}");
@@ -68,7 +79,8 @@ fn file(session: &str, name: &str) -> Vec<u8> {
     )
 }
 
-fn check_sessions(text: &str) -> usize {
+/// Runs sessions, each in a folder with its files, and answers how many commands they have.
+pub fn check_sessions(text: &str) -> usize {
     let sessions = text.trim_end().split("\n\n# ");
     let checked = sessions.map(|session| {
         let folder = Folder::of(&file(session, "task"), &file(session, "state"));
@@ -103,8 +115,8 @@ fn answers_that_no_example_has() {
 /// 13 and 14 never come up, and 1 needs a long table.
 #[test]
 fn refusals_are_explained() {
-    assert!(check_sessions(REFUSALS) >= 88);
-    for number in [2, 3, 4, 5, 6, 7, 8, 9, 10, 11, 12, 15] {
+    assert!(check_sessions(REFUSALS) >= 99);
+    for number in [2, 3, 4, 5, 6, 7, 8, 9, 10, 11, 12, 15, 16] {
         assert!(
             REFUSALS.contains(&format!("refusal {number} place ")),
             "{number}"
@@ -121,7 +133,14 @@ refusal 1 place 0: the table is too long
   where    task.bin as a whole: 32001 bytes
   why      a written table has 32000 bytes at most
 ";
-    for words in ["show task.bin", "decide .", "plan .", "why .", "pddl ."] {
+    for words in [
+        "show task.bin",
+        "decide .",
+        "plan .",
+        "why .",
+        "pddl .",
+        "rewrite task.bin out.bin",
+    ] {
         let words: Vec<&str> = words.split(' ').collect();
         let printed = lapyndo(&folder.0, &words);
         assert_eq!((printed.status, &*printed.out), (1, text), "{words:?}");
@@ -129,7 +148,7 @@ refusal 1 place 0: the table is too long
 }
 
 #[test]
-fn the_longest_tables_are_shown_and_planned() {
+fn the_longest_tables_are_shown_planned_and_rewritten() {
     let mut rng = Rng::new(702);
     for (kind, length) in [(Kind::Written, 32_000), (Kind::Normal, 64_000)] {
         let task = full_length(&mut rng, kind, length);
@@ -139,6 +158,8 @@ fn the_longest_tables_are_shown_and_planned() {
         let last = format!("{:6}  end\n", length - 1);
         assert!(shown.out.ends_with(&last), "{:?}", shown.out.lines().last());
         check_printed(&task, &folder);
+        let task = long_stored(&mut rng, kind, length);
+        check_printed(&task, &Folder::of(&task.table, &task.state));
     }
 }
 
@@ -149,6 +170,7 @@ fn damaged_campaigns() {
     let mut tasks = spoilt_tasks(&mut rng, 80);
     tasks.extend((0..40).map(|_| task(&mut rng, Kind::Written)));
     tasks.extend(normal_tasks(704, 20));
+    tasks.extend(normal_tasks(705, 20).map(|task| stored(&mut rng, &task)));
     for (i, task) in tasks.iter_mut().enumerate() {
         let state = wrong_state(&mut rng, &task.state);
         if state.len() <= 184 && i % 4 == 0 {
@@ -172,40 +194,48 @@ fn check_printed(task: &Task, folder: &Folder) -> usize {
     let plan = normal.and_then(|normal| planned(&PROVED, &normal, state));
     let after = proved::step(table, state, 0, &mut vec![0; state.len()]);
     let text = texted(&PROVED, task);
-    let answers: [(&[&str], Option<Refusal>); 6] = [
+    let rewritten = rewritten(&PROVED, table);
+    let answers: [(&[&str], Option<Refusal>); 7] = [
         (&["show", "task.bin"], proved::read(table).err()),
         (&["decide", "."], plan.as_ref().err().copied()),
         (&["plan", "."], plan.as_ref().err().copied()),
         (&["why", "."], plan.as_ref().err().copied()),
         (&["step", ".", "a0"], after.err()),
         (&["pddl", "."], text.as_ref().err().copied()),
+        (
+            &["rewrite", "task.bin", OUT],
+            rewritten.as_ref().err().copied(),
+        ),
     ];
     for (words, refusal) in &answers {
-        let printed = lapyndo(&folder.0, words);
-        assert_eq!(printed.error, "", "{task} {words:?}");
-        assert_eq!(
-            printed.status,
-            i32::from(refusal.is_some()),
-            "{task} {words:?}"
-        );
-        if let Some(refusal) = refusal {
-            let line = format!("{refusal}: ");
-            let found = printed.out.lines().any(|found| found.starts_with(&line));
-            assert!(found, "{task} {words:?}\n{}", printed.out);
-        }
+        check_answer(task, &lapyndo(&folder.0, words), *refusal);
     }
-    check_files(task, folder, text.ok());
+    check_files(task, folder, text.ok(), rewritten.ok());
     answers
         .iter()
         .filter(|(_, refusal)| refusal.is_some())
         .count()
 }
 
-/// The files that `pddl` wrote are the parts of the engine's text; after a refusal there are none.
-fn check_files(task: &Task, folder: &Folder, text: Option<String>) {
+/// A refusal is printed, with its status; otherwise there is an answer.
+fn check_answer(task: &Task, printed: &Printed, refusal: Option<Refusal>) {
+    assert_eq!(printed.error, "", "{task}");
+    let status = i32::from(refusal.is_some());
+    assert_eq!(printed.status, status, "{task}\n{}", printed.out);
+    if let Some(refusal) = refusal {
+        let line = format!("{refusal}: ");
+        let found = printed.out.lines().any(|found| found.starts_with(&line));
+        assert!(found, "{task} {line}\n{}", printed.out);
+    }
+}
+
+/// The files that `pddl` wrote are the parts of the engine's text, and what `rewrite` wrote is the
+/// engine's table; after a refusal there are none.
+fn check_files(task: &Task, folder: &Folder, text: Option<String>, rewritten: Option<Vec<u8>>) {
     let written = PDDL.map(|file| fs::read_to_string(folder.0.join(file)).ok());
     let expected = text.map_or([None, None], |text| pddl_parts(&text).map(Some));
     assert_eq!(written, expected, "{task}");
+    assert_eq!(fs::read(folder.0.join(OUT)).ok(), rewritten, "{task}");
 }
 
 /// The script finds the program and the campaign from any folder, through a link and with a

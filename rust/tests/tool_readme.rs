@@ -2,6 +2,11 @@
 
 use crate::common::folder::{examples, repository, Folder};
 use crate::tool::lapyndo;
+use crate::tool_rewrite::rows;
+use campaign::answer::Answer;
+use campaign::engine::Engine;
+use campaign::harness::campaigned;
+use campaign::proved::{self, PROVED};
 use std::fs;
 use std::path::Path;
 
@@ -16,7 +21,8 @@ fn copy() -> Folder {
         let name = example.file_name().expect("a name");
         let folder = copy.0.join("examples").join(name);
         fs::create_dir_all(&folder).expect("a folder");
-        for file in ["task.bin", "state.bin"] {
+        let files = ["task.bin", "state.bin", "stored.bin"].iter();
+        for file in files.filter(|file| example.join(file).is_file()) {
             fs::copy(example.join(file), folder.join(file)).expect("a file");
         }
     }
@@ -28,23 +34,40 @@ fn indented(text: &str) -> impl Iterator<Item = &str> {
     text.lines().filter_map(|line| line.strip_prefix("    "))
 }
 
+/// The sessions with `lapyndo` that a page shows: the words given and all that is printed.
+fn sessions(page: &str) -> Vec<(&str, String)> {
+    let mut sessions: Vec<(&str, String)> = Vec::new();
+    let mut open = false;
+    for line in page.lines() {
+        let Some(line) = line.strip_prefix("    ") else {
+            open = false;
+            continue;
+        };
+        if let Some(words) = line.strip_prefix("$ ./lapyndo ") {
+            sessions.push((words, String::new()));
+            open = true;
+        } else if let Some((_, printed)) = sessions.last_mut().filter(|_| open) {
+            *printed += &format!("{line}\n");
+        }
+    }
+    sessions
+}
+
+/// Runs the sessions of a page in a folder and answers their commands.
+fn check_shown<'p>(folder: &Folder, page: &'p str) -> Vec<&'p str> {
+    let checked = sessions(page).into_iter().map(|(line, expected)| {
+        let words: Vec<&str> = line.split(' ').collect();
+        assert_eq!(lapyndo(&folder.0, &words).out, expected, "{words:?}");
+        words[0]
+    });
+    checked.collect()
+}
+
 #[test]
 fn the_readme_shows_what_is_printed() {
     let readme = text(&repository().join("README.md"));
-    let shown: String = indented(&readme).map(|line| format!("{line}\n")).collect();
-    let (_, sessions) = shown.split_once("$ ./lapyndo ").expect("a session");
-    let copy = copy();
-    let sessions: Vec<&str> = sessions.split("$ ./lapyndo ").collect();
-    for session in &sessions {
-        let (words, expected) = session.split_once('\n').expect("a line of words");
-        let words: Vec<&str> = words.split(' ').collect();
-        assert_eq!(lapyndo(&copy.0, &words).out, expected, "{words:?}");
-    }
-    let commands: Vec<&str> = sessions
-        .iter()
-        .filter_map(|session| session.split(' ').next())
-        .collect();
-    assert_eq!(commands, ["plan", "step", "why", "pddl"]);
+    let commands = check_shown(&copy(), &readme);
+    assert_eq!(commands, ["plan", "step", "why", "pddl", "rewrite"]);
 }
 
 /// An example's README shows lines of what `why` prints.
@@ -58,4 +81,54 @@ fn an_example_shows_what_blocks() {
     for line in shown {
         assert!(printed.lines().any(|found| found == line), "{line}");
     }
+}
+
+/// The page, the stored and the rewritten table and the state of the example of the rewriter.
+fn unfinished_rows() -> (String, [Vec<u8>; 3]) {
+    let folder = repository().join("examples/unfinished_rows");
+    let files = ["stored.bin", "task.bin", "state.bin"];
+    let files = files.map(|file| fs::read(folder.join(file)).expect("a file"));
+    (text(&folder.join("README.md")), files)
+}
+
+#[test]
+fn an_example_shows_how_a_stored_table_is_rewritten() {
+    let (page, [stored, table, state]) = unfinished_rows();
+    let copy = copy();
+    assert_eq!(check_shown(&copy, &page), ["rewrite", "rewrite"]);
+    let rewritten = fs::read(copy.0.join("rewritten.bin")).expect("a file");
+    assert_eq!(rewritten, table);
+    let listed = PROVED.listing(&stored, &state);
+    assert!(listed.starts_with("refusal 16 place "), "{listed}");
+    assert!(indented(&page).any(|line| line == listed.trim_end()));
+}
+
+/// The list of the stored table, numbered as the page says, is the list that it shows beside it,
+/// and that one reaches the goal.
+#[test]
+fn an_example_shows_a_list_with_new_numbers() {
+    let (page, [_, table, mut state]) = unfinished_rows();
+    let list = |name| -> Vec<u64> {
+        let list = indented(&page).find_map(|line| line.strip_prefix(name));
+        let numbers = list.expect("a list").split_whitespace();
+        numbers
+            .map(|number| number.parse().expect("a number"))
+            .collect()
+    };
+    let (_, printed) = sessions(&page).swap_remove(0);
+    let numbers: Vec<(u64, u64)> = rows(&printed, " -> a")
+        .map(|(old, new)| (old as u64, new.parse().expect("a number")))
+        .collect();
+    let new = |old: &u64| numbers.iter().find(|(number, _)| number == old);
+    let renumbered = list("stored ");
+    let renumbered = renumbered.iter().filter_map(new).map(|(_, new)| *new);
+    let renumbered: Vec<u64> = renumbered.collect();
+    assert_eq!(renumbered, list("now "));
+    for mv in renumbered {
+        let mut after = state.clone();
+        proved::step(&table, &state, mv, &mut after).expect("a move that can be made");
+        state = after;
+    }
+    let planned = campaigned(&PROVED, &table, &state).expect("an accepted campaign");
+    assert_eq!(planned.plan.answer, Answer::Layer(0));
 }

@@ -10,13 +10,14 @@ use std::io;
 use std::os::unix::fs::symlink;
 use std::process::{Command, Stdio};
 
-const COMMANDS: [(&str, &str); 6] = [
+const COMMANDS: [(&str, &str); 7] = [
     ("show", "FILE"),
     ("decide", "FOLDER"),
     ("plan", "FOLDER"),
     ("why", "FOLDER"),
     ("step", "FOLDER MOVE"),
     ("pddl", "FOLDER"),
+    ("rewrite", "FILE OUT"),
 ];
 
 fn here() -> Folder {
@@ -31,7 +32,7 @@ fn answer(words: &[&str]) -> String {
 }
 
 /// The one line on standard error where it is wrong.
-fn complaint(printed: Printed) -> String {
+pub fn complaint(printed: Printed) -> String {
     assert_eq!(
         (printed.status, &*printed.out),
         (2, ""),
@@ -113,6 +114,10 @@ fn wrong_words() {
         (
             "step .",
             "1 argument given; usage: lapyndo step FOLDER MOVE",
+        ),
+        (
+            "rewrite task.bin",
+            "1 argument given; usage: lapyndo rewrite FILE OUT",
         ),
         ("step . b1", &format!("'b1' {no_move}")),
         ("step . a", &format!("'a' {no_move}")),

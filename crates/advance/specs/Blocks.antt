@@ -9,11 +9,12 @@ use lib.Dec.{leb·zero}
 use lib.ListN.{length, getD, set, length-append}
 use borrow.Author.Tests.{leb-false, ltb-false}
 use Rattle.model.specs.Lists.{all, any, anyBelow}
-use Rattle.model.specs.Task.{kept, Block}
+use Rattle.model.specs.Task.{kept, Block, active}
 use Rattle.model.specs.Task as task
 use Rattle.model.specs.Circle.{itemEdge}
 use Rattle.model.specs.Command.{Command, head, openMove, openGoal, endTable, unknown, width, Place, start, preamble, inMove, inGoal, finished, inPlace}
-use Rattle.model.specs.Reading.{Seen, nothingSeen, byteAfter, opened, closed, withHead, withMark, advance}
+use Rattle.model.specs.Seen.{Seen, nothingSeen, byteAfter, closed, withHead, withMark, advance}
+use Rattle.model.specs.Reading.{opened}
 use Rattle.model.specs.Theorems.Reading.Commands.{width-positive, none-finished}
 use Rattle.cursor.specs.declared.Cursor.{Cursor}
 use Rattle.command.specs.declared.Form.{Form}
@@ -70,10 +71,11 @@ module _ {t : List ℕ} {c : Cursor} {nd ch af : List ℕ} {es : List Bool} {mk 
       → Stamped changes 120 n b ch
       → Stamped affects 32 n b af
       → Drawn (closed q ms b) es
+      → (q ≡ inMove → b ≡ [])
       → c .marked < 66
       → Tracks t (markCursor c p o n) nd ch af es (set mk (c .marked) (c .at)) (withMark s q ms b)
   unfolding markCursor withMark headOf all any anyBelow kept
-  mark-tracks p q o n ms b e elsewhere ho hc a d f g room =
+  mark-tracks p q o n ms b e elsewhere ho hc a d f g empty room =
       record {
         at = ap (λ (x : ℕ). x + 1) (h .at);
         place = e;
@@ -83,6 +85,7 @@ module _ {t : List ℕ} {c : Cursor} {nd ch af : List ℕ} {es : List Bool} {mk 
         terms = refl;
         rising = λ x. sym (leb·zero x);
         sources = λ u. refl;
+        active = λ x. sym (ap active (empty x) ∙ (unfold active in refl));
         needed = a;
         changed = d;
         affected = f;
@@ -96,6 +99,11 @@ not-first : (q : Place) → (q ≡ inMove) ⊎ ((q ≡ inGoal) ⊎ (q ≡ finish
 not-first q (inl e) f = let z : _≡_ {A = ℕ} 0 1 = cc in omega arith
 not-first q (inr (inl e)) f = let z : _≡_ {A = ℕ} 0 1 = cc in omega arith
 not-first q (inr (inr e)) f = let z : _≡_ {A = ℕ} 0 1 = cc in omega arith
+
+-- the places behind the moves and before them
+no-move : (q : Place) → (q ≡ preamble) ⊎ (q ≡ finished) → q ≡ inMove → ⊥
+no-move q (inl e) f = let z : _≡_ {A = ℕ} 0 1 = cc in omega arith
+no-move q (inr e) f = let z : _≡_ {A = ℕ} 0 1 = cc in omega arith
 
 in-goal : (p : code.Place) → inPlace (placeOf p) endTable ≡ true → p ≡ InGoal
 unfolding inPlace placeOf
@@ -121,6 +129,7 @@ module _ {t : List ℕ} {c : Cursor} {nd ch af : List ℕ} {es : List Bool} {mk 
             (ap (λ (x : ℕ). x + 1) (h .closes) ∙ sym (unfold closed in (length-append (closed (s .place) (s .moves) (s .items)) ([] ∷ []) ∙ omega arith)))
             (stamped-new (h .needed)) (stamped-new (h .changed)) (stamped-new (h .affected))
             (record { size = h .edges .size; same = λ u w a b. h .edges .same u w a b ∙ sym (closed-new (itemEdge u w) (s .place) (s .moves) (s .items)) })
+            (λ x. refl)
             (mark-room openMove v (k .placed));
       })
     where
@@ -149,6 +158,7 @@ module _ {t : List ℕ} {c : Cursor} {nd ch af : List ℕ} {es : List Bool} {mk 
             (unfold closed in h .closes)
             (stamped-new (h .needed)) (stamped-new (h .changed)) (stamped-new (h .affected))
             (unfold closed in h .edges)
+            (λ x. refl)
             (mark-room openGoal v (k .placed));
       })
     where
@@ -186,6 +196,7 @@ module _ {t : List ℕ} {c : Cursor} {nd ch af : List ℕ} {es : List Bool} {mk 
           (h .closes ∙ ap (λ (x : Place). length (closed x (s .moves) (s .items))) e ∙ (unfold closed in refl))
           (h .needed) (h .changed) (h .affected)
           (unfold closed in (rw e at (h .edges)))
+          (λ x. absurd (no-move finished (inr refl) x))
           (mark-room endTable v (k .placed))
 
 -- ---- the head
@@ -217,6 +228,7 @@ module _ {t : List ℕ} {c : Cursor} {nd ch af : List ℕ} {es : List Bool} {mk 
         terms = refl;
         rising = λ x. sym (leb·zero x);
         sources = λ u. refl;
+        active = λ x. absurd (no-move preamble (inl refl) x);
         needed = rw items at (h .needed);
         changed = rw items at (h .changed);
         affected = rw items at (h .affected);

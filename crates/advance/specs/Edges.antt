@@ -13,7 +13,7 @@ use Rattle.model.specs.Command.{Place, start, preamble, inMove, inGoal, finishe
 use Rattle.model.specs.Lists.{any, anyBelow}
 use Rattle.model.specs.Task.{Item, Block}
 use Rattle.model.specs.Circle.{itemEdge}
-use Rattle.model.specs.Reading.{closed}
+use Rattle.model.specs.Seen.{closed}
 use Rattle.model.specs.Theorems.Laws.Booleans.{T-cases, T-true, and-left, and-right, and-both}
 use Rattle.circle.specs.Walks.{tableEdge}
 use Rattle.advance.specs.Stamps.{or-false, or-true, or-assoc, any-snoc}

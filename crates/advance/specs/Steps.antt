@@ -3,22 +3,23 @@
 use Prim.Native.Nat.{ℕ, _+_, _≤_, _<_}
 use native.Mathlib.Omega.{arith}
 use mathlib.Core.Path.{_≡_, refl, sym, ap, _∙_, subst}
-use mathlib.Core.Bool.{Bool, true, false}
+use mathlib.Core.Bool.{Bool, true, false, _||_}
 use mathlib.Core.List.{List, [], _∷_, _++_}
 use mathlib.Core.Option.{some}
 use lib.Dec.{T, leb·zero}
 use lib.ListN.{length, length-append}
 use Rattle.model.specs.Lists.{all, any, anyBelow}
-use Rattle.model.specs.Task.{kept, Item, Block}
+use Rattle.model.specs.Task.{kept, Item, Block, active}
+use Rattle.model.specs.Task as task
 use Rattle.model.specs.Circle.{itemEdge}
 use Rattle.model.specs.Command.{Command, Place, start, preamble, inMove, inGoal, finished, inPlace}
-use Rattle.model.specs.Reading.{Seen, closed, withItem, advance}
+use Rattle.model.specs.Seen.{Seen, closed, withItem, advance}
 use Rattle.cursor.specs.declared.Cursor.{Cursor}
 use Rattle.command.specs.declared.Place as code
 use Rattle.command.specs.declared.Place.the-variants.{Start, Preamble, InMove, InGoal, Finished}
 use Rattle.command.specs.Names.{placeOf}
 use Rattle.cursor.specs.State.{itemCursor, Valid}
-use Rattle.advance.specs.Stamps.{needs, changes, affects, Stamped}
+use Rattle.advance.specs.Stamps.{needs, changes, affects, Stamped, any-snoc}
 use Rattle.advance.specs.Edges.{Drawn, closed-other}
 use Rattle.advance.specs.Marks.{marks-later}
 use Rattle.advance.specs.Tracks.{headOf, Tracks}
@@ -52,8 +53,13 @@ length-closed finished ms b d = refl
 
 -- ---- items
 
-module _ {t : List ℕ} {c : Cursor} (v : Valid t c) (n : ℕ) (room : c .at + n ≤ length t) (wide : 0 < n) where
-  pub item-valid : Valid t (itemCursor c n)
+-- one item more
+active-snoc : (b : Block) (i : Item) → active (b ++ (i ∷ [])) ≡ (active b || task.changes i)
+unfolding active
+active-snoc b i = any-snoc task.changes b i
+
+module _ {t : List ℕ} {c : Cursor} (v : Valid t c) (n : ℕ) (room : c .at + n ≤ length t) (wide : 0 < n) (active : Bool) where
+  pub item-valid : Valid t (itemCursor c n active)
   unfolding itemCursor
   item-valid =
       record {
@@ -69,22 +75,23 @@ module _ {t : List ℕ} {c : Cursor} (v : Valid t c) (n : ℕ) (room : c .at + n
         blocks = omega (arith, v .blocks);
       }
 
-  pub item-moved : c .at < itemCursor c n .at
+  pub item-moved : c .at < itemCursor c n active .at
   unfolding itemCursor
   item-moved = omega (arith, wide)
 
 module _ {t : List ℕ} {c : Cursor} {nd ch af : List ℕ} {es : List Bool} {mk : List ℕ} {s : Seen} (h : Tracks t c nd ch af es mk s) where
   -- an item, with what it names and draws entered
   pub item-tracks :
-      (n : ℕ) (i : Item) {nd′ ch′ af′ : List ℕ} {es′ : List Bool}
+      (n : ℕ) (a : Bool) (i : Item) {nd′ ch′ af′ : List ℕ} {es′ : List Bool}
       → (s .place ≡ start → ⊥)
+      → a ≡ (c .active || task.changes i)
       → Stamped needs 120 (c .stamp) (s .items ++ (i ∷ [])) nd′
       → Stamped changes 120 (c .stamp) (s .items ++ (i ∷ [])) ch′
       → Stamped affects 32 (c .stamp) (s .items ++ (i ∷ [])) af′
       → Drawn (closed (s .place) (s .moves) (s .items ++ (i ∷ []))) es′
-      → Tracks t (itemCursor c n) nd′ ch′ af′ es′ mk (withItem s n (some i))
+      → Tracks t (itemCursor c n a) nd′ ch′ af′ es′ mk (withItem s n (some i))
   unfolding itemCursor withItem headOf all any anyBelow kept
-  item-tracks n i elsewhere a b d e =
+  item-tracks n x i elsewhere does a b d e =
       record {
         at = ap (λ (x : ℕ). x + n) (h .at);
         place = h .place;
@@ -94,6 +101,7 @@ module _ {t : List ℕ} {c : Cursor} {nd ch af : List ℕ} {es : List Bool} {mk 
         terms = refl;
         rising = λ x. sym (leb·zero x);
         sources = λ u. refl;
+        active = λ f. does ∙ ap (λ (y : Bool). y || task.changes i) (h .active f) ∙ sym (active-snoc (s .items) i);
         needed = a;
         changed = b;
         affected = d;

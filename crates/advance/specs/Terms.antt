@@ -14,7 +14,7 @@ use Rattle.model.specs.Limits.{paper}
 use Rattle.model.specs.Lists.{all, any, anyBelow}
 use Rattle.model.specs.Task.{Term, kept}
 use Rattle.model.specs.Command.{term, width, inPlace}
-use Rattle.model.specs.Reading.{Seen, byteAfter, numberAfter, termAt, withTerm, advance}
+use Rattle.model.specs.Seen.{Seen, byteAfter, numberAfter, termAt, withTerm, advance}
 use Rattle.model.specs.Theorems.Laws.Booleans.{T-equal, and-right, and-both}
 use Rattle.model.specs.Theorems.Laws.Searching.{below-suc}
 use Rattle.model.specs.Theorems.Reading.Commands.{width-positive}
@@ -122,6 +122,7 @@ module _ {t : List ℕ} {c : Cursor} (v : Valid t c) where
         terms = ap (λ (x : ℕ). x + 1) (h .terms) ∙ sym (length-append (s .terms) (record { var = p; weight = z } ∷ []) ∙ omega arith);
         rising = λ x. all-snoc (λ (u : Term). ltb (u .var) x) (s .terms) (record { var = p; weight = z }) ∙ ap (λ (b : Bool). b && ltb p x) (h .rising x) ∙ next-after (c .next) p x (omega (arith, term-fresh k .0));
         sources = λ u. any-kept-snoc (λ (x : Term). eqb (x .var) u) (s .terms) (record { var = p; weight = z }) ∙ ap₂ _||_ (h .sources u) (here u) ∙ (rw (same-from p, add-one (c .terms)) (unfold anyBelow in refl));
+        active = h .active;
         needed = h .needed;
         changed = h .changed;
         affected = h .affected;

@@ -2,7 +2,7 @@
 -- Assumes nothing.
 use Prim.Native.Nat.{ℕ, _+_, _*_, _-_}
 use mathlib.Core.Path.{_≡_, refl, sym, ap, ap₂, _∙_}
-use mathlib.Core.Bool.{Bool}
+use mathlib.Core.Bool.{Bool, true, false, not, _&&_}
 use mathlib.Core.List.{List, [], _∷_}
 use mathlib.Core.Option.{Option}
 use lib.Dec.{eqb, leb, ltb}
@@ -10,12 +10,13 @@ use lib.ListN.{length, getD}
 use Rattle.model.specs.declared.Refusal.{Refusal}
 use Rattle.model.specs.Limits.{Limits, paper}
 use Rattle.model.specs.Lists.{all, any, anyBelow}
-use Rattle.model.specs.Task.{Term, kept}
-use Rattle.model.specs.Command.{Command, head, openMove, openGoal, endTable, needProp, addProp, deleteProp, term, closeCondition, closeEffect, unknown, width, start}
-use Rattle.model.specs.Reading.{Wanted, Head, Seen, nothingSeen, byteAfter, numberAfter, itemAt, firstWrong, operands, leavesOpen, wrong3, wrong2, opened, wrong6, namedAgain, wrong5, refusedAt, refusedOperand, firstRefusal, refusal, closed}
+use Rattle.model.specs.Task.{Term, Block, kept, active}
+use Rattle.model.specs.Command.{Command, head, openMove, openGoal, endTable, needProp, addProp, deleteProp, term, closeCondition, closeEffect, unknown, width, Place, start, preamble, inMove, inGoal, finished, order}
+use Rattle.model.specs.Seen.{Head, Seen, nothingSeen, byteAfter, numberAfter, itemAt, closed}
+use Rattle.model.specs.Reading.{Wanted, firstWrong, operands, leavesOpen, wrong3, wrong2, opened, wrong6, checks16, idle, wrong16, namedAgain, wrong5, refusedAt, refusedOperand, firstRefusal, refusal}
 use Rattle.cursor.specs.declared.Cursor.{Cursor}
 use Rattle.command.specs.Names.{formOf, placeOf}
-use Rattle.command.specs.Checks.{misplaced, miscounted}
+use Rattle.command.specs.Checks.{liesIn, misplaced, miscounted, unfinished, closesIdle}
 use Rattle.operand.specs.Ranges.{wrongOperand, viewAt}
 use Rattle.cursor.specs.State.{repeated, wrongAt, refusedOffset, inOrder, cursorRefusal}
 use Rattle.cursor.specs.Passing.{operands-refused}
@@ -39,6 +40,7 @@ pub record Tracks (t : List ℕ) (c : Cursor) (nd ch af : List ℕ) (es : List B
   pub terms : c .terms ≡ length (s .terms)
   pub rising : (v : ℕ) → all (λ (u : Term). ltb (u .var) v) (s .terms) ≡ leb (c .next) v
   pub sources : (u : ℕ) → any (λ (x : Term). eqb (x .var) u) (kept (s .terms)) ≡ anyBelow (sourceIs t (openFrom c) u) (c .terms)
+  pub active : s .place ≡ inMove → c .active ≡ active (s .items)
   pub needed : Stamped needs 120 (c .stamp) (s .items) nd
   pub changed : Stamped changes 120 (c .stamp) (s .items) ch
   pub affected : Stamped affects 32 (c .stamp) (s .items) af
@@ -63,11 +65,28 @@ operands-view L t s closeEffect = refl
 operands-view L t s unknown = refl
 
 together :
-    (p q : ℕ) (a a′ b b′ d d′ : Bool) (x x′ : Option Refusal) (e e′ : Bool)
-    → p ≡ q → a ≡ a′ → b ≡ b′ → d ≡ d′ → x ≡ x′ → e ≡ e′
-    → firstRefusal (refusedAt 3 a p ∷ refusedAt 2 b p ∷ refusedAt 6 d p ∷ x ∷ refusedAt 5 e p ∷ [])
-    ≡ firstRefusal (refusedAt 3 a′ q ∷ refusedAt 2 b′ q ∷ refusedAt 6 d′ q ∷ x′ ∷ refusedAt 5 e′ q ∷ [])
-together p q a a′ b b′ d d′ x x′ e e′ h1 h2 h3 h4 h5 h6 = rw (h1, h2, h3, h4, h5, h6) refl
+    (p q : ℕ) (a a′ b b′ d d′ i i′ : Bool) (x x′ : Option Refusal) (e e′ : Bool)
+    → p ≡ q → a ≡ a′ → b ≡ b′ → d ≡ d′ → i ≡ i′ → x ≡ x′ → e ≡ e′
+    → firstRefusal (refusedAt 3 a p ∷ refusedAt 2 b p ∷ refusedAt 6 d p ∷ refusedAt 16 i p ∷ x ∷ refusedAt 5 e p ∷ [])
+    ≡ firstRefusal (refusedAt 3 a′ q ∷ refusedAt 2 b′ q ∷ refusedAt 6 d′ q ∷ refusedAt 16 i′ q ∷ x′ ∷ refusedAt 5 e′ q ∷ [])
+together p q a a′ b b′ d d′ i i′ x x′ e e′ h1 h2 h3 h4 h5 h6 h7 = rw (h1, h2, h3, h4, h5, h6, h7) refl
+
+-- check 16, by the place
+elsewhere : (c x : Bool) → (c && false && x) ≡ (c && false)
+elsewhere true x = refl
+elsewhere false x = refl
+
+same-idle : (w : Wanted) (p : Place) (x : Bool) (b : Block) → (p ≡ inMove → x ≡ active b) → unfinished w p x ≡ (checks16 w && idle p b)
+unfolding unfinished liesIn order idle
+same-idle w start x b e = elsewhere (checks16 w) (not x)
+same-idle w preamble x b e = elsewhere (checks16 w) (not x)
+same-idle w inMove x b e = ap (λ (a : Bool). checks16 w && true && not a) (e refl) ∙ here (checks16 w)
+  where
+    here : (c : Bool) → (c && true && not (active b)) ≡ (c && not (active b))
+    here true = refl
+    here false = refl
+same-idle w inGoal x b e = elsewhere (checks16 w) (not x)
+same-idle w finished x b e = elsewhere (checks16 w) (not x)
 
 module _ {t : List ℕ} {c : Cursor} {needed changed affected : List ℕ} {edges : List Bool} {marks : List ℕ} {s : Seen}
     (h : Tracks t c needed changed affected edges marks s) where
@@ -96,6 +115,20 @@ module _ {t : List ℕ} {c : Cursor} {needed changed affected : List ℕ} {edges
   same-6 closeCondition = refl
   same-6 closeEffect = refl
   same-6 unknown = refl
+
+  same-16 : (w : Wanted) (k : Command) → closesIdle w (placeOf (c .place)) (c .active) k ≡ wrong16 w s k
+  unfolding closesIdle wrong16
+  same-16 w (head f) = refl
+  same-16 w openMove = rw (h .place) (same-idle w (s .place) (c .active) (s .items) (h .active))
+  same-16 w openGoal = rw (h .place) (same-idle w (s .place) (c .active) (s .items) (h .active))
+  same-16 w endTable = refl
+  same-16 w needProp = refl
+  same-16 w addProp = refl
+  same-16 w deleteProp = refl
+  same-16 w term = refl
+  same-16 w closeCondition = refl
+  same-16 w closeEffect = refl
+  same-16 w unknown = refl
 
   -- the operands as the cursor sees them
   same-operands : (k : Command) → operands paper t (viewAt (c .at) (formOf (c .form)) (c .props) (c .vars)) k ≡ operands paper t s k
@@ -126,4 +159,4 @@ module _ {t : List ℕ} {c : Cursor} {needed changed affected : List ℕ} {edges
   -- the code's checks are model's
   pub tracks-refusal : (w : Wanted) (k : Command) → cursorRefusal w t c needed changed affected k ≡ refusal paper w t s k
   unfolding cursorRefusal inOrder refusal
-  tracks-refusal w k = together _ _ _ _ _ _ _ _ _ _ _ _ (h .at) (same-3 w k) (same-2 k) (same-6 k) (same-4 k) (same-5 k)
+  tracks-refusal w k = together _ _ _ _ _ _ _ _ _ _ _ _ _ _ (h .at) (same-3 w k) (same-2 k) (same-6 k) (same-16 w k) (same-4 k) (same-5 k)

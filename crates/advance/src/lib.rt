@@ -26,6 +26,7 @@ fn with_head(c: Cursor, form: Form, props: usize, vars: usize, moves: usize) -> 
         opened: 0,
         terms: 0,
         next: 0,
+        active: false,
         marked: 0,
         stamp: c.stamp,
     }
@@ -47,6 +48,7 @@ fn with_mark(c: Cursor, place: Place, opened: usize, stamp: u64) -> Cursor
         opened: opened,
         terms: 0,
         next: 0,
+        active: false,
         marked: c.marked + 1,
         stamp: stamp,
     }
@@ -63,14 +65,15 @@ fn with_term(mut c: Cursor, var: usize) -> Cursor
     c
 }
 
-// The cursor behind an item of `width` bytes.
-fn with_item(mut c: Cursor, width: usize) -> Cursor
+// The cursor behind an item of `width` bytes. `active`: does the block change something, with this item?
+fn with_item(mut c: Cursor, width: usize, active: bool) -> Cursor
     requires { ⌜ c .at + width < 2 ^ 64 ⌝ }
-    ensures { λ r. ⌜ r ≡ itemCursor c width ⌝ }
+    ensures { λ r. ⌜ r ≡ itemCursor c width active ⌝ }
 {
     c.at = c.at + width;
     c.terms = 0;
     c.next = 0;
+    c.active = active;
     c
 }
 
@@ -140,29 +143,29 @@ pub fn advance(
         Command::NeedProp => {
             let prop = operand::byte(table, at + 1);
             needed[prop] = stamp;
-            with_item(c, 2)
+            with_item(c, 2, c.active)
         }
         Command::AddProp => {
             let prop = operand::byte(table, at + 1);
             changed[prop] = stamp;
-            with_item(c, 2)
+            with_item(c, 2, true)
         }
         Command::DeleteProp => {
             let prop = operand::byte(table, at + 1);
             changed[prop] = stamp;
-            with_item(c, 2)
+            with_item(c, 2, true)
         }
         Command::Term => {
             let var = operand::byte(table, at + 1);
             with_term(c, var)
         }
-        Command::CloseCondition => with_item(c, 6),
+        Command::CloseCondition => with_item(c, 6, c.active),
         Command::CloseEffect => {
             let kind = operand::byte(table, at + 1);
             let var = operand::byte(table, at + 2);
             draw(table, at - 4 * c.terms, var, c.terms, kind, edges);
             affected[var] = stamp;
-            with_item(c, 7)
+            with_item(c, 7, true)
         }
         Command::Unknown => c,
     }

@@ -9,7 +9,7 @@ use lib.ListN.{length}
 use Rattle.model.specs.Limits.{paper, comparisonInRange}
 use Rattle.model.specs.Task.{written, Condition, Kind, assign, increase, decrease, Effect, Item, need, add, delete, condition, effect, Block}
 use Rattle.model.specs.Command.{kindCode, itemsBytes}
-use Rattle.model.specs.Reading.{comparisonOf, kindOf}
+use Rattle.model.specs.Seen.{comparisonOf, kindOf}
 use Rattle.model.specs.Theorems.Printing.Operands.{comparison-back, comparison-range, kind-back}
 use Rattle.block.specs.Bytes.{At, at-length}
 use Rattle.block.specs.Items.{Ranges, Left, Readable, readable, left-end, Followed, ConditionIs, EffectIs, ConditionFound, EffectFound, Found, behind, Next}

@@ -1,11 +1,11 @@
--- Checks 3 and 6 of one command over the numbers that the code keeps. Assumes nothing.
+-- Checks 3, 6 and 16 of one command over what the code keeps. Assumes nothing.
 use Prim.Native.Nat.{ℕ, _≤_, _<_}
 use mathlib.Core.Path.{_≡_, refl}
 use mathlib.Core.Bool.{Bool, true, false, _&&_, _||_, not}
 use lib.Dec.{ltb, leb}
 use borrow.Author.Tests.{le-leb, lt-leb}
 use Rattle.model.specs.Command.{Command, head, openMove, openGoal, endTable, needProp, addProp, deleteProp, term, closeCondition, closeEffect, unknown, Place, start, preamble, inMove, inGoal, finished, order, inPlace, afterTerm}
-use Rattle.model.specs.Reading.{Wanted, headWanted}
+use Rattle.model.specs.Reading.{Wanted, headWanted, checks16}
 
 -- is the place one of those from the first to the last
 unfoldable pub liesIn : Place → Place → Place → Bool
@@ -71,3 +71,43 @@ module _ (w : Wanted) (p : Place) (n : ℕ) (c : Command) (a b f : Bool) (ea : a
   pub misplaced-open : a ≡ true → b ≡ true → ltb 0 n ≡ true → not f ≡ misplaced w p n c
   unfolding misplaced
   misplaced-open h k e = rw (← ea, ← eb, ← ef, h, k, e) refl
+
+-- check 16, of the open block, which changes something or does not
+unfoldable pub unfinished : Wanted → Place → Bool → Bool
+unfinished w p active = checks16 w && liesIn inMove inMove p && not active
+
+unfoldable pub closesIdle : Wanted → Place → Bool → Command → Bool
+closesIdle w p active (head f) = false
+closesIdle w p active openMove = unfinished w p active
+closesIdle w p active openGoal = unfinished w p active
+closesIdle w p active endTable = false
+closesIdle w p active needProp = false
+closesIdle w p active addProp = false
+closesIdle w p active deleteProp = false
+closesIdle w p active term = false
+closesIdle w p active closeCondition = false
+closesIdle w p active closeEffect = false
+closesIdle w p active unknown = false
+
+-- the three ways through it
+module _ (w : Wanted) (p : Place) where
+  pub unfinished-active : (a : Bool) → a ≡ true → false ≡ unfinished w p a
+  unfolding unfinished
+  unfinished-active a e = rw e (go (checks16 w) (liesIn inMove inMove p))
+    where
+      go : (x y : Bool) → false ≡ (x && y && false)
+      go true true = refl
+      go true false = refl
+      go false y = refl
+
+  pub unfinished-stored : (a : Bool) → checks16 w ≡ false → false ≡ unfinished w p a
+  unfolding unfinished
+  unfinished-stored a e = rw e refl
+
+  pub unfinished-place : (a r : Bool) → a ≡ false → checks16 w ≡ true → r ≡ liesIn inMove inMove p → r ≡ unfinished w p a
+  unfolding unfinished
+  unfinished-place a r e h k = rw (e, h, k) (go (liesIn inMove inMove p))
+    where
+      go : (x : Bool) → x ≡ (x && true)
+      go true = refl
+      go false = refl

@@ -40,3 +40,4 @@ unfoldable pub wantedOf : Wanted → reading.Wanted
 wantedOf wanted.Written = reading.Wanted.only task.Form.written
 wantedOf wanted.Normal = reading.Wanted.only task.Form.normal
 wantedOf wanted.Both = reading.Wanted.both
+wantedOf wanted.Stored = reading.Wanted.stored

@@ -1,10 +1,10 @@
 // The commands of a table (document 01, "Campaign table"): the byte of each, where it may stand, and the checks that need neither
-// its operands nor the commands before it, 3 and 6.
+// its operands nor what the commands before it name: 3, 6 and 16.
 ghost use mathlib.Core.Path.{_≡_};
 ghost use Rattle.model.specs.Command.{codeOf, commandOf, width, order, inPlace, afterTerm, head};
 ghost use Rattle.model.specs.Reading.{headWanted};
 ghost use Rattle.command.specs.Names.{formOf, commandIs, placeOf, wantedOf};
-ghost use Rattle.command.specs.Checks.{liesIn, misplaced, miscounted};
+ghost use Rattle.command.specs.Checks.{liesIn, misplaced, miscounted, unfinished, closesIdle};
 
 // "54 P V A: head of a written table"; "4E P N A: head of a normal table"
 pub enum Form {
@@ -12,11 +12,12 @@ pub enum Form {
     Normal,
 }
 
-// The heads that a call takes.
+// The heads that a call takes. A stored table may have either, and moves that do nothing.
 pub enum Wanted {
     Written,
     Normal,
     Both,
+    Stored,
 }
 
 pub enum Command {
@@ -160,6 +161,7 @@ fn takes_head(wanted: Wanted, form: Form) -> bool
 {
     match wanted {
         Wanted::Both => true,
+        Wanted::Stored => true,
         Wanted::Written => match form {
             Form::Written => true,
             Form::Normal => false,
@@ -194,6 +196,30 @@ pub fn miscounted(command: Command, moves: usize, opened: usize) -> bool
     match command {
         Command::OpenMove => moves <= opened,
         Command::OpenGoal => opened < moves,
+        _ => false,
+    }
+}
+
+// Is a move that does nothing open, in a table that may have none? `active` says whether the open block changes something.
+fn unfinished(place: Place, active: bool, wanted: Wanted) -> bool
+    ensures { λ r. ⌜ r ≡ unfinished (wantedOf wanted) (placeOf place) active ⌝ }
+{
+    if active {
+        return false;
+    }
+    match wanted {
+        Wanted::Stored => false,
+        _ => lies(place, Place::InMove, Place::InMove),
+    }
+}
+
+// Check 16: "such a move, place the command that closes its block".
+pub fn closes_idle(place: Place, active: bool, wanted: Wanted, command: Command) -> bool
+    ensures { λ r. ⌜ r ≡ closesIdle (wantedOf wanted) (placeOf place) active (commandIs command) ⌝ }
+{
+    match command {
+        Command::OpenMove => unfinished(place, active, wanted),
+        Command::OpenGoal => unfinished(place, active, wanted),
         _ => false,
     }
 }

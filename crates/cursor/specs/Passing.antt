@@ -11,7 +11,8 @@ use borrow.Author.Tests.{ltb-true, leb-true}
 use Rattle.model.specs.Limits.{Limits, paper, varsInRange, kindInRange}
 use Rattle.model.specs.Task as task
 use Rattle.model.specs.Command.{Command, head, needProp, addProp, deleteProp, term, closeEffect}
-use Rattle.model.specs.Reading.{Seen, Operand, firstWrong, operands, byteAfter, refusedOperand}
+use Rattle.model.specs.Seen.{Seen, byteAfter}
+use Rattle.model.specs.Reading.{Operand, firstWrong, operands, refusedOperand}
 use Rattle.model.specs.Theorems.Reading.WellFormed.{All}
 use Rattle.model.specs.Theorems.Laws.Searching.{All-map}
 use Rattle.model.specs.Theorems.Reading.Places.{operands-near}

@@ -23,7 +23,7 @@ use Rattle.command.specs.declared.Form.the-variants as form
 use Rattle.cursor.specs.declared.Check.{Check}
 use Rattle.cursor.specs.declared.Check.the-variants.{Passes, Refused}
 use Rattle.command.specs.Names.{formOf, placeOf}
-use Rattle.command.specs.Checks.{misplaced, miscounted}
+use Rattle.command.specs.Checks.{misplaced, miscounted, closesIdle}
 use Rattle.operand.specs.Ranges.{wrongOperand}
 
 -- ---- the cursor before the first command, and behind each
@@ -40,6 +40,7 @@ startCursor =
       opened = 0;
       terms = 0;
       next = 0;
+      active = false;
       marked = 0;
       stamp = 1;
     }
@@ -56,6 +57,7 @@ headCursor c f props vars moves =
       opened = 0;
       terms = 0;
       next = 0;
+      active = false;
       marked = 0;
       stamp = c .stamp;
     }
@@ -72,6 +74,7 @@ markCursor c p opened stamp =
       opened = opened;
       terms = 0;
       next = 0;
+      active = false;
       marked = c .marked + 1;
       stamp = stamp;
     }
@@ -88,12 +91,13 @@ termCursor c var =
       opened = c .opened;
       terms = c .terms + 1;
       next = var + 1;
+      active = c .active;
       marked = c .marked;
       stamp = c .stamp;
     }
 
-unfoldable pub itemCursor : Cursor → ℕ → Cursor
-itemCursor c n =
+unfoldable pub itemCursor : Cursor → ℕ → Bool → Cursor
+itemCursor c n active =
     record {
       at = c .at + n;
       place = c .place;
@@ -104,6 +108,7 @@ itemCursor c n =
       opened = c .opened;
       terms = 0;
       next = 0;
+      active = active;
       marked = c .marked;
       stamp = c .stamp;
     }
@@ -158,49 +163,54 @@ unfoldable pub refusedOffset : ℕ → ℕ → Option Refusal
 refusedOffset p zero = none
 refusedOffset p (suc o) = some (record { number = 4; place = p + suc o })
 
--- "each command, in this order": 3, 2, 6, 4, 5
-unfoldable pub inOrder : ℕ → Bool → Bool → Bool → ℕ → Bool → Option Refusal
-inOrder p a b d o e =
-    firstRefusal (refusedAt 3 a p ∷ refusedAt 2 b p ∷ refusedAt 6 d p ∷ refusedOffset p o ∷ refusedAt 5 e p ∷ [])
+-- "each command, in this order": 3, 2, 6, 4, 5, with 16 "checked after 6"
+unfoldable pub inOrder : ℕ → Bool → Bool → Bool → Bool → ℕ → Bool → Option Refusal
+inOrder p a b d i o e =
+    firstRefusal
+    (refusedAt 3 a p ∷ refusedAt 2 b p ∷ refusedAt 6 d p ∷ refusedAt 16 i p ∷ refusedOffset p o ∷ refusedAt 5 e p ∷ [])
 
 unfoldable pub cursorRefusal : reading.Wanted → List ℕ → Cursor → List ℕ → List ℕ → List ℕ → Command → Option Refusal
 cursorRefusal w t c needed changed affected k =
     inOrder (c .at) (misplaced w (placeOf (c .place)) (c .terms) k) (ltb (length t) (c .at + width k))
-    (miscounted (c .moves) (c .opened) k)
+    (miscounted (c .moves) (c .opened) k) (closesIdle w (placeOf (c .place)) (c .active) k)
     (wrongAt t c k) (repeated t c needed changed affected k)
 
 unfoldable pub checkOf : Option Refusal → Check
 checkOf none = Passes
 checkOf (some r) = Refused r
 
-module _ (p : ℕ) (a b d : Bool) (o : ℕ) (e : Bool) where
-  pub order-3 : a ≡ true → Refused (record { number = 3; place = p }) ≡ checkOf (inOrder p a b d o e)
+module _ (p : ℕ) (a b d i : Bool) (o : ℕ) (e : Bool) where
+  pub order-3 : a ≡ true → Refused (record { number = 3; place = p }) ≡ checkOf (inOrder p a b d i o e)
   unfolding inOrder firstRefusal refusedAt checkOf
   order-3 h = rw h refl
 
-  pub order-2 : a ≡ false → b ≡ true → Refused (record { number = 2; place = p }) ≡ checkOf (inOrder p a b d o e)
+  pub order-2 : a ≡ false → b ≡ true → Refused (record { number = 2; place = p }) ≡ checkOf (inOrder p a b d i o e)
   unfolding inOrder firstRefusal refusedAt checkOf
-  order-2 h i = rw (h, i) refl
+  order-2 h j = rw (h, j) refl
 
-  pub order-6 : a ≡ false → b ≡ false → d ≡ true → Refused (record { number = 6; place = p }) ≡ checkOf (inOrder p a b d o e)
+  pub order-6 : a ≡ false → b ≡ false → d ≡ true → Refused (record { number = 6; place = p }) ≡ checkOf (inOrder p a b d i o e)
   unfolding inOrder firstRefusal refusedAt checkOf
-  order-6 h i j = rw (h, i, j) refl
+  order-6 h j k = rw (h, j, k) refl
 
-  pub order-4 : a ≡ false → b ≡ false → d ≡ false → 0 < o → Refused (record { number = 4; place = p + o }) ≡ checkOf (inOrder p a b d o e)
+  pub order-16 : a ≡ false → b ≡ false → d ≡ false → i ≡ true → Refused (record { number = 16; place = p }) ≡ checkOf (inOrder p a b d i o e)
+  unfolding inOrder firstRefusal refusedAt checkOf
+  order-16 h j k l = rw (h, j, k, l) refl
+
+  pub order-4 : a ≡ false → b ≡ false → d ≡ false → i ≡ false → 0 < o → Refused (record { number = 4; place = p + o }) ≡ checkOf (inOrder p a b d i o e)
   unfolding inOrder firstRefusal refusedAt refusedOffset checkOf
-  order-4 h i j k = rw (h, i, j) (go o k)
+  order-4 h j k l m = rw (h, j, k, l) (go o m)
     where
       go : (n : ℕ) → 0 < n → Refused (record { number = 4; place = p + n }) ≡ checkOf (firstRefusal (refusedOffset p n ∷ refusedAt 5 e p ∷ []))
-      go zero l = absurd (omega arith)
-      go (suc n) l = refl
+      go zero q = absurd (omega arith)
+      go (suc n) q = refl
 
-  pub order-5 : a ≡ false → b ≡ false → d ≡ false → o ≡ 0 → e ≡ true → Refused (record { number = 5; place = p }) ≡ checkOf (inOrder p a b d o e)
+  pub order-5 : a ≡ false → b ≡ false → d ≡ false → i ≡ false → o ≡ 0 → e ≡ true → Refused (record { number = 5; place = p }) ≡ checkOf (inOrder p a b d i o e)
   unfolding inOrder firstRefusal refusedAt refusedOffset checkOf
-  order-5 h i j k l = rw (h, i, j, k, l) refl
+  order-5 h j k l m n = rw (h, j, k, l, m, n) refl
 
-  pub order-passes : a ≡ false → b ≡ false → d ≡ false → o ≡ 0 → e ≡ false → Passes ≡ checkOf (inOrder p a b d o e)
+  pub order-passes : a ≡ false → b ≡ false → d ≡ false → i ≡ false → o ≡ 0 → e ≡ false → Passes ≡ checkOf (inOrder p a b d i o e)
   unfolding inOrder firstRefusal refusedAt refusedOffset checkOf
-  order-passes h i j k l = rw (h, i, j, k, l) refl
+  order-passes h j k l m n = rw (h, j, k, l, m, n) refl
 
 -- what the checks that pass say
 pub record Passed (t : List ℕ) (c : Cursor) (needed changed affected : List ℕ) (k : Command) : Type 0 where
@@ -215,14 +225,15 @@ unfolding checkOf
 passes-none none e = refl
 passes-none (some r) e = let z : _≡_ {A = ℕ} 0 1 = cc in absurd (omega arith)
 
-silent : (p : ℕ) (a b d : Bool) (o : ℕ) (e : Bool) → inOrder p a b d o e ≡ none → (a ≡ false) × (b ≡ false) × (d ≡ false) × (o ≡ 0) × (e ≡ false)
+silent : (p : ℕ) (a b d i : Bool) (o : ℕ) (e : Bool) → inOrder p a b d i o e ≡ none → (a ≡ false) × (b ≡ false) × (d ≡ false) × (o ≡ 0) × (e ≡ false)
 unfolding inOrder firstRefusal refusedAt refusedOffset
-silent p true b d o e h = let z : _≡_ {A = ℕ} 0 1 = cc in absurd (omega arith)
-silent p false true d o e h = let z : _≡_ {A = ℕ} 0 1 = cc in absurd (omega arith)
-silent p false false true o e h = let z : _≡_ {A = ℕ} 0 1 = cc in absurd (omega arith)
-silent p false false false zero true h = let z : _≡_ {A = ℕ} 0 1 = cc in absurd (omega arith)
-silent p false false false zero false h = (refl, refl, refl, refl, refl)
-silent p false false false (suc o) e h = let z : _≡_ {A = ℕ} 0 1 = cc in absurd (omega arith)
+silent p true b d i o e h = let z : _≡_ {A = ℕ} 0 1 = cc in absurd (omega arith)
+silent p false true d i o e h = let z : _≡_ {A = ℕ} 0 1 = cc in absurd (omega arith)
+silent p false false true i o e h = let z : _≡_ {A = ℕ} 0 1 = cc in absurd (omega arith)
+silent p false false false true o e h = let z : _≡_ {A = ℕ} 0 1 = cc in absurd (omega arith)
+silent p false false false false zero true h = let z : _≡_ {A = ℕ} 0 1 = cc in absurd (omega arith)
+silent p false false false false zero false h = (refl, refl, refl, refl, refl)
+silent p false false false false (suc o) e h = let z : _≡_ {A = ℕ} 0 1 = cc in absurd (omega arith)
 
 misplaced-no : (w : reading.Wanted) (p : command.Place) (n : ℕ) (k : Command) → misplaced w p n k ≡ false → inPlace p k ≡ true
 unfolding misplaced
@@ -241,9 +252,10 @@ passed w t c needed changed affected k h =
     let a = misplaced w (placeOf (c .place)) (c .terms) k in
     let b = ltb (length t) (c .at + width k) in
     let d = miscounted (c .moves) (c .opened) k in
+    let i = closesIdle w (placeOf (c .place)) (c .active) k in
     let o = wrongAt t c k in
     let e = repeated t c needed changed affected k in
-    let f = silent (c .at) a b d o e (passes-none (inOrder (c .at) a b d o e) h) in
+    let f = silent (c .at) a b d i o e (passes-none (inOrder (c .at) a b d i o e) h) in
     record {
       placed = misplaced-no w (placeOf (c .place)) (c .terms) k (f .0);
       uncut = ltb-false (length t) (c .at + width k) (f .1);

@@ -12,8 +12,8 @@ use command::Place;
 use command::Wanted;
 
 // Where the reading stands: the offset of the next command and its place, the head, how many moves have been opened, how many
-// terms are open and the least variable that the next one may have, how many blocks and ends have been marked. `stamp` is the
-// number of the open block, from 1 on.
+// terms are open and the least variable that the next one may have, whether the open move changes something, how many blocks and
+// ends have been marked. `stamp` is the number of the open block, from 1 on.
 pub struct Cursor {
     pub at: usize,
     pub place: Place,
@@ -24,6 +24,7 @@ pub struct Cursor {
     pub opened: usize,
     pub terms: usize,
     pub next: usize,
+    pub active: bool,
     pub marked: usize,
     pub stamp: u64,
 }
@@ -90,7 +91,7 @@ pub fn refusal(number: u64, place: usize) -> model::Refusal
     }
 }
 
-// All checks of the command at the cursor: "each command, in this order", 3, 2, 6, 4, 5.
+// All checks of the command at the cursor: "each command, in this order", 3, 2, 6, 4, 5, with 16 "checked after 6".
 pub fn checked(
     table: &[u8],
     c: Cursor,
@@ -114,6 +115,9 @@ pub fn checked(
     }
     if command::miscounted(command, c.moves, c.opened) {
         return Check::Refused(refusal(6, at));
+    }
+    if command::closes_idle(place, c.active, wanted, command) {
+        return Check::Refused(refusal(16, at));
     }
     let wrong = operand::wrong_operand(table, command, at, form, c.props, c.vars);
     if wrong > 0 {
@@ -139,6 +143,7 @@ pub fn beginning() -> Cursor
         opened: 0,
         terms: 0,
         next: 0,
+        active: false,
         marked: 0,
         stamp: 1,
     }

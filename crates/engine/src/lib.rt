@@ -5,6 +5,7 @@ ghost use Rattle.model.specs.Limits.{paper};
 ghost use Rattle.model.specs.Calls.{readAnswer, planAnswer, planMemory, planOut, stepAnswer, stepOut, normaliseAnswer, normaliseOut, decideAnswer, decideMemory, blockPart, blockRefusal, campaignDecision, campaignPlan, campaignMemory, campaignOut};
 ghost use Rattle.model.specs.Blocking.{blockingAnswer, blockingMemory};
 ghost use Rattle.model.specs.Pddl.{pddlAnswer, pddlOut};
+ghost use Rattle.model.specs.Rewrite.{rewriteAnswer, rewriteOut};
 ghost use Rattle.model.specs.Theorems.Campaigns.OneCall.{Promise};
 
 #[no_mangle]
@@ -50,6 +51,15 @@ pub extern "C" fn lapyndo_pddl(table: &[u8], state: &[u8], out: &mut [u8]) -> u6
         × (now (out .exit) ≡ pddlOut paper (now (table .entry)) (now (state .entry)) (now (out .entry))) ⌝ }
 {
     codes::write_code(pddl::pddl(table, state, out))
+}
+
+// A stored table without the moves that do nothing.
+#[no_mangle]
+pub extern "C" fn lapyndo_rewrite(table: &[u8], out: &mut [u8]) -> u64
+    ensures { λ c. ⌜ (c ≡ writeCode (rewriteAnswer paper (now (table .entry)) (now (out .entry))))
+        × (now (out .exit) ≡ rewriteOut paper (now (table .entry)) (now (out .entry))) ⌝ }
+{
+    codes::write_code(rewrite::rewrite(table, out))
 }
 
 // Decide, for tests.

@@ -22,7 +22,8 @@ use Rattle.model.specs.Limits.{Limits}
 use Rattle.model.specs.Lists.{allBelow}
 use Rattle.model.specs.Task.{written, normal, Task}
 use Rattle.model.specs.Command.{head, codeOf, taskBytes}
-use Rattle.model.specs.Reading.{Head, Verdict, accepted, refused, only, both, reading}
+use Rattle.model.specs.Seen.{Head}
+use Rattle.model.specs.Reading.{Verdict, accepted, refused, only, both, reading}
 use Rattle.model.specs.Move.{State, applicable, real, moveAt}
 use Rattle.model.specs.NormalForm.{normalTask, normalState}
 use Rattle.model.specs.StateTable.{stateOf, stateRefusal, stateBytes, valueInRange}

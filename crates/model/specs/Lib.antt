@@ -7,11 +7,13 @@ pub mod Plan
 pub mod NormalForm
 pub mod Circle
 pub mod Command
+pub mod Seen
 pub mod Reading
 pub mod StateTable
 pub mod Memory
 pub mod Calls
 pub mod Blocking
+pub mod Rewrite
 pub mod Listing
 pub mod Ascii
 pub mod Pddl

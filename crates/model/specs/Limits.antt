@@ -70,4 +70,4 @@ boundInRange L normal c = leZ (negℤ (pos (L .constant))) c && leZ c (pos (L .c
 
 -- the largest number of a refusal ("Where a call turns back")
 abbrev pub lastNumber : ℕ
-lastNumber = 15
+lastNumber = 16

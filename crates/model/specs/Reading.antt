@@ -2,25 +2,17 @@
 -- task that accepted bytes stand for. One reading gives both. Assumes nothing.
 use Prim.Native.Nat.{ℕ, zero, suc, _+_}
 use mathlib.Core.Bool.{Bool, true, false, cond, _&&_, _||_, not}
-use mathlib.Core.List.{List, [], _∷_, _++_}
+use mathlib.Core.List.{List, [], _∷_}
 use mathlib.Core.Option.{Option, none, some}
 use lib.Dec.{eqb, leb, ltb}
-use lib.IntN.{ℤ}
-use lib.ListN.{length, getD, take, drop}
-use Rattle.integer.specs.BigEndian.{signed}
+use lib.ListN.{length, getD}
 use Rattle.model.specs.declared.Refusal.{Refusal}
 use Rattle.model.specs.Limits.{Limits, varsInRange, weightInRange, comparisonInRange, kindInRange, baseInRange, boundInRange}
 use Rattle.model.specs.Lists.{all, any}
-use Rattle.model.specs.Task.{Form, written, normal, Term, Comparison, atLeast, above, atMost, below, equal, Kind, assign, increase, decrease, Item, need, add, delete, condition, effect, Block, Task, clashes}
+use Rattle.model.specs.Task.{Form, written, normal, Item, Block, Task, clashes, active}
 use Rattle.model.specs.Command.{Command, head, openMove, openGoal, endTable, needProp, addProp, deleteProp, term, closeCondition, closeEffect, unknown, codeOf, commandOf, width, Place, start, preamble, inMove, inGoal, finished, inPlace, afterTerm}
+use Rattle.model.specs.Seen.{Head, Seen, nothingSeen, byteAfter, numberAfter, itemAt, advance}
 use Rattle.model.specs.Circle.{circular}
-
--- "the head's kind and its three counts"
-pub record Head : Type 0 where
-  pub form : Form
-  pub props : ℕ
-  pub vars : ℕ
-  pub moves : ℕ
 
 -- what an accepted table says; marks are the offsets of its 41, 47 and 45 commands
 pub record Table : Type 0 where
@@ -33,86 +25,17 @@ pub data Verdict : Type 0 where
   refused : Refusal → Verdict
 
 -- the heads a call takes: "Normalise and step want head 54, decide and plan 4E; read and the reader take both."
+-- The rewriter takes stored tables: it "takes both heads, with read's limits, and makes all checks but 16".
 pub data Wanted : Type 0 where
   only : Form → Wanted
   both : Wanted
-
--- what has been read so far: the offset of the next command, the head, the closed moves, and of the block that stands open
--- its items and the terms that no condition or effect has closed yet
-pub record Seen : Type 0 where
-  pub at : ℕ
-  pub place : Place
-  pub header : Head
-  pub moves : List Block
-  pub items : Block
-  pub terms : List Term
-  pub marks : List ℕ
-
-unfoldable pub nothingSeen : Seen
-nothingSeen =
-    record {
-      at = 0;
-      place = start;
-      header = record { form = written; props = 0; vars = 0; moves = 0 };
-      moves = [];
-      items = [];
-      terms = [];
-      marks = [];
-    }
-
--- ---- operands
-
--- the byte i after the command, and the signed number of w bytes there
-unfoldable pub byteAfter : List ℕ → Seen → ℕ → ℕ
-byteAfter t s i = getD t (s .at + i) 0
-
-unfoldable pub numberAfter : ℕ → List ℕ → Seen → ℕ → ℤ
-numberAfter w t s i = signed (take w (drop (s .at + i) t))
-
-unfoldable pub comparisonOf : ℕ → Comparison
-comparisonOf zero = atLeast
-comparisonOf (suc zero) = above
-comparisonOf (suc (suc zero)) = atMost
-comparisonOf (suc (suc (suc zero))) = below
-comparisonOf (suc (suc (suc (suc n)))) = equal
-
-unfoldable pub kindOf : ℕ → Kind
-kindOf zero = assign
-kindOf (suc zero) = increase
-kindOf (suc (suc n)) = decrease
-
-unfoldable pub termAt : List ℕ → Seen → Term
-termAt t s = record { var = byteAfter t s 1; weight = numberAfter 2 t s 2 }
-
--- the item that a command completes
-unfoldable pub itemAt : List ℕ → Seen → Command → Option Item
-itemAt t s (head f) = none
-itemAt t s openMove = none
-itemAt t s openGoal = none
-itemAt t s endTable = none
-itemAt t s needProp = some (need (byteAfter t s 1))
-itemAt t s addProp = some (add (byteAfter t s 1))
-itemAt t s deleteProp = some (delete (byteAfter t s 1))
-itemAt t s term = none
-itemAt t s closeCondition =
-    some
-    (condition
-    (record { terms = s .terms; comparison = comparisonOf (byteAfter t s 1); bound = numberAfter 4 t s 2 }))
-itemAt t s closeEffect =
-    some
-    (effect
-    (record {
-      kind = kindOf (byteAfter t s 1);
-      var = byteAfter t s 2;
-      terms = s .terms;
-      base = numberAfter 4 t s 3;
-    }))
-itemAt t s unknown = none
+  stored : Wanted
 
 -- ---- 3: "unknown, misplaced, wrong head for the call, terms left open, bytes after 45"
 
 takesHead : Wanted → Form → Bool
 takesHead both f = true
+takesHead stored f = true
 takesHead (only written) written = true
 takesHead (only written) normal = false
 takesHead (only normal) written = false
@@ -165,6 +88,34 @@ wrong6 s term = false
 wrong6 s closeCondition = false
 wrong6 s closeEffect = false
 wrong6 s unknown = false
+
+-- ---- 16: a move without 2B, 2D or 46, "place the command that closes its block"
+
+unfoldable pub checks16 : Wanted → Bool
+checks16 (only f) = true
+checks16 both = true
+checks16 stored = false
+
+-- is the open block a move that does nothing
+unfoldable pub idle : Place → Block → Bool
+idle start b = false
+idle preamble b = false
+idle inMove b = not (active b)
+idle inGoal b = false
+idle finished b = false
+
+unfoldable pub wrong16 : Wanted → Seen → Command → Bool
+wrong16 w s (head f) = false
+wrong16 w s openMove = checks16 w && idle (s .place) (s .items)
+wrong16 w s openGoal = checks16 w && idle (s .place) (s .items)
+wrong16 w s endTable = false
+wrong16 w s needProp = false
+wrong16 w s addProp = false
+wrong16 w s deleteProp = false
+wrong16 w s term = false
+wrong16 w s closeCondition = false
+wrong16 w s closeEffect = false
+wrong16 w s unknown = false
 
 -- ---- 4: "operand out of range"
 
@@ -240,88 +191,17 @@ firstRefusal [] = none
 firstRefusal (none ∷ rs) = firstRefusal rs
 firstRefusal (some r ∷ rs) = some r
 
--- "each command, in this order": 3, 2, 6, 4, 5
+-- "each command, in this order": 3, 2, 6, 4, 5, with 16 "checked after 6"
 unfoldable pub refusal : Limits → Wanted → List ℕ → Seen → Command → Option Refusal
 refusal L w t s c =
     firstRefusal
     (refusedAt 3 (wrong3 w s c) (s .at)
     ∷ refusedAt 2 (wrong2 t s c) (s .at)
     ∷ refusedAt 6 (wrong6 s c) (s .at)
+    ∷ refusedAt 16 (wrong16 w s c) (s .at)
     ∷ refusedOperand (s .at) (firstWrong (operands L t s c))
     ∷ refusedAt 5 (wrong5 L t s c) (s .at)
     ∷ [])
-
--- the moves that stand closed when the next block opens
-unfoldable pub closed : Place → List Block → Block → List Block
-closed start ms b = ms
-closed preamble ms b = ms
-closed inMove ms b = ms ++ (b ∷ [])
-closed inGoal ms b = ms
-closed finished ms b = ms
-
--- what has been seen once the command is read
-unfoldable pub withHead : List ℕ → Seen → Form → Seen
-withHead t s f =
-    record {
-      at = s .at + width (head f);
-      place = preamble;
-      header =
-          record { form = f; props = byteAfter t s 1; vars = byteAfter t s 2; moves = byteAfter t s 3 };
-      moves = [];
-      items = [];
-      terms = [];
-      marks = [];
-    }
-
-unfoldable pub withMark : Seen → Place → List Block → Block → Seen
-withMark s p ms b =
-    record {
-      at = s .at + 1;
-      place = p;
-      header = s .header;
-      moves = ms;
-      items = b;
-      terms = [];
-      marks = s .marks ++ (s .at ∷ []);
-    }
-
-unfoldable pub withTerm : Seen → Term → Seen
-withTerm s u =
-    record {
-      at = s .at + width term;
-      place = s .place;
-      header = s .header;
-      moves = s .moves;
-      items = s .items;
-      terms = s .terms ++ (u ∷ []);
-      marks = s .marks;
-    }
-
-unfoldable pub withItem : Seen → ℕ → Option Item → Seen
-withItem s n none = s
-withItem s n (some i) =
-    record {
-      at = s .at + n;
-      place = s .place;
-      header = s .header;
-      moves = s .moves;
-      items = s .items ++ (i ∷ []);
-      terms = [];
-      marks = s .marks;
-    }
-
-unfoldable pub advance : List ℕ → Seen → Command → Seen
-advance t s (head f) = withHead t s f
-advance t s openMove = withMark s inMove (closed (s .place) (s .moves) (s .items)) []
-advance t s openGoal = withMark s inGoal (closed (s .place) (s .moves) (s .items)) []
-advance t s endTable = withMark s finished (s .moves) (s .items)
-advance t s needProp = withItem s (width needProp) (itemAt t s needProp)
-advance t s addProp = withItem s (width addProp) (itemAt t s addProp)
-advance t s deleteProp = withItem s (width deleteProp) (itemAt t s deleteProp)
-advance t s term = withTerm s (termAt t s)
-advance t s closeCondition = withItem s (width closeCondition) (itemAt t s closeCondition)
-advance t s closeEffect = withItem s (width closeEffect) (itemAt t s closeEffect)
-advance t s unknown = s
 
 -- ---- the whole table
 
@@ -375,10 +255,14 @@ readFrom L w t zero s = refused (record { number = 2; place = length t })
 readFrom L w t (suc n) s = continue (λ d. readFrom L w t n d) (readCommand L w t s)
 
 -- "read and the reader allow 32,000 if the first byte is 54 and 64,000 otherwise, other calls the limit of the head they want"
+abbrev readLimit : Limits → List ℕ → ℕ
+readLimit L t = cond (eqb (getD t 0 0) (codeOf (head written))) (L .writtenLength) (L .normalLength)
+
 unfoldable pub lengthLimit : Limits → Wanted → List ℕ → ℕ
 lengthLimit L (only written) t = L .writtenLength
 lengthLimit L (only normal) t = L .normalLength
-lengthLimit L both t = cond (eqb (getD t 0 0) (codeOf (head written))) (L .writtenLength) (L .normalLength)
+lengthLimit L both t = readLimit L t
+lengthLimit L stored t = readLimit L t
 
 -- "table, whole | 1 | too long | 0", then command by command
 unfoldable pub reading : Limits → Wanted → List ℕ → Verdict

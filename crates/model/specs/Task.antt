@@ -99,6 +99,17 @@ effectOn v (delete p ∷ b) = effectOn v b
 effectOn v (condition c ∷ b) = effectOn v b
 effectOn v (effect e ∷ b) = elim (eqb (e .var) v) [ true ↦ some e | false ↦ effectOn v b ]
 
+-- does the item change anything: "A move without 2B, 2D or 46" has none that does
+unfoldable pub changes : Item → Bool
+changes (need p) = false
+changes (add p) = true
+changes (delete p) = true
+changes (condition c) = false
+changes (effect e) = true
+
+unfoldable pub active : Block → Bool
+active b = any changes b
+
 -- "In a block a proposition is named once at most by 50, and once at most by 2B and 2D together; a move has one effect at
 -- most on a variable": do two items of a block name the same thing
 unfoldable pub clashes : Item → Item → Bool

@@ -43,6 +43,13 @@
 --   Meaning.condition-true, block-true; Changes.follows-real; Declared.text-declared; Plans.plan-solves; Text.one-text, same-one-text;
 --   Sizes.text-size; Calls.text-fits, text-too-long, text-always, same-output, declared, text-plans, no-plan-text;
 --   ZeroTerms.one-task, zero-in-move, zero-in-goal, one-table, same-plans; MeaningCases; Cases
+--
+-- Rewriting: the rewriter of stored tables: lists renumbered and numbered back solve alike, run with real moves and relaxed; what is written
+-- is a table that read takes, never longer; its refusals are read's but 16; twice is once; rewriting and normalising change places; layers,
+-- answers and records are the old ones, with the records renumbered; decide's and plan's answers on the new table are right for the old one.
+--   Solving.dropped-solves, back-solves, back-again; Accepted.rewrite-right; Refusals.stored-accepts, stored-refuses, never-16;
+--   Sizes.rewrite-length, rewrote-whole, never-13; Twice.rewrote-twice, same-output; Normal.either-order, relaxed-forth, relaxed-back;
+--   Layers.same-outcome, same-build; Plans.same-records, same-list; EndToEnd.same-campaign, answers-old; Cases; Instance
 -- Assumes nothing.
 pub mod Laws
 pub mod Reading
@@ -54,3 +61,4 @@ pub mod Sizes
 pub mod Campaigns
 pub mod Blocking
 pub mod Pddl
+pub mod Rewriting

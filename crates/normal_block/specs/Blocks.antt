@@ -7,7 +7,7 @@ use mathlib.Core.List.{List, [], _∷_, _++_}
 use lib.ListN.{length}
 use Rattle.model.specs.Task.{Block}
 use Rattle.model.specs.Command.{codeOf, needProp, addProp, deleteProp, itemBytes, itemsBytes}
-use Rattle.model.specs.Reading.{comparisonOf, kindOf}
+use Rattle.model.specs.Seen.{comparisonOf, kindOf}
 use Rattle.model.specs.NormalForm.{normalCondition, normalEffect, normalItem, normalBlock}
 use Rattle.block.specs.Items.{behind, Next}
 use Rattle.block.specs.Terms.{termsAt}

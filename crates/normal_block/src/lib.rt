@@ -4,7 +4,7 @@ ghost use mathlib.Core.List.{_∷_};
 ghost use Prim.Native.Nat.{_+_, _^_, _<_, _≤_};
 ghost use lib.IntN.{natAbs};
 ghost use Rattle.model.specs.Task.{Block};
-ghost use Rattle.model.specs.Reading.{kindOf};
+ghost use Rattle.model.specs.Seen.{kindOf};
 ghost use Rattle.output.specs.Writing.{Written};
 ghost use Rattle.block.specs.Terms.{SumAt, termsAt};
 ghost use Rattle.block.specs.Remaining.{Writable, Remaining};

@@ -8,7 +8,7 @@ ghost use lib.IntN.{natAbs};
 ghost use Rattle.model.specs.Task.{written, atLeast, above, atMost, below, equal};
 ghost use Rattle.model.specs.Limits.{comparisonInRange};
 ghost use Rattle.model.specs.Command.{itemsBytes};
-ghost use Rattle.model.specs.Reading.{comparisonOf};
+ghost use Rattle.model.specs.Seen.{comparisonOf};
 ghost use Rattle.model.specs.NormalForm.{signedTerm, least, normalCondition};
 ghost use Rattle.output.specs.Writing.{Written};
 ghost use Rattle.block.specs.Items.{firstTerm};

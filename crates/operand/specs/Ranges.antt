@@ -13,7 +13,8 @@ use borrow.Author.Tests.{lt-leb, le-leb, lt-ltb, le-ltb}
 use Rattle.model.specs.Limits.{paper, weightInRange, baseInRange, boundInRange}
 use Rattle.model.specs.Task.{Form, written, normal}
 use Rattle.model.specs.Command.{Command, start}
-use Rattle.model.specs.Reading.{Seen, Operand, firstWrong, operands}
+use Rattle.model.specs.Seen.{Seen}
+use Rattle.model.specs.Reading.{Operand, firstWrong, operands}
 
 unfoldable pub between : ℤ → ℤ → ℤ → Bool
 between low z high = leZ low z && leZ z high

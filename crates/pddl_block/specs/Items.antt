@@ -4,7 +4,7 @@ use mathlib.Core.Path.{_≡_, sym, ap, _∙_}
 use mathlib.Core.List.{List, _++_, append-assoc}
 use lib.IntN.{ℤ, pos}
 use Rattle.model.specs.Ascii.{ascii}
-use Rattle.model.specs.Reading.{comparisonOf, kindOf}
+use Rattle.model.specs.Seen.{comparisonOf, kindOf}
 use Rattle.model.specs.Pddl.{number, atom, compare, gain, lose, alter, atomText, numberText, expressionText, comparisonText, kindText, formulaText, changeText, headText, sumOf, compareOf, alterOf, formulasOf, changesOf}
 use Rattle.block.specs.Terms.{termsAt}
 use Rattle.block.specs.Remaining.{itemsOf}

@@ -4,7 +4,7 @@ ghost use mathlib.Core.List.{_++_};
 ghost use Prim.Native.Nat.{_^_, _<_, _≤_};
 ghost use lib.Dec.{T};
 ghost use Rattle.model.specs.Ascii.{ascii};
-ghost use Rattle.model.specs.Reading.{comparisonOf, kindOf};
+ghost use Rattle.model.specs.Seen.{comparisonOf, kindOf};
 ghost use Rattle.model.specs.Task.{written, Block};
 ghost use Rattle.model.specs.Limits.{comparisonInRange};
 ghost use Rattle.model.specs.Pddl.{comparisonText, kindText};

@@ -18,7 +18,8 @@ use Rattle.model.specs.Task.{written, kept, Item, Block}
 use Rattle.model.specs.Task as task
 use Rattle.model.specs.Circle.{itemEdge, edge, circular}
 use Rattle.model.specs.Command.{Command, head, codeOf, commandOf, Place, start, preamble, inMove, inGoal, finished}
-use Rattle.model.specs.Reading.{Head, Table, Verdict, accepted, refused, Wanted, Seen, nothingSeen, opened, closed, refusal, advance, tableOf, verdictOf, atEnd, Step, more, done, stepWith, readCommand, continue, readFrom, lengthLimit, reading}
+use Rattle.model.specs.Seen.{Head, Seen, nothingSeen, closed, advance}
+use Rattle.model.specs.Reading.{Table, Verdict, accepted, refused, Wanted, opened, refusal, tableOf, verdictOf, atEnd, Step, more, done, stepWith, readCommand, continue, readFrom, lengthLimit, reading}
 use Rattle.model.specs.Calls.{readOf}
 use Rattle.cursor.specs.declared.Cursor.{Cursor}
 use Rattle.command.specs.declared.Form.the-variants as form
@@ -66,6 +67,9 @@ start-valid t =
       blocks = omega arith;
     }
 
+start-outside : start ≡ inMove → ⊥
+start-outside e = let z : _≡_ {A = ℕ} 0 1 = cc in omega arith
+
 start-tracks : (t mk : List ℕ) → length mk ≡ 66 → Tracks t startCursor (replicate 120 0) (replicate 120 0) (replicate 32 0) (replicate 1024 false) mk nothingSeen
 unfolding startCursor nothingSeen headOf formOf placeOf opened closed all any anyBelow kept
 start-tracks t mk e =
@@ -78,6 +82,7 @@ start-tracks t mk e =
       terms = refl;
       rising = λ x. sym (leb·zero x);
       sources = λ u. refl;
+      active = λ x. absurd (start-outside x);
       needed = stamped-start needs 120;
       changed = stamped-start changes 120;
       affected = stamped-start affects 32;

@@ -3,7 +3,7 @@
 use Prim.Native.Nat.{ℕ, zero, suc, _+_, _-_, _≤_, _<_}
 use native.Mathlib.Numerals.{add-one}
 use native.Mathlib.Omega.{arith}
-use mathlib.Core.Path.{_≡_, sym, ap, ap₂, _∙_, subst}
+use mathlib.Core.Path.{_≡_, refl, sym, ap, ap₂, _∙_, subst}
 use mathlib.Core.List.{List, [], _∷_, _++_}
 use lib.ListN.{length, getD, take, drop, length-append}
 use lib.Seq.{slice, take-nil, take-append-seam}
@@ -14,9 +14,10 @@ use Rattle.model.specs.declared.ReadAnswer.the-variants as read
 use Rattle.model.specs.Limits.{paper}
 use Rattle.model.specs.Task.{Form, Block, Task}
 use Rattle.model.specs.Command.{openMove, openGoal, codeOf, itemsBytes, movesBytes, taskBytes}
-use Rattle.model.specs.Reading.{Table, accepted, refused, only, lengthLimit, reading}
+use Rattle.model.specs.Reading.{Table, accepted, refused, Wanted, only, stored, lengthLimit, reading}
 use Rattle.model.specs.Theorems.Reading.WellFormed.{TaskOk}
-use Rattle.model.specs.Theorems.Reading.Accepted.{Accepted, reading-accepted, reading-form, reading-head}
+use Rattle.model.specs.Theorems.Reading.Accepted.{Accepted, reading-accepted, reading-canonical, reading-form, reading-head}
+use Rattle.model.specs.Theorems.Rewriting.Accepted.{stored-limit}
 use Rattle.model.specs.Theorems.Reading.Marks.{starts-at}
 use Rattle.model.specs.Theorems.Reading.Parts.{move-part, goal-part}
 use Rattle.table.specs.Answer.{Outlined, answer-accepted, answer-refused}
@@ -56,20 +57,18 @@ inside-list [] i h = absurd (omega arith)
 inside-list (x ∷ l) zero h = omega arith
 inside-list (x ∷ l) (suc i) h = omega (arith, inside-list l i h)
 
--- what reading and the offsets of the 41, 47 and 45 commands give
-module _ (f : Form) (table marks : List ℕ) (t : Table) (e : reading paper (only f) table ≡ accepted t) (all : AllBytes table)
+-- what reading and the offsets of the 41, 47 and 45 commands give, of a table of the form f
+module _ (w : Wanted) (f : Form) (table marks : List ℕ) (t : Table) (e : reading paper w table ≡ accepted t)
+    (form-is : t .header .form ≡ f) (limit : lengthLimit paper w table ≡ lengthLimit paper (only f) table) (all : AllBytes table)
     (same : (b : ℕ) → b ≤ t .header .moves + 1 → getD marks b 0 ≡ getD (t .marks) b 0)
     (rising : (b : ℕ) → b ≤ t .header .moves → getD marks b 0 < getD marks (suc b) 0)
     (inside : (b : ℕ) → b ≤ t .header .moves + 1 → getD marks b 0 < length table)
   where
-    a : Accepted paper (only f) table t
-    a = reading-accepted paper (only f) table e
+    a : Accepted paper w table t
+    a = reading-accepted paper w table e
 
     pub outline-moves : t .header .moves ≡ length (t .task .moves)
     outline-moves = a .moves
-
-    form-is : t .header .form ≡ f
-    form-is = reading-form paper f table e
 
     order : (b : ℕ) → b ≤ length (t .task .moves) → getD marks b 0 ≤ getD marks (b + 1) 0
     order b h = rw (add-one b) (omega (arith, rising b (omega (arith, outline-moves))))
@@ -97,7 +96,7 @@ module _ (f : Form) (table marks : List ℕ) (t : Table) (e : reading paper (onl
           ok = subst (λ (g : Form). TaskOk paper g (t .task)) form-is (a .ok);
           short =
               subst (λ (g : Form). length (taskBytes g (t .task)) ≤ lengthLimit paper (only f) table) form-is
-              (omega (arith, a .prints .long, a .short));
+              (omega (arith, a .prints .long, a .short, limit));
           long =
               omega
               (arith, inside-list marks (suc (t .header .moves)) (omega (arith, rising (t .header .moves) (omega arith))), outline-moves);
@@ -130,7 +129,7 @@ module _ (f : Form) {t marks : List ℕ} {r : ReadAnswer} (o : Outlined t (readi
       record {
         table = k;
         is = a .is;
-        outline = outline-of f t marks k (a .is) all (o .marks k (a .is)) (o .rising k (a .is)) (o .inside k (a .is));
+        outline = outline-of (only f) f t marks k (a .is) (reading-form paper f t (a .is)) refl all (o .marks k (a .is)) (o .rising k (a .is)) (o .inside k (a .is));
         props-is = sym (a .props-is) ∙ h .0;
         vars-is = sym (a .vars-is) ∙ h .1;
         count = sym (a .moves-is) ∙ h .2;
@@ -138,3 +137,34 @@ module _ (f : Form) {t marks : List ℕ} {r : ReadAnswer} (o : Outlined t (readi
 
   pub head-refused : {q : Refusal} → r ≡ read.Refused q → reading paper (only f) t ≡ refused q
   head-refused {q} e = answer-refused (reading paper (only f) t) q (sym (o .answer) ∙ e)
+
+-- ---- a stored table, of either form
+
+pub record StoredRead (t marks : List ℕ) (moves : ℕ) : Type 0 where
+  pub table : Table
+  pub is : reading paper stored t ≡ accepted table
+  pub outline : Outline (table .header .form) t marks (table .task)
+  pub prints : t ≡ taskBytes (table .header .form) (table .task)
+  pub count : moves ≡ length (table .task .moves)
+
+pub stored-read :
+    {t marks : List ℕ} {r : ReadAnswer} {kind props vars moves : ℕ}
+    → Outlined t (reading paper stored t) r marks
+    → r ≡ read.Head kind props vars moves
+    → AllBytes t
+    → StoredRead t marks moves
+stored-read {t} {marks} {kind = kind} {props} {vars} {moves} o e all =
+    let a = answer-accepted (reading paper stored t) kind props vars moves (sym (o .answer) ∙ e) in
+    let k = a .table in
+    let f = k .header .form in
+    let prints = reading-canonical paper stored t (a .is) all in
+    let limit : lengthLimit paper stored t ≡ lengthLimit paper (only f) t =
+    ap (lengthLimit paper stored) prints ∙ stored-limit paper f (k .task) (k .task) ∙ sym (ap (lengthLimit paper (only f)) prints)
+    in
+    record {
+      table = k;
+      is = a .is;
+      outline = outline-of stored f t marks k (a .is) refl limit all (o .marks k (a .is)) (o .rising k (a .is)) (o .inside k (a .is));
+      prints = prints;
+      count = sym (a .moves-is) ∙ reading-head paper stored t (a .is) .2;
+    }

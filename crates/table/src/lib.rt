@@ -4,7 +4,7 @@ ghost use mathlib.Core.Bool.{false};
 ghost use Prim.Native.Nat.{_≤_};
 ghost use lib.ListN.{replicate};
 ghost use Rattle.model.specs.Limits.{paper};
-ghost use Rattle.model.specs.Reading.{lengthLimit, reading};
+ghost use Rattle.model.specs.Reading.{both, lengthLimit, reading};
 ghost use Rattle.model.specs.Calls.{readAnswer};
 ghost use Rattle.table.specs.Names.{wantedOf};
 ghost use Rattle.table.specs.Answer.{endAnswer, Outlined};
@@ -14,22 +14,28 @@ pub use command::Wanted;
 use cursor::Check;
 use cursor::Cursor;
 
-// "read and the reader allow 32,000 if the first byte is 54 and 64,000 otherwise, other calls the limit of the head they want"
+// "read and the reader allow 32,000 if the first byte is 54 and 64,000 otherwise"
+fn read_limit(table: &[u8]) -> usize
+    ensures { λ r. ⌜ r ≡ lengthLimit paper both (now (table .entry)) ⌝ }
+{
+    if table.len() == 0 {
+        return 64000;
+    }
+    if table[0] == 0x54 {
+        return 32000;
+    }
+    64000
+}
+
+// "other calls the limit of the head they want"; the rewriter has read's.
 fn length_limit(table: &[u8], wanted: Wanted) -> usize
     ensures { λ r. ⌜ r ≡ lengthLimit paper (wantedOf wanted) (now (table .entry)) ⌝ }
 {
     match wanted {
         Wanted::Written => 32000,
         Wanted::Normal => 64000,
-        Wanted::Both => {
-            if table.len() == 0 {
-                return 64000;
-            }
-            if table[0] == 0x54 {
-                return 32000;
-            }
-            64000
-        }
+        Wanted::Both => read_limit(table),
+        Wanted::Stored => read_limit(table),
     }
 }
 

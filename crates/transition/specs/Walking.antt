@@ -7,7 +7,7 @@ use mathlib.Core.List.{List}
 use lib.IntN.{ℤ, pos, natAbs}
 use lib.ListN.{length, getD, set, length-set}
 use Rattle.model.specs.Limits.{largestValue}
-use Rattle.model.specs.Reading.{kindOf}
+use Rattle.model.specs.Seen.{kindOf}
 use Rattle.model.specs.Task.{Kind, decrease, Effect, Block}
 use Rattle.model.specs.Move.{State, value, changed}
 use Rattle.model.specs.Theorems.Printing.Operands.{kind-back}

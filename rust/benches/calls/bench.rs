@@ -2,8 +2,9 @@
 
 use crate::timing::{compare, Times};
 use campaign::engine::{Engine, Lent, REFERENCE};
-use campaign::generate::{text_length, Task};
+use campaign::generate::{rewritten_length, text_length, Task};
 use campaign::proved::raw;
+use campaign::reference;
 use campaign::room;
 
 /// A written or normal task with the memories for all calls.
@@ -145,6 +146,35 @@ impl Bench {
             || raw::pddl(table, state, &mut self.out[..room]).is_ok(),
             || REFERENCE.pddl(table, state, &mut others[..room]).is_ok(),
         )
+    }
+
+    pub fn rewrite(&mut self) -> Times {
+        self.rewritten_into(self.out.len())
+    }
+
+    /// With an output of just the result's length.
+    pub fn rewrite_exact(&mut self) -> Times {
+        self.rewritten_into(self.rewritten_length())
+    }
+
+    fn rewritten_into(&mut self, room: usize) -> Times {
+        let table = &self.task.table;
+        let mut others = self.out.clone();
+        compare(
+            || raw::rewrite(table, &mut self.out[..room]).is_ok(),
+            || REFERENCE.rewrite(table, &mut others[..room]).is_ok(),
+        )
+    }
+
+    pub fn rewritten_length(&self) -> usize {
+        rewritten_length(&self.task.table)
+    }
+
+    /// The task with its stored table rewritten.
+    pub fn rewritten(&self) -> Bench {
+        let table = reference::rewritten(&self.task.table).expect("a stored table");
+        let state = self.task.state.clone();
+        Bench::new(&self.name, Task { table, state })
     }
 
     /// Its memories, beside one for the normal form.

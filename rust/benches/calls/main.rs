@@ -6,6 +6,7 @@
 mod bench;
 mod blocking;
 mod comparisons;
+mod rewrite;
 mod timing;
 
 use bench::Bench;
@@ -23,6 +24,7 @@ fn main() {
     layers_table();
     blocking::parts_table();
     blocking::layers_table();
+    rewrite::bytes_table();
 }
 
 /// The first generated task with 30 moves, 8 variables and a plan of some depth; no weight is 0.
@@ -96,6 +98,10 @@ fn calls_table(mut written: Vec<Bench>) {
     for mut bench in blocking::campaigns() {
         row("decide", &mut bench, Bench::decide);
         row("blocking", &mut bench, Bench::blocking);
+    }
+    for mut bench in rewrite::campaigns() {
+        row("rewrite", &mut bench, Bench::rewrite);
+        row("rewrite exact", &mut bench, Bench::rewrite_exact);
     }
 }
 

@@ -142,6 +142,7 @@ impl Buffers {
             }
             CallKind::Pddl => accepted(engine.pddl(table, state, out)),
             CallKind::Blocking => shown(engine.blocking(table, state, layers)),
+            CallKind::Rewrite => accepted(engine.rewrite(table, out)),
             CallKind::Listing => engine.listing(table, state).replace('\n', "\\n"),
         })
     }

@@ -3,21 +3,23 @@
 use super::blocked::blocked;
 use super::damage::{command_string, misname_comparison, random_bytes, spoil, wrong_state};
 use super::grid::long_sum;
-use super::maker::{state_for, task};
+use super::maker::task;
 use super::rng::Rng;
+use super::scale::state_for;
 use super::sizes::Sizes;
+use super::stored::{rewritten_length, stored};
 use super::task::Task;
 use super::text::text_length;
 use super::tuned::{at_value_limit, waves};
 use crate::call::{Call, CallKind};
 use crate::reference::table::Kind;
-use crate::reference::{normal_form, parse_table};
+use crate::reference::{normal_form, parse_stored_table, parse_table};
 
 /// A call of any kind.
 pub fn call(rng: &mut Rng) -> Call {
     let kind = *rng.pick(&[Kind::Written, Kind::Normal]);
     let Task { table, state } = any_task(rng, kind);
-    match (kind, rng.below(12)) {
+    match (kind, rng.below(13)) {
         (_, 0) => Call {
             table,
             ..CallKind::Read.call()
@@ -27,6 +29,7 @@ pub fn call(rng: &mut Rng) -> Call {
             table,
             ..CallKind::Block.call()
         },
+        (_, 12) => rewrite_of(rng, &Task { table, state }),
         (Kind::Written, 2 | 3) => Call {
             table,
             state,
@@ -68,6 +71,14 @@ pub fn pddl_call(rng: &mut Rng) -> Call {
 pub fn blocking_call(rng: &mut Rng) -> Call {
     let task = any_task(rng, Kind::Normal);
     blocking_of(rng, &task)
+}
+
+/// A `rewrite` of a table of either kind that is mostly accepted, with an output that is mostly
+/// enough.
+pub fn rewrite_call(rng: &mut Rng) -> Call {
+    let kind = *rng.pick(&[Kind::Written, Kind::Normal]);
+    let task = any_task(rng, kind);
+    rewrite_of(rng, &task)
 }
 
 /// `decide` and `plan` of a task with every size of memory and of output that matters:
@@ -117,6 +128,9 @@ fn any_task(rng: &mut Rng, kind: Kind) -> Task {
     if kind == Kind::Normal && rng.chance(1, 2) {
         task = normalised(task);
     }
+    if rng.chance(1, 12) {
+        task = stored(rng, &task);
+    }
     if rng.chance(1, 8) {
         task.state = wrong_state(rng, &task.state);
     }
@@ -132,11 +146,22 @@ fn normalised(task: Task) -> Task {
 }
 
 fn spoilt_task(rng: &mut Rng, kind: Kind) -> Task {
-    match rng.below(4) {
+    match rng.below(5) {
         0 => command_task(rng),
         1 => byte_spoilt_task(rng, kind),
         2 => comparison_spoilt_task(rng, kind),
-        _ => entry_spoilt_task(rng, kind),
+        3 => {
+            let task = task(rng, kind);
+            let task = stored(rng, &task);
+            match rng.chance(1, 2) {
+                true => miscounted_task(rng, task),
+                false => entry_spoilt_task(rng, task),
+            }
+        }
+        _ => {
+            let task = task(rng, kind);
+            entry_spoilt_task(rng, task)
+        }
     }
 }
 
@@ -167,11 +192,21 @@ fn comparison_spoilt_task(rng: &mut Rng, kind: Kind) -> Task {
     task
 }
 
-fn entry_spoilt_task(rng: &mut Rng, kind: Kind) -> Task {
-    let mut task = task(rng, kind);
-    let mut table = parse_table(&task.table).expect("a generated table is accepted");
+fn entry_spoilt_task(rng: &mut Rng, mut task: Task) -> Task {
+    let table = parse_stored_table(&task.table);
+    let mut table = table.expect("all checks of a generated table but 16 pass");
     spoil(rng, &mut table);
     task.table = table.encode();
+    task
+}
+
+/// The head says one move more or fewer than there are.
+fn miscounted_task(rng: &mut Rng, mut task: Task) -> Task {
+    let count = task.table[3];
+    task.table[3] = match rng.chance(1, 2) {
+        true => count.saturating_sub(1),
+        false => count + 1,
+    };
     task
 }
 
@@ -207,6 +242,14 @@ fn campaign_of(rng: &mut Rng, task: &Task) -> Call {
 
 fn pddl_of(rng: &mut Rng, task: &Task) -> Call {
     task.pddl(around(rng, text_length(task)))
+}
+
+fn rewrite_of(rng: &mut Rng, task: &Task) -> Call {
+    let task = match rng.chance(3, 4) {
+        true => stored(rng, task),
+        false => task.clone(),
+    };
+    task.rewrite(around(rng, rewritten_length(&task.table)))
 }
 
 fn blocking_of(rng: &mut Rng, task: &Task) -> Call {

@@ -63,6 +63,9 @@ pub fn command_string(rng: &mut Rng) -> Vec<u8> {
         for _ in 0..rng.below(4) {
             random_entry(rng, counts, goal, &mut commands);
         }
+        if !goal && rng.chance(9, 10) {
+            random_change(rng, counts, &mut commands);
+        }
     }
     commands.push(vec![0x45]);
     let share = match commands[0][0] == Kind::Written.byte() {
@@ -118,6 +121,16 @@ fn random_entry(rng: &mut Rng, counts: [u8; 3], goal: bool, commands: &mut Vec<V
         0x43
     };
     commands.push(command_of(rng, command, counts));
+}
+
+/// The command of something that a move does, if there is a name for it.
+fn random_change(rng: &mut Rng, counts: [u8; 3], commands: &mut Vec<Vec<u8>>) {
+    let change = match counts {
+        [0, 0, _] => return,
+        [0, _, _] => 0x46,
+        _ => *rng.pick(&[0x2B, 0x2D]),
+    };
+    commands.push(command_of(rng, change, counts));
 }
 
 /// Takes a command away, puts one in, doubles one or exchanges two.

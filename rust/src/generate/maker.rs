@@ -2,6 +2,7 @@
 
 use super::grid::Unused;
 use super::rng::Rng;
+use super::scale::{random_number, random_state, Scale};
 use super::task::Task;
 use crate::reference::semantics::{saturate_table, Saturation};
 use crate::reference::table::{
@@ -21,7 +22,8 @@ pub fn task(rng: &mut Rng, kind: Kind) -> Task {
     maker.task(moves)
 }
 
-/// A task with these counts of propositions, variables and moves.
+/// A task with these counts of propositions, variables and moves; without propositions and variables
+/// it has no moves, as none could do anything.
 pub fn task_of(rng: &mut Rng, kind: Kind, [propositions, variables, moves]: [usize; 3]) -> Task {
     Maker::new(rng, kind, [propositions, variables]).task(moves)
 }
@@ -40,41 +42,16 @@ fn random_names(rng: &mut Rng, kind: Kind) -> [usize; 2] {
     }
 }
 
-/// An accepted state of a table.
-pub fn state_for(rng: &mut Rng, table: &Table) -> Vec<u8> {
-    random_state(rng, table.propositions, table.state_values(), Scale::Mixed).encode()
-}
-
-/// Takes entries away until the table is short enough.
+/// Takes entries away until the table is short enough; a move keeps something that it does.
 fn shorten(table: &mut Table) {
     while table.encode().len() > table.kind.length_limit() {
         let longest = table.moves.iter_mut().max_by_key(|m| m.items.len());
         let block = longest.unwrap_or(&mut table.goal);
         let kept = block.items.len() * 3 / 4;
+        if let Some(change) = block.items.iter().position(Item::is_change) {
+            block.items.swap(0, change);
+        }
         block.items.truncate(kept);
-    }
-}
-
-/// How large the numbers of a task are.
-#[derive(Clone, Copy, Debug, PartialEq, Eq)]
-enum Scale {
-    Small,
-    Mixed,
-}
-
-fn random_number(rng: &mut Rng, scale: Scale) -> i128 {
-    match (scale, rng.below(8)) {
-        (Scale::Mixed, 0) => *rng.pick(&[-NUMBER_LIMIT, NUMBER_LIMIT]),
-        (Scale::Mixed, 1 | 2) => rng.between(-NUMBER_LIMIT, NUMBER_LIMIT),
-        (_, 3 | 4) => rng.between(-50, 50),
-        _ => rng.between(-4, 6),
-    }
-}
-
-fn random_state(rng: &mut Rng, propositions: usize, values: usize, scale: Scale) -> State {
-    State {
-        propositions: (0..propositions).map(|_| rng.chance(1, 3)).collect(),
-        values: (0..values).map(|_| random_number(rng, scale)).collect(),
     }
 }
 
@@ -136,6 +113,10 @@ impl<'r> Maker<'r> {
 
     fn task(mut self, moves: usize) -> Task {
         let mut table = self.empty_table();
+        let moves = match self.propositions + self.variables {
+            0 => 0,
+            _ => moves,
+        };
         for i in 0..moves {
             table.moves.push(self.random_move());
             if i < 12 || i % 8 == 0 {
@@ -202,8 +183,21 @@ impl<'r> Maker<'r> {
         for v in self.rng.subset(some, self.variables) {
             items.push(Item::Effect(self.random_effect(v)));
         }
+        if !items.iter().any(Item::is_change) {
+            items.push(self.random_change());
+        }
         self.rng.shuffle(&mut items);
         Block { items }
+    }
+
+    /// A change of one proposition or variable.
+    fn random_change(&mut self) -> Item {
+        let name = self.rng.below(self.propositions + self.variables);
+        match name.checked_sub(self.propositions) {
+            Some(v) => Item::Effect(self.random_effect(v)),
+            None if self.rng.chance(2, 3) => Item::Add(name),
+            None => Item::Delete(name),
+        }
     }
 
     /// Propositions to require, nearly all within reach.

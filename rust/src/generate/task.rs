@@ -5,7 +5,7 @@ use crate::hex::hex;
 use crate::reference::{normal_form, parse_table};
 use std::fmt;
 
-/// The bytes of an accepted table and of an accepted state.
+/// The bytes of a table and of a state, both accepted unless it is said otherwise.
 #[derive(Clone, Debug, PartialEq, Eq)]
 pub struct Task {
     pub table: Vec<u8>,
@@ -67,6 +67,15 @@ impl Task {
         Call {
             numbers,
             ..self.call(CallKind::Blocking)
+        }
+    }
+
+    /// `rewrite` of this task's table with so many bytes of output.
+    pub fn rewrite(&self, room: usize) -> Call {
+        Call {
+            table: self.table.clone(),
+            room,
+            ..CallKind::Rewrite.call()
         }
     }
 

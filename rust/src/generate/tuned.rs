@@ -87,13 +87,21 @@ pub fn many_records(adders: usize, twice: usize) -> Task {
     }
 }
 
-/// The links of a chain, spread over at most `limit` moves.
+/// The links of a chain, spread over at most `limit` moves, each with one at least.
 fn chain_moves(rng: &mut Rng, names: &[usize], limit: usize) -> Vec<Block> {
-    let count = 1 + rng.below(limit.min(names.len()));
+    let mut links: Vec<Item> = names
+        .windows(2)
+        .map(|pair| assign(pair[1], &[(pair[0], 1)], 0))
+        .collect();
+    if links.is_empty() {
+        return Vec::new();
+    }
+    rng.shuffle(&mut links);
+    let count = 1 + rng.below(limit.min(links.len()));
     let mut moves = vec![Block::default(); count];
-    for pair in names.windows(2) {
-        let link = assign(pair[1], &[(pair[0], 1)], 0);
-        moves[rng.below(count)].items.push(link);
+    for (i, link) in links.into_iter().enumerate() {
+        let chosen = if i < count { i } else { rng.below(count) };
+        moves[chosen].items.push(link);
     }
     moves
 }
@@ -224,7 +232,7 @@ const LEVEL: usize = 8;
 /// A table of exactly `length` bytes with 64 moves and all variables, full of long sums.
 ///
 /// A chain raises one variable a layer up to the goal. All else is true and changes
-/// nothing. The shortest such table has about 600 bytes.
+/// nothing. The shortest such table has about 700 bytes.
 pub fn dense(rng: &mut Rng, kind: Kind, length: usize) -> Task {
     dense_of(rng, kind, length, |rng| random_weight(rng, kind))
 }
@@ -241,6 +249,9 @@ pub(super) fn dense_of(
     moves[0].items.push(assign(LEVEL, &[], 1));
     for (block, v) in moves.iter_mut().zip(LEVEL + 1..variables) {
         block.items.push(assign(v, &[(v - 1, 1)], 1));
+    }
+    for block in moves.iter_mut().filter(|block| block.is_idle()) {
+        block.items.push(Item::Add(0));
     }
     let mut table = Table {
         kind,
@@ -300,11 +311,13 @@ fn comparisons(kind: Kind) -> &'static [Comparison] {
 /// A table of exactly `length` bytes, nearly all of them true conditions without terms.
 pub fn full_length(rng: &mut Rng, kind: Kind, length: usize) -> Task {
     let moves = 2 - length % 2;
-    let left = length - 6 - moves;
-    let mut blocks = vec![Block::default(); moves];
-    blocks[0].items = (0..left / 6)
-        .map(|_| true_condition(*rng.pick(comparisons(kind)), &[]))
-        .collect();
+    let adds = Block {
+        items: vec![Item::Add(0)],
+    };
+    let left = length - 6 - 3 * moves;
+    let mut blocks = vec![adds; moves];
+    let conditions = (0..left / 6).map(|_| true_condition(*rng.pick(comparisons(kind)), &[]));
+    blocks[0].items.extend(conditions);
     let table = Table {
         kind,
         propositions: 2,

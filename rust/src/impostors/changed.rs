@@ -32,12 +32,16 @@ pub fn normalised(
     written.blocks_mut().for_each(before);
     let mut normal = normal_form(&written);
     normal.blocks_mut().for_each(after);
-    let form = normal.encode();
-    let start = out.get_mut(..form.len());
+    delivered(&normal.encode(), out)
+}
+
+/// A result written from the start of an output, if it fits.
+pub fn delivered(result: &[u8], out: &mut [u8]) -> Result<usize, Refusal> {
+    let start = out.get_mut(..result.len());
     start
         .ok_or(Reason::OutputShort.at(0))?
-        .copy_from_slice(&form);
-    Ok(form.len())
+        .copy_from_slice(result);
+    Ok(result.len())
 }
 
 pub fn each(block: &mut Block, change: fn(&mut Item)) {

@@ -1,13 +1,16 @@
-//! Engines that read other tables than the written ones that they are lent.
+//! Engines that read other tables than those that they are lent.
 
 use super::HONEST;
 use crate::answer::Refusal;
 use crate::call::CallKind;
 use crate::engine::Calls;
-use crate::reference::{block, normalise, pddl, read, step};
+use crate::reference::{block, blocking, decide, normalise, pddl, plan, read, step};
 
-/// The calls that take a written table.
-pub const WRITTEN: &[CallKind] = &[
+/// The calls that take a table and check it whole.
+pub const TABLES: &[CallKind] = &[
+    CallKind::Decide,
+    CallKind::Plan,
+    CallKind::Blocking,
     CallKind::Block,
     CallKind::Read,
     CallKind::Normalise,
@@ -17,10 +20,13 @@ pub const WRITTEN: &[CallKind] = &[
     CallKind::Listing,
 ];
 
+/// Those that take a written table.
+pub const WRITTEN: &[CallKind] = TABLES.split_at(3).1;
+
 /// The same without the block reader, which hands back parts of the lent table only.
 pub const REREADING: &[CallKind] = WRITTEN.split_at(1).1;
 
-/// What an engine reads in a written table's place, or why it refuses the table.
+/// What an engine reads in a table's place, or why it refuses the table.
 pub trait Misreading {
     fn misread(table: &[u8]) -> Result<Vec<u8>, Refusal>;
 }
@@ -42,6 +48,9 @@ pub const fn reading<M: Misreading>() -> Calls {
         normalise: |table, out| normalise(&M::misread(table)?, out),
         step: |table, state, mv, out| step(&M::misread(table)?, state, mv, out),
         pddl: |table, state, out| pddl(&M::misread(table)?, state, out),
+        decide: |table, state, layers| decide(&M::misread(table)?, state, layers),
+        plan: |table, state, layers, out| plan(&M::misread(table)?, state, layers, out),
+        blocking: |table, state, layers| blocking(&M::misread(table)?, state, layers),
         ..HONEST
     }
 }

@@ -84,6 +84,8 @@ extern "C" {
         layers: *mut i64,
         layers_len: usize,
     ) -> u64;
+
+    fn lapyndo_rewrite(table: *const u8, table_len: usize, out: *mut u8, out_len: usize) -> u64;
 }
 
 /// The result in an answer's number, or the refusal.
@@ -232,6 +234,10 @@ pub fn blocking(table: &[u8], state: &[u8], layers: &mut [i64]) -> Result<u32, R
     })
 }
 
+pub fn rewrite(table: &[u8], out: &mut [u8]) -> Result<u32, Refusal> {
+    answered(unsafe { lapyndo_rewrite(table.as_ptr(), table.len(), out.as_mut_ptr(), out.len()) })
+}
+
 #[cfg(test)]
 mod tests {
     use super::*;
@@ -243,8 +249,8 @@ mod tests {
     }
 
     #[test]
-    #[should_panic(expected = "refusal 16 is unknown")]
+    #[should_panic(expected = "refusal 17 is unknown")]
     fn an_unknown_refusal_is_found() {
-        let _ = answered(16 << 32);
+        let _ = answered(17 << 32);
     }
 }

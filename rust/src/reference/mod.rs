@@ -13,6 +13,7 @@ mod normal;
 mod parse;
 mod pddl;
 mod plan;
+mod rewrite;
 pub mod semantics;
 mod state;
 mod step;
@@ -26,7 +27,7 @@ pub use state::State;
 use crate::answer::{Answer, Blocking, Decision, Head, Plan, Reason, Refusal};
 use crate::room;
 use layers::{End, Layers};
-use parse::{parse, Parsed, Wanted};
+use parse::{parse, parse_stored, Parsed, Wanted};
 use table::{Kind, Table};
 
 /// Checks a table of either kind and answers its head.
@@ -122,6 +123,17 @@ pub fn plan(
     Ok(decision.with_plan(records.len() as u64, first))
 }
 
+/// Writes a stored table without its moves that do nothing and answers its length.
+pub fn rewrite(table: &[u8], out: &mut [u8]) -> Result<usize, Refusal> {
+    deliver(&rewritten(table)?, out)
+}
+
+/// That table.
+pub fn rewritten(table: &[u8]) -> Result<Vec<u8>, Refusal> {
+    let stored = parse_stored(table, Wanted::Either)?;
+    Ok(rewrite::without_idle_moves(table, &stored))
+}
+
 /// Builds the layers and writes them into the layer memory.
 fn build_layers(
     table: &[u8],
@@ -145,6 +157,22 @@ pub fn parse_task(table: &[u8], state: &[u8]) -> Result<(Table, State), Refusal>
 /// Parses an accepted table of either kind.
 pub fn parse_table(table: &[u8]) -> Result<Table, Refusal> {
     parse(table, Wanted::Either).map(|parsed| parsed.table)
+}
+
+/// What `decide` would answer for a stored normal table and leave in memory that suffices.
+pub fn stored_layers(table: &[u8], state: &[u8]) -> Result<(Decision, Vec<i64>), Refusal> {
+    let table = parse_stored(table, Wanted::Only(Kind::Normal))?.table;
+    let state = State::parse(&table, state)?;
+    let counts = [table.propositions, table.variables, table.moves.len()];
+    let mut memory = vec![0; room::layer_numbers(counts)];
+    let built = Layers::build(&table, &state, memory.len())?;
+    built.write(&mut memory);
+    Ok((built.decision()?, memory))
+}
+
+/// Parses a stored table of either kind, which may have moves that do nothing.
+pub fn parse_stored_table(table: &[u8]) -> Result<Table, Refusal> {
+    parse_stored(table, Wanted::Either).map(|parsed| parsed.table)
 }
 
 /// Writes a result from the start of an output and answers its length.

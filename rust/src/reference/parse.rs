@@ -21,12 +21,28 @@ pub struct Parsed {
     pub ranges: Vec<Range<usize>>,
 }
 
+/// What becomes of moves that do nothing.
+#[derive(Clone, Copy, Debug, PartialEq, Eq)]
+enum IdleMoves {
+    Refused,
+    Kept,
+}
+
 /// Makes all checks of a table.
 pub fn parse(bytes: &[u8], wanted: Wanted) -> Result<Parsed, Refusal> {
+    checked(bytes, wanted, IdleMoves::Refused)
+}
+
+/// Makes all checks of a stored table, which may have moves that do nothing.
+pub fn parse_stored(bytes: &[u8], wanted: Wanted) -> Result<Parsed, Refusal> {
+    checked(bytes, wanted, IdleMoves::Kept)
+}
+
+fn checked(bytes: &[u8], wanted: Wanted, idle_moves: IdleMoves) -> Result<Parsed, Refusal> {
     if bytes.len() > length_limit(bytes, wanted) {
         return Err(Reason::TableTooLong.at(0));
     }
-    let mut parser = Parser::at_head(bytes, wanted)?;
+    let mut parser = Parser::at_head(bytes, wanted, idle_moves)?;
     while !parser.ended {
         parser.advance()?;
     }
@@ -116,6 +132,7 @@ enum Place {
 
 struct Parser<'t> {
     bytes: &'t [u8],
+    idle_moves: IdleMoves,
     at: usize,
     kind: Kind,
     propositions: usize,
@@ -130,7 +147,11 @@ struct Parser<'t> {
 
 impl<'t> Parser<'t> {
     /// Checks the head and stands behind it.
-    fn at_head(bytes: &'t [u8], wanted: Wanted) -> Result<Parser<'t>, Refusal> {
+    fn at_head(
+        bytes: &'t [u8],
+        wanted: Wanted,
+        idle_moves: IdleMoves,
+    ) -> Result<Parser<'t>, Refusal> {
         let first = *bytes.first().ok_or(Reason::Cut.at(0))?;
         let kind = [Kind::Written, Kind::Normal]
             .into_iter()
@@ -145,6 +166,7 @@ impl<'t> Parser<'t> {
         require(moves <= MOVE_LIMIT, 3)?;
         Ok(Parser {
             bytes,
+            idle_moves,
             at: 4,
             kind,
             propositions,
@@ -163,6 +185,7 @@ impl<'t> Parser<'t> {
         let command = self.command()?;
         let operands = self.operands(command)?;
         self.check_move_count(command)?;
+        self.check_closed_move(command)?;
         let decoded = self.decode(command, operands)?;
         self.check_names(&decoded)?;
         self.take(decoded);
@@ -208,6 +231,17 @@ impl<'t> Parser<'t> {
             Ok(())
         } else {
             Err(Reason::MoveCount.at(self.at))
+        }
+    }
+
+    /// A move does something before the next block closes it.
+    fn check_closed_move(&self, command: Command) -> Result<(), Refusal> {
+        let closes = matches!(command, Command::Move | Command::Goal);
+        let idle = self.place == Place::InMove && self.blocks.last().is_some_and(Block::is_idle);
+        if closes && idle && self.idle_moves == IdleMoves::Refused {
+            Err(Reason::IdleMove.at(self.at))
+        } else {
+            Ok(())
         }
     }
 

@@ -126,6 +126,11 @@ pub enum Item {
 }
 
 impl Item {
+    /// Whether it is a 2B, a 2D or a 46, whatever it does to a state.
+    pub fn is_change(&self) -> bool {
+        matches!(self, Item::Add(_) | Item::Delete(_) | Item::Effect(_))
+    }
+
     /// The terms of a condition or of an effect.
     pub fn terms_mut(&mut self) -> Option<&mut Vec<Term>> {
         match self {
@@ -143,6 +148,11 @@ pub struct Block {
 }
 
 impl Block {
+    /// Whether it has neither 2B, 2D nor 46: as a move it does nothing.
+    pub fn is_idle(&self) -> bool {
+        !self.items.iter().any(Item::is_change)
+    }
+
     pub fn required(&self) -> impl Iterator<Item = usize> + '_ {
         self.items.iter().filter_map(|item| match item {
             Item::Require(p) => Some(*p),

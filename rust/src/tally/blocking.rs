@@ -1,9 +1,9 @@
 //! What calls of `blocking` have to tell apart, counted.
 
+use super::Shares;
 use crate::call::Call;
 use crate::parts::{goal_parts, Needs, Part, Stored};
 use crate::reference::decide;
-use std::collections::BTreeMap;
 
 /// Conditions that block, by their number of terms.
 const TERMS: [&str; 9] = [
@@ -11,15 +11,9 @@ const TERMS: [&str; 9] = [
     "8 terms",
 ];
 
-/// How many calls have each trait.
-#[derive(Default)]
-pub struct Shares {
-    counts: BTreeMap<&'static str, usize>,
-}
-
 impl Shares {
     /// Takes note of a call and its answer.
-    pub fn add(&mut self, call: &Call, answer: &str) {
+    pub(super) fn add_blocking(&mut self, call: &Call, answer: &str) {
         if let Some(offset) = answer.strip_prefix("blocks ") {
             let offset = offset.parse().expect("an offset is a number");
             self.add_blocked(call, offset);
@@ -30,10 +24,6 @@ impl Shares {
             self.add_one("nothing", answer == "nothing");
             self.add_one("15", answer.starts_with("refusal 15 "));
         }
-    }
-
-    fn add_one(&mut self, name: &'static str, has: bool) {
-        *self.counts.entry(name).or_default() += usize::from(has);
     }
 
     /// The same for a call that the part at an offset blocks.
@@ -84,23 +74,6 @@ impl Shares {
         match is_sum(part) {
             true => self.add_one(TERMS[part.terms().len()], true),
             false => self.add_one("a proposition", true),
-        }
-    }
-
-    /// How many calls have a trait.
-    pub fn count(&self, name: &str) -> usize {
-        self.counts.get(name).copied().unwrap_or(0)
-    }
-
-    /// Fails unless at least so many calls have each trait.
-    ///
-    /// # Panics
-    /// If there are fewer.
-    pub fn expect(&self, least: &[(&str, usize)]) {
-        println!("{:?}", self.counts);
-        for (name, least) in least {
-            let count = self.count(name);
-            assert!(count >= *least, "{name}: {count} only");
         }
     }
 

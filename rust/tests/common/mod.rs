@@ -2,5 +2,6 @@
 
 pub mod folder;
 pub mod pddl_reader;
+pub mod refused;
 pub mod rooms;
 pub mod tasks;

@@ -103,7 +103,7 @@ fn check_both(engine: &dyn Engine, call: &Call) -> &'static str {
 fn refusals_and_memory_are_those_of_decide() {
     let mut rng = Rng::new(40);
     let mut found = Vec::new();
-    for task in blocked_tasks(41, 600) {
+    for task in blocked_tasks(41, 800) {
         for numbers in Sizes::of(&task).memories(&mut rng) {
             let call = task.blocking(numbers);
             found.extend(ENGINES.map(|engine| check_both(engine, &call)));

@@ -60,7 +60,8 @@ fn check_read(table: &[u8]) -> Option<Refusal> {
         Err(refusal) => {
             let place = refusal.place as usize;
             assert!(place <= table.len());
-            if matches!(refusal.reason, Reason::Misplaced | Reason::MoveCount) {
+            let at_command = [Reason::Misplaced, Reason::MoveCount, Reason::IdleMove];
+            if at_command.contains(&refusal.reason) {
                 assert_eq!(ENGINE.read(&table[..=place]), Err(refusal));
             }
             Some(refusal)
@@ -72,7 +73,7 @@ fn check_read(table: &[u8]) -> Option<Refusal> {
 fn damaged_tables_are_refused_within_themselves() {
     let written = m1().table;
     let normal = normalised(ENGINE, &written).unwrap();
-    let mut seen = [0; 16];
+    let mut seen = [0; 17];
     for table in [&written, &normal] {
         let damaged = single_byte_changes(table)
             .chain(insertions(table))
@@ -82,7 +83,7 @@ fn damaged_tables_are_refused_within_themselves() {
             seen[usize::from(number)] += 1;
         }
     }
-    for number in [0, 2, 3, 4, 5, 6] {
+    for number in [0, 2, 3, 4, 5, 6, 16] {
         assert!(seen[number] > 10, "refusal {number}: {}", seen[number]);
     }
 }
@@ -124,13 +125,13 @@ fn truncated_tables_are_cut() {
 #[test]
 fn random_commands_are_read_or_refused_within_themselves() {
     let mut rng = Rng::new(19);
-    let mut seen = [0; 16];
+    let mut seen = [0; 17];
     for _ in 0..20_000 {
         let table = command_string(&mut rng);
         let number = check_read(&table).map_or(0, |r| r.reason.number());
         seen[usize::from(number)] += 1;
     }
-    for number in [0, 2, 3, 4, 5, 6, 7] {
+    for number in [0, 2, 3, 4, 5, 6, 7, 16] {
         assert!(seen[number] > 10, "{seen:?}");
     }
     for _ in 0..2_000 {

@@ -6,7 +6,7 @@ use campaign::hex::bytes;
 
 #[test]
 fn states() {
-    let table = bytes("54 02 02 01 41 47 45");
+    let table = bytes("54 02 02 01 41 2d 00 47 45");
     let step = |state: &[u8]| pair(ENGINE.step(&table, state, 9, &mut []));
     assert_eq!(step(&[0; 9]), Some((8, 0)));
     assert_eq!(step(&[9; 11]), Some((8, 0)));
@@ -52,12 +52,12 @@ fn steps_are_refused_in_order_and_keep_their_output() {
 
 #[test]
 fn blocks_beyond_the_goal() {
-    let table = bytes("54 00 00 02 41 41 47 45");
+    let table = bytes("54 01 00 02 41 2b 00 41 2d 00 47 45");
     assert_eq!(ENGINE.block(&table, 2), Ok(&[0x47][..]));
     for b in [3, 255, 256, 1 << 32, 1 << 63, u64::MAX] {
         assert_eq!(pair(ENGINE.block(&table, b)), Some((10, 0)));
     }
-    assert_eq!(pair(ENGINE.block(&table[..7], 9)), Some((2, 7)));
+    assert_eq!(pair(ENGINE.block(&table[..11], 9)), Some((2, 11)));
 }
 
 /// v1 := 1000 v0, v2 := 1000 v1 + 1 of signed variables, from v0 = 1,000,000.

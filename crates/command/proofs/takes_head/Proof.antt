@@ -28,25 +28,32 @@ enum-told-6 c = search needs
 enum-told-7 : tie.Need-enum-told-7
 enum-told-7 c = search needs
 
+enum-told-8 : tie.Need-enum-told-8
+enum-told-8 c = search needs
+
 returns : tie.Need-returns
 unfolding wantedOf headWanted
 returns c = rw (c .enum-told .given .1) refl
 
 returns-2 : tie.Need-returns-2
-unfolding formOf wantedOf headWanted
-returns-2 c = rw (c .before .before .enum-told2 .given .1, c .enum-told3 .given .1) refl
+unfolding wantedOf headWanted
+returns-2 c = rw (c .enum-told2 .given .1) refl
 
 returns-3 : tie.Need-returns-3
 unfolding formOf wantedOf headWanted
-returns-3 c = rw (c .before .before .enum-told2 .given .1, c .enum-told4 .given .1) refl
+returns-3 c = rw (c .before .before .enum-told3 .given .1, c .enum-told4 .given .1) refl
 
 returns-4 : tie.Need-returns-4
 unfolding formOf wantedOf headWanted
-returns-4 c = rw (c .before .before .enum-told5 .given .1, c .enum-told6 .given .1) refl
+returns-4 c = rw (c .before .before .enum-told3 .given .1, c .enum-told5 .given .1) refl
 
 returns-5 : tie.Need-returns-5
 unfolding formOf wantedOf headWanted
-returns-5 c = rw (c .before .before .enum-told5 .given .1, c .enum-told7 .given .1) refl
+returns-5 c = rw (c .before .before .enum-told6 .given .1, c .enum-told7 .given .1) refl
+
+returns-6 : tie.Need-returns-6
+unfolding formOf wantedOf headWanted
+returns-6 c = rw (c .before .before .enum-told6 .given .1, c .enum-told8 .given .1) refl
 
 pub takes-head-spec : {M : Type 1} → statement M
 takes-head-spec =
@@ -59,8 +66,10 @@ takes-head-spec =
     enum-told-5
     enum-told-6
     enum-told-7
+    enum-told-8
     returns
     returns-2
     returns-3
     returns-4
-    returns-5)
+    returns-5
+    returns-6)

@@ -10,6 +10,7 @@ pub mod Moves
 pub mod Names
 pub mod Circle
 pub mod Task
+pub mod Active
 pub mod Print
 pub mod ZeroTerms
 pub mod ZeroTables

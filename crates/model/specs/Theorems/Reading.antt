@@ -12,6 +12,7 @@ pub mod Reads
 pub mod Circles
 pub mod Edges
 pub mod Marks
+pub mod Active
 pub mod Accepted
 pub mod States
 pub mod Parts

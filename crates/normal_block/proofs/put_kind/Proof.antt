@@ -5,7 +5,7 @@ use mathlib.Core.Path.{_≡_, sym, ap}
 use mir.Syntax.{w64}
 use mir.Val.{toZ, ofZ}
 use Rattle.integer.specs.Linear.{back}
-use Rattle.model.specs.Reading.{kindOf}
+use Rattle.model.specs.Seen.{kindOf}
 use Rattle.output.specs.Writing.{written-same}
 use Rattle.block.specs.Terms.{termsAt}
 use Rattle.normal_block.specs.Effects.{effectPrint}

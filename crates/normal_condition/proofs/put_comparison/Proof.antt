@@ -6,7 +6,7 @@ use mir.Syntax.{w64}
 use mir.Val.{toZ, ofZ}
 use Rattle.integer.specs.Linear.{back}
 use Rattle.model.specs.Command.{itemsBytes}
-use Rattle.model.specs.Reading.{comparisonOf}
+use Rattle.model.specs.Seen.{comparisonOf}
 use Rattle.model.specs.NormalForm.{normalCondition}
 use Rattle.model.specs.Theorems.Reading.Ranges.{one-of-five}
 use Rattle.output.specs.Writing.{written-same}

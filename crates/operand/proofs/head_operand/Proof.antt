@@ -4,7 +4,8 @@ use borrow.Author.Tests.{not-true, not-false}
 use borrow.Author.Needs.{needs}
 use Rattle.model.specs.Limits.{paper, varsInRange}
 use Rattle.model.specs.Command.{width}
-use Rattle.model.specs.Reading.{operands, byteAfter}
+use Rattle.model.specs.Seen.{byteAfter}
+use Rattle.model.specs.Reading.{operands}
 use Rattle.operand.specs.Ranges.{wrongOperand, viewAt, wrong-first, wrong-later, wrong-none, at-most-no, at-most-yes, through}
 use Rattle.operand.proofs.head_operand.Statement.{statement}
 use Rattle.operand.proofs.head_operand.Tie as tie

@@ -3,7 +3,8 @@
 use borrow.Author.Needs.{needs}
 use Rattle.model.specs.Limits.{paper}
 use Rattle.model.specs.Command.{width}
-use Rattle.model.specs.Reading.{operands, byteAfter, numberAfter}
+use Rattle.model.specs.Seen.{byteAfter, numberAfter}
+use Rattle.model.specs.Reading.{operands}
 use Rattle.operand.specs.Ranges.{wrongOperand, viewAt, wrong-first, wrong-later, wrong-none, below-no, below-yes}
 use Rattle.operand.proofs.prop_operand.Statement.{statement}
 use Rattle.operand.proofs.prop_operand.Tie as tie

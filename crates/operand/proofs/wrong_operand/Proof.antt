@@ -3,7 +3,8 @@
 use mathlib.Core.Path.{refl, sym, _∙_}
 use borrow.Author.Needs.{needs}
 use Rattle.model.specs.Command.{width}
-use Rattle.model.specs.Reading.{operands, firstWrong, byteAfter, numberAfter}
+use Rattle.model.specs.Seen.{byteAfter, numberAfter}
+use Rattle.model.specs.Reading.{operands, firstWrong}
 use Rattle.command.specs.Names.{commandIs}
 use Rattle.operand.specs.Ranges.{wrongOperand, viewAt, offsetOf}
 use Rattle.operand.proofs.wrong_operand.Statement.{statement}

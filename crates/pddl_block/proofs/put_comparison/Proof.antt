@@ -5,7 +5,7 @@ use mathlib.Core.Path.{_≡_, sym, ap}
 use mathlib.Core.List.{_++_}
 use borrow.Author.Needs.{needs}
 use Rattle.model.specs.Ascii.{ascii}
-use Rattle.model.specs.Reading.{comparisonOf}
+use Rattle.model.specs.Seen.{comparisonOf}
 use Rattle.model.specs.Pddl.{comparisonText}
 use Rattle.model.specs.Theorems.Reading.Ranges.{one-of-five}
 use Rattle.output.specs.Writing.{written-same}

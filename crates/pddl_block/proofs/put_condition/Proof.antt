@@ -9,7 +9,7 @@ use mir.Val.{toZ, ofZ}
 use borrow.Author.Needs.{needs}
 use Rattle.integer.specs.Linear.{back}
 use Rattle.model.specs.Ascii.{ascii}
-use Rattle.model.specs.Reading.{comparisonOf}
+use Rattle.model.specs.Seen.{comparisonOf}
 use Rattle.model.specs.Pddl.{numberText, expressionText, comparisonText, sumOf}
 use Rattle.block.specs.Terms.{termsAt}
 use Rattle.output.specs.Writing.{Room, written-join, room-first, room-next}

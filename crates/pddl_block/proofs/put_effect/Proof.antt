@@ -8,7 +8,7 @@ use mir.Val.{toZ, ofZ}
 use borrow.Author.Needs.{needs}
 use Rattle.integer.specs.Linear.{back}
 use Rattle.model.specs.Ascii.{ascii}
-use Rattle.model.specs.Reading.{kindOf}
+use Rattle.model.specs.Seen.{kindOf}
 use Rattle.model.specs.Pddl.{expressionText, kindText, sumOf}
 use Rattle.block.specs.Terms.{termsAt}
 use Rattle.output.specs.Writing.{Room, written-join, room-first, room-next}

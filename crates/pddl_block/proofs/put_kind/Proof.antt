@@ -5,7 +5,7 @@ use mathlib.Core.Path.{_≡_, sym, ap}
 use mathlib.Core.List.{_++_}
 use borrow.Author.Needs.{needs}
 use Rattle.model.specs.Ascii.{ascii}
-use Rattle.model.specs.Reading.{kindOf}
+use Rattle.model.specs.Seen.{kindOf}
 use Rattle.model.specs.Pddl.{kindText}
 use Rattle.output.specs.Writing.{written-same}
 use Rattle.pddl_block.proofs.put_kind.Statement.{statement}

@@ -6,7 +6,7 @@ use mir.Syntax.{w64}
 use mir.Val.{toZ, ofZ}
 use Rattle.integer.specs.Linear.{back}
 use Rattle.model.specs.Task.{Kind}
-use Rattle.model.specs.Reading.{kindOf}
+use Rattle.model.specs.Seen.{kindOf}
 use Rattle.model.specs.Move.{changed}
 use Rattle.transition.specs.Walking.{kind-rest}
 use Rattle.transition.proofs.changed.Statement.{statement}

@@ -1,7 +1,7 @@
 //! The commands, and help. A new command is a module with its `COMMAND`, and a line in `ALL`.
 
 use crate::outcome::{Done, Misuse, Outcome};
-use crate::{pddl, planning, show, step, why, words};
+use crate::{pddl, planning, rewrite, show, step, why, words};
 use std::ffi::OsString;
 
 pub struct Command {
@@ -23,11 +23,12 @@ const ALL: &[Command] = &[
     why::WHY,
     step::STEP,
     pddl::PDDL,
+    rewrite::REWRITE,
 ];
 
 const INTRODUCTION: &str = "\
 lapyndo puts a campaign into words: its table, its plan or why there is none, and the state
-after a move; and writes it as files for other planners.
+after a move; writes it as files for other planners; and rewrites stored tables.
 
 A FILE is a table, written (head 54) or normal (head 4E). A FOLDER has the table in task.bin
 and the state in state.bin. Propositions are named p0, p1, .., variables v0, v1, .. and moves

@@ -31,7 +31,7 @@ impl Case<'_> {
         let number = refusal.reason.number();
         let place = usize::try_from(refusal.place).unwrap_or(usize::MAX);
         let rows = match number {
-            1..=7 => refused::rows(&self.file(), &Scan::of(self.table), refusal.reason, place),
+            1..=7 | 16 => refused::rows(&self.file(), &Scan::of(self.table), refusal.reason, place),
             8..=9 => self.state_rows(refusal.reason, place),
             10..=12 => self.step_rows(refusal.reason),
             14..=15 => self.layer_rows(place),
@@ -187,6 +187,7 @@ fn meaning(reason: Reason) -> &'static str {
         Reason::OperandRange => "an operand is out of range",
         Reason::NamedAgain => "a name is used again, a sum does not rise, or it has a ninth term",
         Reason::MoveCount => "there are more or fewer moves than the head says",
+        Reason::IdleMove => "a move has no effect: nearly always an unfinished row",
         Reason::Circle => "a variable is set (:=) from itself, in one effect or through others",
         Reason::StateLength => "the state has the wrong length",
         Reason::StateRange => "a byte or a value of the state is out of range",

@@ -3,8 +3,9 @@
 use crate::outcome::Misuse;
 use std::ffi::OsStr;
 use std::fs::{self, File};
-use std::io::{self, ErrorKind, Read};
+use std::io::{self, ErrorKind, Read, Write};
 use std::path::Path;
+use std::process;
 
 /// The longest table that is ever accepted, in bytes.
 const TABLE_LIMIT: usize = 64_000;
@@ -55,6 +56,48 @@ fn bytes(file: &Path, what: &str, limit: usize) -> Result<Vec<u8>, Misuse> {
 /// Writes a file, or replaces it.
 pub fn write(file: &Path, bytes: &[u8]) -> Result<(), Misuse> {
     fs::write(file, bytes).map_err(|error| misuse(file, &reason(&error, "written")))
+}
+
+/// Whether a file may be written: it is not the one that is to be kept, and what is there, if
+/// anything, is an ordinary file that may be written.
+pub fn check_replaceable(file: &Path, kept: &Path) -> Result<(), Misuse> {
+    let folder = file.parent().filter(|folder| *folder != Path::new(""));
+    if let Some(folder) = folder.filter(|folder| !folder.is_dir()) {
+        return Err(misuse(folder, "there is no such folder"));
+    }
+    let Ok(found) = fs::metadata(file) else {
+        return Ok(());
+    };
+    let whole = |path: &Path| path.canonicalize().ok();
+    let text = if whole(file).is_some() && whole(file) == whole(kept) {
+        "this is the file that is read, and it is kept: name another one"
+    } else if found.is_dir() {
+        "this is a folder, and not a file"
+    } else if !found.is_file() {
+        "this is no ordinary file"
+    } else if found.permissions().readonly() {
+        "the file may not be written"
+    } else {
+        return Ok(());
+    };
+    Err(misuse(file, text))
+}
+
+/// Writes a file, or replaces it as a whole: what was there stays where something fails.
+pub fn replace(file: &Path, bytes: &[u8]) -> Result<(), Misuse> {
+    let place = file.canonicalize().unwrap_or_else(|_| file.into());
+    let mut name = place.file_name().unwrap_or_default().to_owned();
+    name.push(format!(".{}.new", process::id()));
+    let new = place.with_file_name(name);
+    let failed = |error| misuse(file, &reason(&error, "written"));
+    let mut opened = File::create_new(&new).map_err(failed)?;
+    let written = opened.write_all(bytes).and_then(|()| opened.sync_all());
+    let replaced = written.and_then(|()| fs::rename(&new, &place));
+    replaced.map_err(|error| {
+        // What is told is why it failed; the new file may be left over.
+        let _ = fs::remove_file(&new);
+        failed(error)
+    })
 }
 
 /// Why a file cannot be read or written.

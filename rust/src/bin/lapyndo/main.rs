@@ -1,5 +1,5 @@
 //! `lapyndo COMMAND ..`: a campaign's table, plan and steps in words, for people, and as files for
-//! other planners.
+//! other planners; and stored tables rewritten.
 //!
 //! Every answer comes from the proved engine. This program reads and writes files, calls it, and
 //! puts answers and refusals into words.
@@ -17,6 +17,7 @@ mod parts;
 mod pddl;
 mod planning;
 mod refused;
+mod rewrite;
 mod scan;
 mod show;
 mod state;

@@ -20,12 +20,23 @@ pub fn rows(file: &str, scan: &Scan, reason: Reason, place: usize) -> Rows {
         Reason::Cut => fault.cut(),
         Reason::Misplaced => fault.misplaced(),
         Reason::MoveCount => fault.move_count(),
+        Reason::IdleMove => {
+            rows.extend(fault.idle_move().map(|text| ("move", text)));
+            "it has none of 2B (adds), 2D (deletes) and 46 (effect)".into()
+        }
         Reason::OperandRange => fault.out_of_range(),
         _ => fault.named_again(),
     };
     rows.push(("why", why));
+    if reason == Reason::IdleMove {
+        rows.push(("remedy", REMEDY.into()));
+    }
     rows
 }
+
+/// What can be done about a move without an effect.
+const REMEDY: &str =
+    "finish the row; of a stored table, lapyndo rewrite FILE OUT drops all such moves";
 
 /// Of a refusal of the table as a whole.
 fn whole_rows(file: &str, scan: &Scan, reason: Reason) -> Rows {
@@ -162,6 +173,16 @@ impl<'f> Fault<'f> {
             true => format!("the head says {said}, and the goal comes after {found}"),
             false => format!("the head says {said}, and this is one more"),
         }
+    }
+
+    /// The move that the place closes.
+    fn idle_move(&self) -> Option<String> {
+        let block = self.block()?;
+        let (opens, closes) = (self.scan.opening(block)?.at, self.place);
+        let items = words::items(self.scan, block);
+        Some(format!(
+            "opened at byte {opens}, closed at byte {closes}: {items}"
+        ))
     }
 
     fn out_of_range(&self) -> String {

@@ -191,18 +191,34 @@ impl<'t> Scan<'t> {
         [0, 1, 2].map(|i| head.map_or(0, |head| head.index(i)))
     }
 
+    /// The commands of a block, from its opening on.
+    fn block(&self, block: Block) -> impl Iterator<Item = &Line<'t>> {
+        let inside = move |line: &&Line| line.block == Some(block) && line.form.code != Code::End;
+        self.lines.iter().filter(inside)
+    }
+
+    pub fn opening(&self, block: Block) -> Option<&Line<'t>> {
+        self.block(block).next()
+    }
+
+    /// The bytes of a block, up to what opens the next one or ends the table.
+    pub fn bytes(&self, block: Block) -> &'t [u8] {
+        let start = self.opening(block).map_or(0, |line| line.at);
+        let end = self.block(block).last().map_or(0, Line::end);
+        &self.table[start..end]
+    }
+
     /// The commands of a block that say something by themselves: no terms, and not its opening.
     pub fn items(&self, block: Block) -> impl Iterator<Item = &Line<'t>> {
-        let lines = self
-            .lines
-            .iter()
-            .filter(move |line| line.block == Some(block));
-        lines.filter(|line| {
-            !matches!(
-                line.form.code,
-                Code::Move | Code::Goal | Code::Term | Code::End
-            )
-        })
+        let opens_or_adds_up = |code| matches!(code, Code::Move | Code::Goal | Code::Term);
+        self.block(block)
+            .filter(move |line| !opens_or_adds_up(line.form.code))
+    }
+
+    /// Whether a block adds, deletes or changes something.
+    pub fn has_effect(&self, block: Block) -> bool {
+        let does = |code| matches!(code, Code::Adds | Code::Deletes | Code::Effect);
+        self.items(block).any(|line| does(line.form.code))
     }
 }
 

@@ -96,14 +96,21 @@ fn sign(signs: &[&'static str], line: &Line) -> &'static str {
     signs.get(line.index(0)).copied().unwrap_or("?")
 }
 
+pub fn kind(normal: bool) -> &'static str {
+    match normal {
+        false => "written",
+        true => "normal",
+    }
+}
+
 fn head(normal: bool, [p, v, a]: [usize; 3]) -> String {
-    let (kind, variables) = match normal {
-        false => ("written", "variable"),
-        true => ("normal", "signed variable"),
+    let variables = match normal {
+        false => "variable",
+        true => "signed variable",
     };
     let counts = [(p, "proposition"), (v, variables), (a, "move")];
     let [p, v, a] = counts.map(|(number, one)| count(number, one));
-    format!("{kind} table: {p}, {v}, {a}")
+    format!("{} table: {p}, {v}, {a}", kind(normal))
 }
 
 /// What a block needs and does, in one line.
@@ -113,7 +120,7 @@ pub fn items(scan: &Scan, block: Block) -> String {
         .map(|item| line(scan.is_normal(), item))
         .collect();
     match items.is_empty() {
-        true => "needs nothing and does nothing".into(),
+        true => "needs nothing".into(),
         false => items.join("; "),
     }
 }

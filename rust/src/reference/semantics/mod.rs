@@ -1,6 +1,7 @@
 //! What lists of moves do, over unlimited whole numbers, and what none can do.
 //!
-//! Nothing here uses the code of layers or plans, so it can judge their answers.
+//! Nothing here uses the code of layers or plans, so it can judge their answers. Tables may have
+//! moves that do nothing, as stored ones do.
 
 mod real;
 mod relaxed;

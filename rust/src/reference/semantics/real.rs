@@ -2,7 +2,7 @@
 
 use super::whole::Whole;
 use crate::answer::Refusal;
-use crate::reference::parse_task;
+use crate::reference::parse_stored_table;
 use crate::reference::state::State;
 use crate::reference::table::{Block, Change, Comparison, Condition, Effect, Kind, Table, Term};
 
@@ -24,7 +24,8 @@ pub enum RealRun {
 
 /// Runs a list of real moves of a table of either kind.
 pub fn real_run(table: &[u8], state: &[u8], moves: &[u64]) -> Result<RealRun, Refusal> {
-    let (table, state) = parse_task(table, state)?;
+    let table = parse_stored_table(table)?;
+    let state = State::parse(&table, state)?;
     let mut state = RealState::start(&table, &state);
     for (at, mv) in moves.iter().enumerate() {
         let block = usize::try_from(*mv).ok().and_then(|b| table.moves.get(b));

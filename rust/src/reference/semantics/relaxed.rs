@@ -3,7 +3,7 @@
 use super::real::RealState;
 use super::repeat::{Amount, Relaxed};
 use crate::answer::Refusal;
-use crate::reference::parse::{parse, Wanted};
+use crate::reference::parse::{parse_stored, Wanted};
 use crate::reference::state::State;
 use crate::reference::table::{Block, Kind, Table};
 
@@ -55,7 +55,7 @@ pub(super) fn relaxed_after(before: &RealState, block: &Block) -> RealState {
 }
 
 fn normal_task(table: &[u8], state: &[u8]) -> Result<(Table, State), Refusal> {
-    let table = parse(table, Wanted::Only(Kind::Normal))?.table;
+    let table = parse_stored(table, Wanted::Only(Kind::Normal))?.table;
     let state = State::parse(&table, state)?;
     Ok((table, state))
 }

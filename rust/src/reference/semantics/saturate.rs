@@ -7,7 +7,7 @@
 //! there, no list solves the task.
 
 use crate::answer::Refusal;
-use crate::reference::parse::{parse, Wanted};
+use crate::reference::parse::{parse_stored, Wanted};
 use crate::reference::state::State;
 use crate::reference::table::{Block, Change, Effect, Kind, Table, Term};
 
@@ -26,7 +26,7 @@ pub struct Saturation {
 
 /// The bound for a normal table and a state.
 pub fn saturate(table: &[u8], state: &[u8]) -> Result<Saturation, Refusal> {
-    let table = parse(table, Wanted::Only(Kind::Normal))?.table;
+    let table = parse_stored(table, Wanted::Only(Kind::Normal))?.table;
     let state = State::parse(&table, state)?;
     Ok(saturate_table(&table, &state))
 }

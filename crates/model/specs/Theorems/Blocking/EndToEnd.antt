@@ -23,7 +23,7 @@ use Rattle.model.specs.StateTable.{stateRefusal}
 use Rattle.model.specs.Memory.{room, wrong15, answered}
 use Rattle.model.specs.Calls.{normalBytes, decideAnswer, planRecords}
 use Rattle.model.specs.Blocking.{goalPart, partOffset, blockingAnswer}
-use Rattle.model.specs.Theorems.Reading.Accepted.{reading-task}
+use Rattle.model.specs.Theorems.Reading.Accepted.{reading-task, accepted-one}
 use Rattle.model.specs.Theorems.NormalForm.Print.{normalTable, normal-accepted, normal-state}
 use Rattle.model.specs.Theorems.Campaigns.Demand2.{normalPart, normalise-leaves}
 use Rattle.model.specs.Theorems.Campaigns.Demand3.{relaxedTask, startState, layerZero, endOf, Given, DecideNoPlan}
@@ -130,9 +130,6 @@ module _ (t bs normalOut : List ℕ) (mem : List ℤ) (w : Table) (read : readin
         unsolvable = keeping-item (w .task) (startState w bs) (b .part) c (b .first .unreachable) (reading-task paper written t read);
         keeping = keeping-item-relaxed (w .task) (startState w bs) (b .part) c (b .first .unreachable);
       }
-    where
-      accepted-one : {a b : Table} → accepted a ≡ accepted b → a ≡ b
-      accepted-one e = cc
 
   -- For an accepted written table, and an output with room for its normal form: an offset that blocks in the bytes that normalise writes
   -- is the true reason in the written table too.

@@ -21,9 +21,11 @@ use Rattle.model.specs.Limits.{paper}
 use Rattle.model.specs.Pddl.{pddlAnswer}
 use Rattle.model.specs.Calls.{readAnswer, blockPart, blockRefusal, normaliseAnswer, stepAnswer, decideAnswer, planAnswer, campaignDecision, campaignPlan}
 use Rattle.model.specs.Blocking.{blockingAnswer}
+use Rattle.model.specs.Rewrite.{rewriteAnswer}
 use Rattle.model.specs.Exports.{refusalCode, readCode, writeCode, decideCode, planCode, planRecordCount, planFirstMoves, blockingCode, blockAnswer, codeNumber, codePlace, apart, readApart, writeApart, decideApart, planApart, blockingApart}
 use Rattle.model.specs.Theorems.Reading.Places.{Small}
 use Rattle.model.specs.Theorems.Pddl.Sizes.{pddl-small}
+use Rattle.model.specs.Theorems.Rewriting.Sizes.{rewrite-small}
 use Rattle.model.specs.Theorems.Sizes.Answers.{placeLimit, resultLimit, ReadSmall, read-small, WriteSmall, write-wider, normalise-small, step-small, block-small, DecideSmall, decide-small, PlanSmall, plan-small, BlockingSmall, blocking-small, campaign-decision-small, campaign-plan-small}
 
 -- ---- the halves
@@ -128,6 +130,15 @@ pub normalise-one :
     (t out u room : List ℕ) → writeCode (normaliseAnswer paper t out) ≡ writeCode (normaliseAnswer paper u room)
     → normaliseAnswer paper t out ≡ normaliseAnswer paper u room
 normalise-one t out u room = one-answer writeApart (normalise-apart t out) (normalise-apart u room)
+
+pub rewrite-apart : (t out : List ℕ) → writeApart (writeCode (rewriteAnswer paper t out)) ≡ rewriteAnswer paper t out
+rewrite-apart t out =
+    write-back (rewriteAnswer paper t out) (write-wider (rewriteAnswer paper t out) (omega arith) (rewrite-small t out))
+
+pub rewrite-one :
+    (t out u room : List ℕ) → writeCode (rewriteAnswer paper t out) ≡ writeCode (rewriteAnswer paper u room)
+    → rewriteAnswer paper t out ≡ rewriteAnswer paper u room
+rewrite-one t out u room = one-answer writeApart (rewrite-apart t out) (rewrite-apart u room)
 
 pub step-apart :
     (t bs : List ℕ) (b : ℕ) (out : List ℕ) → writeApart (writeCode (stepAnswer paper t bs b out)) ≡ stepAnswer paper t bs b out

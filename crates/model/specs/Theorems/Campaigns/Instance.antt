@@ -11,7 +11,8 @@ use lib.IntN.{pos}
 use lib.ListN.{length, replicate}
 use Rattle.model.specs.Limits.{paper}
 use Rattle.model.specs.Task.{written}
-use Rattle.model.specs.Reading.{Table, Verdict, accepted, refused, nothingSeen, tableOf, only, reading}
+use Rattle.model.specs.Seen.{nothingSeen}
+use Rattle.model.specs.Reading.{Table, Verdict, accepted, refused, tableOf, only, reading}
 use Rattle.model.specs.Layer.{reported}
 use Rattle.model.specs.Memory.{wrong15}
 use Rattle.model.specs.Calls.{normalBytes, decideAnswer, planAnswer, planOut, recordsRead}

@@ -15,8 +15,10 @@ use Rattle.model.specs.Calls.{normalBytes}
 use Rattle.model.specs.StateTable.{stateRefusal}
 use Rattle.model.specs.Theorems.Reading.WellFormed.{TaskOk}
 use Rattle.model.specs.Theorems.Reading.Kept.{kept-length}
-use Rattle.model.specs.Theorems.Reading.Accepted.{reading-length, reading-limit, reading-form, reading-task}
+use Rattle.model.specs.Theorems.Reading.Accepted.{reading-length, reading-limit, reading-form, reading-task, reading-active}
 use Rattle.model.specs.Theorems.NormalForm.SignedSums.{negative, negated-map}
+use Rattle.model.specs.Theorems.Reading.Active.{AllActive, only-checks}
+use Rattle.model.specs.Theorems.NormalForm.Active.{normal-all-active}
 use Rattle.model.specs.Theorems.NormalForm.Task.{normal-ok}
 use Rattle.model.specs.Theorems.Printing.Passing.{SmallLimits, paper-small}
 use Rattle.model.specs.Theorems.Printing.Items.{itemCommand, length-item}
@@ -152,11 +154,12 @@ pub normal-read :
     → SmallLimits L
     → 2 * L .writtenLength ≤ L .normalLength
     → TaskOk L written k
+    → AllActive (k .moves)
     → length (taskBytes written k) ≤ L .writtenLength
     → reading L (only normal) (normalBytes k) ≡ accepted (normalTable k)
 unfolding normalBytes lengthLimit
-normal-read {L} k small room ok short =
-    print-read-only normal (normalTask k) small (normal-ok L k ok) (omega (arith, normal-length k))
+normal-read {L} k small room ok does short =
+    print-read-only normal (normalTask k) small (normal-ok L k ok) (unfold normalTask in (normal-all-active (k .moves) does)) (omega (arith, normal-length k))
     ∙ ap accepted (normal-table k)
 
 -- the print of an accepted written table's task is as long as the table
@@ -178,7 +181,9 @@ pub normal-accepted :
     → reading paper (only written) t ≡ accepted w
     → reading paper (only normal) (normalBytes (w .task)) ≡ accepted (normalTable (w .task))
 unfolding paper
-normal-accepted t {w} e = normal-read (w .task) paper-small (omega arith) (reading-task paper written t e) (written-short t e)
+normal-accepted t {w} e =
+    normal-read (w .task) paper-small (omega arith) (reading-task paper written t e)
+    (reading-active paper (only written) t e (only-checks written)) (written-short t e)
 
 -- ---- the state
 

@@ -3,18 +3,19 @@
 -- accepted table: it stays accepted. Assumes nothing.
 use Prim.Native.Nat.{ℕ, _≤_}
 use native.Mathlib.Omega.{arith}
-use mathlib.Core.Path.{_≡_, refl, sym, ap, _∙_, subst}
-use mathlib.Core.Bool.{true, false}
+use mathlib.Core.Path.{_≡_, refl, sym, ap, ap₂, _∙_, subst}
+use mathlib.Core.Bool.{true, false, _||_}
 use mathlib.Core.List.{List, [], _∷_, map}
 use mathlib.Core.Option.{Option, none, some}
-use lib.Dec.{ltb}
+use lib.Dec.{T, ltb}
 use lib.IntN.{ℤ}
 use lib.ListN.{length, length-append}
 use Rattle.model.specs.declared.Refusal.{Refusal}
 use Rattle.model.specs.declared.DecideAnswer.the-variants as decide
 use Rattle.model.specs.declared.PlanAnswer.the-variants as plan
 use Rattle.model.specs.Limits.{Limits, paper}
-use Rattle.model.specs.Task.{written, Item, need, add, delete, condition, effect, Block, Task, termsOf}
+use Rattle.model.specs.Lists.{any}
+use Rattle.model.specs.Task.{written, Item, need, add, delete, condition, effect, Block, Task, termsOf, changes, active}
 use Rattle.model.specs.Move.{State}
 use Rattle.model.specs.Command.{itemBytes, itemsBytes, movesBytes, taskBytes}
 use Rattle.model.specs.Reading.{Table, Verdict, accepted, only, lengthLimit, reading}
@@ -22,7 +23,8 @@ use Rattle.model.specs.StateTable.{stateOf, stateRefusal}
 use Rattle.model.specs.Calls.{Output, writes, turns, fitted, writeAnswer, outputAfter, normalOf, normalised, normaliseAnswer, normaliseOut, resultOf, moved, stepWithState, stepOf, stepped, stepAnswer, stepOut, onOutput, prepared, decideAnswer, planAnswer, planMemory, planOut, campaignDecision, campaignPlan, campaignMemory, campaignOut}
 use Rattle.model.specs.Listing.{listingBytes, refusalText, readyText, listing}
 use Rattle.model.specs.Theorems.Reading.WellFormed.{All, TaskOk}
-use Rattle.model.specs.Theorems.Reading.Accepted.{reading-task}
+use Rattle.model.specs.Theorems.Reading.Accepted.{reading-task, reading-active}
+use Rattle.model.specs.Theorems.Reading.Active.{AllActive, only-checks}
 use Rattle.model.specs.Theorems.Reading.Kept.{kept-length}
 use Rattle.model.specs.Theorems.Printing.Passing.{paper-small}
 use Rattle.model.specs.Theorems.Printing.Items.{itemCommand, length-item}
@@ -70,6 +72,29 @@ without-shorter k =
     omega
     (arith, length-task written (withoutZero k), length-task written k, blocks-shorter (k .moves), block-shorter (k .goal))
 
+-- ---- it does as much
+
+item-changes : (i : Item) → changes (itemWithout i) ≡ changes i
+unfolding itemWithout changes
+item-changes (need p) = refl
+item-changes (add p) = refl
+item-changes (delete p) = refl
+item-changes (condition c) = refl
+item-changes (effect e) = refl
+
+block-active : (b : Block) → active (blockWithout b) ≡ active b
+unfolding active any blockWithout
+block-active [] = refl
+block-active (i ∷ b) = ap₂ _||_ (item-changes i) (block-active b)
+
+without-active : (ms : List Block) → AllActive ms → AllActive (map blockWithout ms)
+without-active [] a = tt
+without-active (b ∷ ms) a = (subst T (sym (block-active b)) (a .0), without-active ms (a .1))
+
+filled-active : (ms : List Block) → AllActive (map blockWithout ms) → AllActive ms
+filled-active [] a = tt
+filled-active (b ∷ ms) a = (subst T (block-active b) (a .0), filled-active ms (a .1))
+
 -- ---- a move
 
 moved-same : (L : Limits) (k : Task) (s : State) (b : ℕ) → moved L (withoutZero k) s b ≡ moved L k s b
@@ -93,15 +118,19 @@ step-same L k bs b none =
 
 -- ---- the calls
 
+accepted-active : (t : List ℕ) {w : Table} → reading paper (only written) t ≡ accepted w → AllActive (w .task .moves)
+accepted-active t read = reading-active paper (only written) t read (only-checks written)
+
 module _ (t : List ℕ) {w : Table} (read : reading paper (only written) t ≡ accepted w) where
   -- the table without its terms of weight 0
   abbrev pub lean : List ℕ
   lean = taskBytes written (withoutZero (w .task))
 
   pub lean-accepted : reading paper (only written) lean ≡ accepted (printedTable written (withoutZero (w .task)))
-  unfolding paper lengthLimit
+  unfolding paper lengthLimit withoutZero
   lean-accepted =
       print-read-only written (withoutZero (w .task)) paper-small (without-ok (w .task) (reading-task paper written t read))
+      (without-active (w .task .moves) (accepted-active t read))
       (omega (arith, without-shorter (w .task), written-short t read))
 
   lean-normalised : (size : ℕ) → normalised paper lean size ≡ normalised paper t size
@@ -203,9 +232,12 @@ pub filled-accepted :
     → SumsOk paper written (k .vars) (k .goal)
     → length (taskBytes written k) ≤ 32_000
     → reading paper (only written) (taskBytes written k) ≡ accepted (printedTable written k)
-unfolding paper lengthLimit
+unfolding paper lengthLimit withoutZero
 filled-accepted t {w} read k same moves goal short =
     let ok : TaskOk paper written (withoutZero k) =
     subst (TaskOk paper written) (sym same) (without-ok (w .task) (reading-task paper written t read))
     in
-    print-read-only written k paper-small (filled-ok k ok moves goal) short
+    let does : AllActive (withoutZero k .moves) =
+    subst (λ (n : Task). AllActive (n .moves)) (sym same) (without-active (w .task .moves) (accepted-active t read))
+    in
+    print-read-only written k paper-small (filled-ok k ok moves goal) (filled-active (k .moves) does) short

@@ -40,7 +40,7 @@ pub record Bounded (layers moves : ℕ) (r : Record) : Type 0 where
   pub move : r .move < moves
   pub count : 1 ≤ r .count
 
-All-append {ℓ} : {A : Type ℓ} (P : A → Type 0) (xs ys : List A) → All P xs → All P ys → All P (xs ++ ys)
+pub All-append {ℓ} : {A : Type ℓ} (P : A → Type 0) (xs ys : List A) → All P xs → All P ys → All P (xs ++ ys)
 All-append P [] ys a b = b
 All-append P (x ∷ xs) ys a b = (a .0, All-append P xs ys (a .1) b)
 

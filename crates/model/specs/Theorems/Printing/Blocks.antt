@@ -13,7 +13,8 @@ use Rattle.model.specs.Limits.{Limits}
 use Rattle.model.specs.Lists.{all, any}
 use Rattle.model.specs.Task.{Term, Item, Block, clashes, termsOf}
 use Rattle.model.specs.Command.{Command, term, codeOf, width, termBytes, itemBytes, itemsBytes, Place, inPlace, afterTerm}
-use Rattle.model.specs.Reading.{Head, Verdict, Wanted, Seen, byteAfter, numberAfter, termAt, itemAt, headWanted, wrong6, wrong5, operands, withTerm, withItem, advance}
+use Rattle.model.specs.Seen.{Head, Seen, byteAfter, numberAfter, termAt, itemAt, withTerm, withItem, advance}
+use Rattle.model.specs.Reading.{Verdict, Wanted, headWanted, wrong6, wrong5, operands, wrong16}
 use Rattle.model.specs.Theorems.Reading.WellFormed.{All, Rising, TermOk, SumOk, ItemOk, Once}
 use Rattle.model.specs.Theorems.Laws.Booleans.{T-true, not-false, or-left, or-right}
 use Rattle.model.specs.Theorems.NormalForm.Blocks.{All-append}
@@ -21,7 +22,7 @@ use Rattle.model.specs.Theorems.Laws.Searching.{All-map, All-all}
 use Rattle.model.specs.Theorems.Reading.Reads.{verdictFrom}
 use Rattle.model.specs.Theorems.Printing.Passing.{Left, left-length, left-byte, left-code, left-skip, left-after, left-number, SmallLimits, well-placed, may-follow, passed}
 use Rattle.model.specs.Theorems.Printing.Operands.{weight-range, weight-size}
-use Rattle.model.specs.Theorems.Printing.Items.{length-terms, itemCommand, itemOperands, item-parts, length-item, item-wanted, item-counted, item-width, item-closes, item-fresh, item-advance, item-back, item-ranges, item-sum}
+use Rattle.model.specs.Theorems.Printing.Items.{length-terms, itemCommand, itemOperands, item-parts, length-item, item-wanted, item-counted, item-width, item-closes, item-fresh, item-advance, item-back, item-ranges, item-sum, item-lively}
 
 -- ---- what stands before against what stands behind
 
@@ -74,7 +75,7 @@ module _ (L : Limits) (w : Wanted) (t : List ℕ) (small : SmallLimits L)
         → All (λ x. Lower x u) us
         → length us < L .terms
         → from at b us ≡ from (at + 4) b (us ++ (u ∷ []))
-    unfolding advance withTerm termAt byteAfter numberAfter width afterTerm operands wrong5 wrong6 headWanted half
+    unfolding advance withTerm termAt byteAfter numberAfter width afterTerm operands wrong5 wrong6 wrong16 headWanted half
     read-term at b us u rest here ok rising room =
         passed {c = term}
         (record {
@@ -82,6 +83,7 @@ module _ (L : Limits) (w : Wanted) (t : List ℕ) (small : SmallLimits L)
           placed = well-placed w s term inside refl (may-follow s term refl);
           uncut = omega (arith, left-length here, length-append (signedBytes 2 (u .weight)) rest, length-signedBytes 2 (u .weight));
           counted = tt;
+          lively = tt;
           ranged = (
             rw var-read (lt→ltb (u .var) (h .vars) (ok .var)),
             (rw weight-read (weight-range L (h .form) (u .weight) (ok .weight)), tt),
@@ -152,6 +154,7 @@ module _ (L : Limits) (w : Wanted) (t : List ℕ) (small : SmallLimits L)
           placed = well-placed w s c place (item-wanted w i) (item-closes s i refl);
           uncut = omega (arith, left-length at-command, length-append (itemOperands i) rest, item-width i);
           counted = item-counted s i;
+          lively = item-lively w s i;
           ranged = item-ranges small s rest i at-command ok;
           fresh = item-fresh L t s i back apart;
         })

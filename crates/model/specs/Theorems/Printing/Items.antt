@@ -14,7 +14,8 @@ use Rattle.model.specs.Limits.{Limits, baseInRange}
 use Rattle.model.specs.Lists.{any}
 use Rattle.model.specs.Task.{Form, Term, Condition, Effect, Item, need, add, delete, condition, effect, clashes, termsOf}
 use Rattle.model.specs.Command.{Command, needProp, addProp, deleteProp, closeCondition, closeEffect, codeOf, width, comparisonCode, kindCode, termBytes, itemBytes, afterTerm}
-use Rattle.model.specs.Reading.{Wanted, Seen, byteAfter, numberAfter, itemAt, headWanted, leavesOpen, wrong6, wrong5, operands, namedAgain, withItem, advance}
+use Rattle.model.specs.Seen.{Seen, byteAfter, numberAfter, itemAt, withItem, advance}
+use Rattle.model.specs.Reading.{Wanted, headWanted, leavesOpen, wrong6, wrong5, operands, namedAgain, wrong16}
 use Rattle.model.specs.Theorems.Reading.WellFormed.{All, SumOk, ConditionOk, EffectOk, ItemOk}
 use Rattle.model.specs.Theorems.Printing.Operands.{comparison-back, kind-back, comparison-range, kind-range, bound-range, bound-size}
 use Rattle.model.specs.Theorems.Printing.Passing.{Left, left-byte, left-skip, left-number, SmallLimits, may-follow}
@@ -63,6 +64,14 @@ item-wanted w (add p) = refl
 item-wanted w (delete p) = refl
 item-wanted w (condition c) = refl
 item-wanted w (effect e) = refl
+
+pub item-lively : (w : Wanted) (s : Seen) (i : Item) → T (not (wrong16 w s (itemCommand i)))
+unfolding wrong16 itemCommand
+item-lively w s (need p) = tt
+item-lively w s (add p) = tt
+item-lively w s (delete p) = tt
+item-lively w s (condition c) = tt
+item-lively w s (effect e) = tt
 
 pub item-counted : (s : Seen) (i : Item) → T (not (wrong6 s (itemCommand i)))
 unfolding itemCommand wrong6

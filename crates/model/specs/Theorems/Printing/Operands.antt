@@ -10,7 +10,7 @@ use Rattle.integer.specs.Linear.{zlin, le-leZ, size-within, neg-up, neg-dn}
 use Rattle.model.specs.Limits.{Limits, weightInRange, comparisonInRange, kindInRange, boundInRange, varsInRange}
 use Rattle.model.specs.Task.{Form, written, normal, Comparison, atLeast, above, atMost, below, equal, Kind, assign, increase, decrease}
 use Rattle.model.specs.Command.{comparisonCode, kindCode}
-use Rattle.model.specs.Reading.{comparisonOf, kindOf}
+use Rattle.model.specs.Seen.{comparisonOf, kindOf}
 use Rattle.model.specs.Theorems.Reading.WellFormed.{WeightOk, ComparisonOk, KindOk, BoundOk, VarsOk}
 use Rattle.model.specs.Theorems.Laws.Booleans.{true-T, and-both}
 

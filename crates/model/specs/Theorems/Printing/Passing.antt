@@ -14,7 +14,8 @@ use Rattle.integer.specs.BigEndian.{signed, signedBytes, half, length-signedByt
 use Rattle.integer.specs.Linear.{zlin, size-above, size-below}
 use Rattle.model.specs.Limits.{Limits, paper}
 use Rattle.model.specs.Command.{Command, inPlace, afterTerm}
-use Rattle.model.specs.Reading.{Wanted, Seen, headWanted, leavesOpen, wrong3, advance}
+use Rattle.model.specs.Seen.{Seen, advance}
+use Rattle.model.specs.Reading.{Wanted, headWanted, leavesOpen, wrong3}
 use Rattle.model.specs.Theorems.Reading.Commands.{Passes, readCommand-passes}
 use Rattle.model.specs.Theorems.Reading.Reads.{verdictFrom, verdict-more}
 use Rattle.model.specs.Theorems.Laws.Booleans.{not-false, and-right}

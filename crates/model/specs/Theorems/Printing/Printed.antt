@@ -10,7 +10,8 @@ use Rattle.integer.specs.BigEndian.{signedBytes}
 use Rattle.model.specs.Limits.{Limits}
 use Rattle.model.specs.Task.{Form, Term, Item, need, add, delete}
 use Rattle.model.specs.Command.{Command, head, openMove, openGoal, endTable, needProp, addProp, deleteProp, term, closeCondition, closeEffect, unknown, codeOf, width, termBytes, itemBytes, movesBytes, Place, afterTerm}
-use Rattle.model.specs.Reading.{Wanted, Seen, operands, byteAfter, numberAfter, termAt, itemAt, withHead, withMark, withTerm, withItem, advance}
+use Rattle.model.specs.Seen.{Seen, byteAfter, numberAfter, termAt, itemAt, withHead, withMark, withTerm, withItem, advance}
+use Rattle.model.specs.Reading.{Wanted, operands}
 use Rattle.model.specs.Theorems.Reading.Ranges.{comparison-in-range, kind-in-range}
 use Rattle.model.specs.Theorems.Reading.Commands.{Passes}
 use Rattle.model.specs.Theorems.Reading.Checks.{in-place, terms-closed, ItemRead, need-read, add-read, delete-read, condition-read, effect-read, openMove-read, openGoal-read, endTable-read}

@@ -12,7 +12,8 @@ use Rattle.integer.specs.BigEndian.{AllBytes, all-take, all-drop, signed, signe
 use Rattle.model.specs.Limits.{Limits}
 use Rattle.model.specs.Task.{Form, Term, Item, Block}
 use Rattle.model.specs.Command.{Command, head, openMove, openGoal, endTable, term, codeOf, width, termBytes, itemBytes, itemsBytes, movesBytes, Place, start, preamble, inMove, inGoal, finished, inPlace}
-use Rattle.model.specs.Reading.{Wanted, Head, Seen, closed}
+use Rattle.model.specs.Seen.{Head, Seen, closed}
+use Rattle.model.specs.Reading.{Wanted}
 use Rattle.model.specs.Theorems.Reading.Appending.{termBytes-snoc, itemsBytes-snoc, movesBytes-snoc}
 use Rattle.model.specs.Theorems.Reading.Commands.{Passes}
 use Rattle.model.specs.Theorems.Reading.Checks.{InBlock, Between}

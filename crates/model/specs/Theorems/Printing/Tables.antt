@@ -10,8 +10,10 @@ use lib.ListN.{length, length-append}
 use Rattle.model.specs.Limits.{Limits}
 use Rattle.model.specs.Task.{Form, written, normal, Task}
 use Rattle.model.specs.Command.{head, openMove, openGoal, endTable, codeOf, width, itemsBytes, movesBytes, taskBytes, preamble, inPlace}
-use Rattle.model.specs.Reading.{Head, Table, accepted, Wanted, only, both, nothingSeen, byteAfter, headWanted, leavesOpen, wrong6, wrong5, operands, withHead, advance, tableOf, verdictOf, lengthLimit, reading}
-use Rattle.model.specs.Theorems.Reading.WellFormed.{TaskOk}
+use Rattle.model.specs.Seen.{Head, nothingSeen, byteAfter, withHead, advance}
+use Rattle.model.specs.Reading.{Table, accepted, Wanted, only, both, headWanted, leavesOpen, wrong6, wrong5, operands, tableOf, verdictOf, lengthLimit, reading, wrong16}
+use Rattle.model.specs.Theorems.Reading.WellFormed.{TaskOk, All}
+use Rattle.model.specs.Theorems.Reading.Active.{AllActive, Lively, all-lively}
 use Rattle.model.specs.Theorems.Reading.Reads.{verdictFrom, reading-short}
 use Rattle.model.specs.Theorems.Reading.Appending.{movesBytes-snoc}
 use Rattle.model.specs.Theorems.Reading.Marks.{starts, starts-snoc}
@@ -35,7 +37,7 @@ printedTable f k = record { header = headOf f k; task = k; marks = marksOf k }
 -- ---- reading it
 
 module _ (L : Limits) (w : Wanted) (f : Form) (k : Task)
-    (small : SmallLimits L) (ok : TaskOk L f k) (wanted : headWanted w (head f) ≡ true)
+    (small : SmallLimits L) (ok : TaskOk L f k) (lively : All (Lively w) (k .moves)) (wanted : headWanted w (head f) ≡ true)
   where
     t : List ℕ
     t = taskBytes f k
@@ -65,7 +67,7 @@ module _ (L : Limits) (w : Wanted) (f : Form) (k : Task)
         left-after (codeOf openGoal ∷ itemsBytes (k .goal)) end (left-after (movesBytes (k .moves)) goal at-moves refl) refl
 
     read-head : verdictFrom L w t nothingSeen ≡ verdictFrom L w t (within preamble (headOf f k) [] [] 4 [] [])
-    unfolding nothingSeen headOf inPlace width leavesOpen wrong6 wrong5 operands byteAfter advance withHead
+    unfolding nothingSeen headOf inPlace width leavesOpen wrong6 wrong16 wrong5 operands byteAfter advance withHead
     read-head =
         passed {c = head f}
         (record {
@@ -73,6 +75,7 @@ module _ (L : Limits) (w : Wanted) (f : Form) (k : Task)
           placed = well-placed w nothingSeen (head f) refl wanted refl;
           uncut = omega (arith, left-length at-head);
           counted = tt;
+          lively = tt;
           ranged = (
             rw (left-byte at-head 1) (le→leb (k .props) (L .props) (ok .props)),
             (
@@ -97,13 +100,13 @@ module _ (L : Limits) (w : Wanted) (f : Form) (k : Task)
     unfolding goal end printedTable headOf tableOf verdictOf
     read-task =
         read-head
-        ∙ read-blocks L w t small (headOf f k) (k .moves) preamble [] [] 4 [] [] (k .goal) end gap-start at-moves
-        (ok .blocks) (ok .goal) (ok .goalItems) (omega arith)
+        ∙ read-blocks L w t small (headOf f k) (k .moves) preamble [] [] 4 [] [] (k .goal) end (gap-start w) at-moves
+        (ok .blocks) lively (ok .goal) (ok .goalItems) (omega arith)
         ∙ read-end L w t small (headOf f k) (k .moves) (starts 4 (k .moves)) end-offset (k .goal) at-end
         ∙ rw (ok .noCircle, verdictOf, marks-seen) refl
 
     -- Every task that meets the checks of a table of form f, printed within the length that the call allows, is read back by
-    -- every call that takes that head: accepted, with the head's counts, this task, and the offsets of its 41, 47 and 45.
+    -- every call that takes that head and its moves: accepted, with the head's counts, this task, and the offsets of its 41, 47 and 45.
     pub print-read :
         length (taskBytes f k) ≤ lengthLimit L w (taskBytes f k)
         → reading L w (taskBytes f k) ≡ accepted (printedTable f k)
@@ -115,11 +118,12 @@ pub print-read-only :
     {L : Limits} (f : Form) (k : Task)
     → SmallLimits L
     → TaskOk L f k
+    → AllActive (k .moves)
     → length (taskBytes f k) ≤ lengthLimit L (only f) (taskBytes f k)
     → reading L (only f) (taskBytes f k) ≡ accepted (printedTable f k)
 unfolding headWanted
-print-read-only {L} written k small ok short = print-read L (only written) written k small ok refl short
-print-read-only {L} normal k small ok short = print-read L (only normal) normal k small ok refl short
+print-read-only {L} written k small ok does short = print-read L (only written) written k small ok (all-lively (only written) (k .moves) does) refl short
+print-read-only {L} normal k small ok does short = print-read L (only normal) normal k small ok (all-lively (only normal) (k .moves) does) refl short
 
 -- read and the reader, which take both: "32,000 if the first byte is 54 and 64,000 otherwise", which is the limit of the form
 both-limit :
@@ -133,7 +137,8 @@ pub print-read-both :
     {L : Limits} (f : Form) (k : Task)
     → SmallLimits L
     → TaskOk L f k
+    → AllActive (k .moves)
     → length (taskBytes f k) ≤ lengthLimit L (only f) (taskBytes f k)
     → reading L both (taskBytes f k) ≡ accepted (printedTable f k)
 unfolding headWanted
-print-read-both {L} f k small ok short = print-read L both f k small ok refl (rw (both-limit L f k) short)
+print-read-both {L} f k small ok does short = print-read L both f k small ok (all-lively both (k .moves) does) refl (rw (both-limit L f k) short)

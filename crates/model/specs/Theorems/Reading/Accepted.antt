@@ -3,7 +3,7 @@
 use Prim.Native.Nat.{ℕ, _≤_}
 use native.Mathlib.Omega.{arith}
 use mathlib.Core.Path.{_≡_, refl, sym, ap, ap₂, _∙_, subst, subst₂}
-use mathlib.Core.Bool.{false}
+use mathlib.Core.Bool.{false, not, _&&_}
 use mathlib.Core.List.{List, [], _∷_, _++_, append-nil}
 use lib.Dec.{T}
 use lib.ListN.{length}
@@ -12,9 +12,12 @@ use Rattle.integer.specs.BigEndian.{AllBytes}
 use Rattle.model.specs.Limits.{Limits}
 use Rattle.model.specs.Task.{Form, written, normal, Block}
 use Rattle.model.specs.Circle.{circular}
-use Rattle.model.specs.Command.{Command, head, openGoal, endTable, codeOf, itemsBytes, movesBytes, termBytes, taskBytes, Place, finished}
-use Rattle.model.specs.Reading.{Wanted, only, Head, Seen, nothingSeen, headWanted, advance, Table, tableOf, accepted, lengthLimit, reading}
-use Rattle.model.specs.Theorems.Reading.WellFormed.{TaskOk}
+use Rattle.model.specs.Command.{Command, head, openGoal, endTable, codeOf, itemsBytes, movesBytes, termBytes, taskBytes, Place, finished, openMove, needProp, addProp, deleteProp, term, closeCondition, closeEffect, unknown, start, preamble, inMove, inGoal}
+use Rattle.model.specs.Seen.{Head, Seen, nothingSeen, advance, itemAt, closed, withHead, withMark, withTerm, withItem}
+use Rattle.model.specs.Reading.{Wanted, only, headWanted, Table, tableOf, accepted, lengthLimit, reading, checks16, idle, wrong16}
+use Rattle.model.specs.Theorems.Reading.WellFormed.{TaskOk, All}
+use Rattle.model.specs.Theorems.Reading.Active.{AllActive, Lively, passes-lively, lively-active}
+use Rattle.model.specs.Theorems.Reading.Appending.{All-snoc}
 use Rattle.model.specs.Theorems.Reading.Commands.{Passes}
 use Rattle.model.specs.Theorems.Reading.Reads.{reading-induction}
 use Rattle.model.specs.Theorems.Reading.Soundness.{Sound, Stage, sound-start, sound-step}
@@ -27,10 +30,33 @@ record Kept (L : Limits) (w : Wanted) (t : List ℕ) (s : Seen) : Type 0 where
   sound : Sound L w s
   printed : Printed t s
   marked : Marked (s .place) (s .moves) (s .items) (s .marks)
+  lively : All (Lively w) (s .moves)
+
+closed-lively : (w : Wanted) (p : Place) (ms : List Block) (b : Block) → T (not (checks16 w && idle p b)) → All (Lively w) ms → All (Lively w) (closed p ms b)
+unfolding closed
+closed-lively w start ms b h a = a
+closed-lively w preamble ms b h a = a
+closed-lively w inMove ms b h a = All-snoc (Lively w) ms b a (passes-lively w b h)
+closed-lively w inGoal ms b h a = a
+closed-lively w finished ms b h a = a
+
+lively-step : {L : Limits} {w : Wanted} {t : List ℕ} {s : Seen} (c : Command) → Passes L w t s c → All (Lively w) (s .moves) → All (Lively w) (advance t s c .moves)
+unfolding advance withHead withMark withTerm withItem itemAt wrong16
+lively-step (head f) h a = tt
+lively-step {w} {s} openMove h a = closed-lively w (s .place) (s .moves) (s .items) (h .lively) a
+lively-step {w} {s} openGoal h a = closed-lively w (s .place) (s .moves) (s .items) (h .lively) a
+lively-step endTable h a = a
+lively-step needProp h a = a
+lively-step addProp h a = a
+lively-step deleteProp h a = a
+lively-step term h a = a
+lively-step closeCondition h a = a
+lively-step closeEffect h a = a
+lively-step unknown h a = a
 
 kept-start : (L : Limits) (w : Wanted) (t : List ℕ) → Kept L w t nothingSeen
 unfolding nothingSeen seenBytes
-kept-start L w t = record { sound = sound-start L w; printed = record { long = refl; same = λ all. refl }; marked = tt }
+kept-start L w t = record { sound = sound-start L w; printed = record { long = refl; same = λ all. refl }; marked = tt; lively = tt }
 
 kept-step : (L : Limits) (w : Wanted) (t : List ℕ) (s : Seen) (c : Command) → Kept L w t s → Passes L w t s c → Kept L w t (advance t s c)
 kept-step L w t s c k h =
@@ -38,6 +64,7 @@ kept-step L w t s c k h =
       sound = sound-step c (k .sound) h;
       printed = printed-step c (k .sound) h (k .printed);
       marked = marked-step c (k .sound) h (k .printed) (k .marked);
+      lively = lively-step c h (k .lively);
     }
 
 -- an accepted table: its task, the counts of its head, its bytes, its marks, its length
@@ -50,6 +77,7 @@ pub record Accepted (L : Limits) (w : Wanted) (t : List ℕ) (k : Table) : Type 
   pub prints : Prints t t (taskBytes (k .header .form) (k .task))
   pub marks : k .marks ≡ starts 4 (k .task .moves ++ (k .task .goal ∷ []))
   pub short : length t ≤ lengthLimit L w t
+  pub lively : All (Lively w) (k .task .moves)
 
 finished-bytes : (h : Head) (ms : List Block) (b : Block) → length ms ≡ h .moves → openBytes openGoal h ms b [] ++ (codeOf endTable ∷ []) ≡ taskBytes (h .form) (record { props = h .props; vars = h .vars; moves = ms; goal = b })
 unfolding openBytes headBytes taskBytes termBytes
@@ -78,6 +106,7 @@ accepted-end L w t s k end at-end no-circle short =
       prints = printed;
       marks = subst (λ (p : Place). Marked p (s .moves) (s .items) (s .marks)) at-end (k .marked);
       short = short;
+      lively = k .lively;
     }
   where
     stage : Stage L w finished (s .header) (s .moves) (s .items)
@@ -107,12 +136,20 @@ module _ (L : Limits) (w : Wanted) (t : List ℕ) {k : Table} (e : reading L w t
   pub reading-length : length t ≡ length (taskBytes (k .header .form) (k .task))
   reading-length = reading-accepted .prints .long
 
+  -- Every move of a table that passed the check for 16 does something.
+  pub reading-active : T (checks16 w) → AllActive (k .task .moves)
+  reading-active c = lively-active w (k .task .moves) c (reading-accepted .lively)
+
   pub reading-limit : length t ≤ lengthLimit L w t
   reading-limit = reading-accepted .short
 
   -- An accepted table is the bytes of its task: the format is canonical.
   pub reading-canonical : AllBytes t → t ≡ taskBytes (k .header .form) (k .task)
   reading-canonical = reading-accepted .prints .same
+
+-- one verdict accepts one table
+pub accepted-one : {k n : Table} → accepted k ≡ accepted n → k ≡ n
+accepted-one e = cc
 
 -- A call that wants one head accepts no other.
 pub reading-form : (L : Limits) (f : Form) (t : List ℕ) {k : Table} → reading L (only f) t ≡ accepted k → k .header .form ≡ f

@@ -12,7 +12,8 @@ use Rattle.model.specs.Limits.{Limits, baseInRange}
 use Rattle.model.specs.Lists.{all, any}
 use Rattle.model.specs.Task.{Form, Term, Item, need, add, delete, condition, Condition, effect, Effect, Block, clashes}
 use Rattle.model.specs.Command.{Command, head, openMove, openGoal, endTable, needProp, addProp, deleteProp, term, closeCondition, closeEffect, Place, start, preamble, inMove, inGoal, finished, inPlace, afterTerm}
-use Rattle.model.specs.Reading.{Wanted, Head, Seen, byteAfter, numberAfter, comparisonOf, kindOf, termAt, itemAt, headWanted, leavesOpen, wrong3, wrong6, opened, operands, namedAgain, wrong5, withHead}
+use Rattle.model.specs.Seen.{Head, Seen, byteAfter, numberAfter, comparisonOf, kindOf, termAt, itemAt, withHead}
+use Rattle.model.specs.Reading.{Wanted, headWanted, leavesOpen, wrong3, wrong6, opened, operands, namedAgain, wrong5}
 use Rattle.model.specs.Theorems.Reading.WellFormed.{All, TermOk, SumOk, ItemOk, GoalItem, VarsOk}
 use Rattle.model.specs.Theorems.Laws.Booleans.{T-true}
 use Rattle.model.specs.Theorems.Laws.Searching.{all-All, All-map}

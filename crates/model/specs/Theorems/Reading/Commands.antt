@@ -12,11 +12,12 @@ use Rattle.model.specs.declared.Refusal.{Refusal}
 use Rattle.model.specs.Limits.{Limits}
 use Rattle.model.specs.Task.{written, normal}
 use Rattle.model.specs.Command.{Command, head, openMove, openGoal, endTable, needProp, addProp, deleteProp, term, closeCondition, closeEffect, unknown, codeOf, commands, withCode, commandOf, width, Place, start, preamble, inMove, inGoal, finished, inPlace}
-use Rattle.model.specs.Reading.{Wanted, Seen, Operand, headWanted, leavesOpen, wrong3, wrong2, wrong6, operands, firstWrong, wrong5, refusedAt, refusedOperand, firstRefusal, refusal, advance, atEnd, Step, more, done, refused, stepWith, readCommand}
+use Rattle.model.specs.Seen.{Seen, advance}
+use Rattle.model.specs.Reading.{Wanted, Operand, headWanted, leavesOpen, wrong3, wrong2, wrong6, operands, firstWrong, wrong5, refusedAt, refusedOperand, firstRefusal, refusal, atEnd, Step, more, done, refused, stepWith, readCommand, wrong16}
 use Rattle.model.specs.Theorems.Reading.WellFormed.{All}
 use Rattle.model.specs.Theorems.Laws.Booleans.{T-true, not-false}
 
--- ---- the refusal of a command: 3, 2, 6, 4, 5, the first that fails
+-- ---- the refusal of a command: 3, 2, 6, 16, 4, 5, the first that fails
 
 module _ (L : Limits) (w : Wanted) (t : List ℕ) (s : Seen) (c : Command) where
   pub refusal-3 : wrong3 w s c ≡ true → refusal L w t s c ≡ some (record { number = 3; place = s .at })
@@ -31,17 +32,21 @@ module _ (L : Limits) (w : Wanted) (t : List ℕ) (s : Seen) (c : Command) where
   unfolding refusal firstRefusal refusedAt
   refusal-6 h k l = rw (h, k, l) refl
 
-  pub refusal-4 : (o : ℕ) → wrong3 w s c ≡ false → wrong2 t s c ≡ false → wrong6 s c ≡ false → firstWrong (operands L t s c) ≡ some o → refusal L w t s c ≡ some (record { number = 4; place = s .at + o })
-  unfolding refusal firstRefusal refusedAt refusedOperand
-  refusal-4 o h k l m = rw (h, k, l, m) refl
+  pub refusal-16 : wrong3 w s c ≡ false → wrong2 t s c ≡ false → wrong6 s c ≡ false → wrong16 w s c ≡ true → refusal L w t s c ≡ some (record { number = 16; place = s .at })
+  unfolding refusal firstRefusal refusedAt
+  refusal-16 h k l m = rw (h, k, l, m) refl
 
-  pub refusal-5 : wrong3 w s c ≡ false → wrong2 t s c ≡ false → wrong6 s c ≡ false → firstWrong (operands L t s c) ≡ none → wrong5 L t s c ≡ true → refusal L w t s c ≡ some (record { number = 5; place = s .at })
+  pub refusal-4 : (o : ℕ) → wrong3 w s c ≡ false → wrong2 t s c ≡ false → wrong6 s c ≡ false → wrong16 w s c ≡ false → firstWrong (operands L t s c) ≡ some o → refusal L w t s c ≡ some (record { number = 4; place = s .at + o })
   unfolding refusal firstRefusal refusedAt refusedOperand
-  refusal-5 h k l m n = rw (h, k, l, m, n) refl
+  refusal-4 o h k l j m = rw (h, k, l, j, m) refl
 
-  pub refusal-none : wrong3 w s c ≡ false → wrong2 t s c ≡ false → wrong6 s c ≡ false → firstWrong (operands L t s c) ≡ none → wrong5 L t s c ≡ false → refusal L w t s c ≡ none
+  pub refusal-5 : wrong3 w s c ≡ false → wrong2 t s c ≡ false → wrong6 s c ≡ false → wrong16 w s c ≡ false → firstWrong (operands L t s c) ≡ none → wrong5 L t s c ≡ true → refusal L w t s c ≡ some (record { number = 5; place = s .at })
   unfolding refusal firstRefusal refusedAt refusedOperand
-  refusal-none h k l m n = rw (h, k, l, m, n) refl
+  refusal-5 h k l j m n = rw (h, k, l, j, m, n) refl
+
+  pub refusal-none : wrong3 w s c ≡ false → wrong2 t s c ≡ false → wrong6 s c ≡ false → wrong16 w s c ≡ false → firstWrong (operands L t s c) ≡ none → wrong5 L t s c ≡ false → refusal L w t s c ≡ none
+  unfolding refusal firstRefusal refusedAt refusedOperand
+  refusal-none h k l j m n = rw (h, k, l, j, m, n) refl
 
 -- 4: "the first such one"
 pub firstWrong-here : (o : Operand) (os : List Operand) → o .inRange ≡ false → firstWrong (o ∷ os) ≡ some (o .offset)
@@ -102,13 +107,14 @@ pub commandOf-cases : (b : ℕ) (P : Command → Type 0) → ((c : Command) → 
 unfolding commandOf
 commandOf-cases b P known other = withCode-cases b P known other commands
 
--- ---- a command that passes all checks: its byte, then 3, 2, 6, 4 and 5
+-- ---- a command that passes all checks: its byte, then 3, 2, 6, 16, 4 and 5
 
 pub record Passes (L : Limits) (w : Wanted) (t : List ℕ) (s : Seen) (c : Command) : Type 0 where
   pub code : getD t (s .at) 0 ≡ codeOf c
   pub placed : T (not (wrong3 w s c))
   pub uncut : s .at + width c ≤ length t
   pub counted : T (not (wrong6 s c))
+  pub lively : T (not (wrong16 w s c))
   pub ranged : All (λ (o : Operand). T (o .inRange)) (operands L t s c)
   pub fresh : T (not (wrong5 L t s c))
 
@@ -192,6 +198,7 @@ module _ (L : Limits) (w : Wanted) (t : List ℕ) (s : Seen) where
       (refusedAt 3 (wrong3 w s c) (s .at)
       ∷ refusedAt 2 (wrong2 t s c) (s .at)
       ∷ refusedAt 6 (wrong6 s c) (s .at)
+      ∷ refusedAt 16 (wrong16 w s c) (s .at)
       ∷ refusedOperand (s .at) (firstWrong (operands L t s c))
       ∷ refusedAt 5 (wrong5 L t s c) (s .at)
       ∷ [])
@@ -203,8 +210,9 @@ module _ (L : Limits) (w : Wanted) (t : List ℕ) (s : Seen) where
         placed = refusedAt-silent 3 (wrong3 w s c) (s .at) (a .0);
         uncut = nltb→le (length t) (s .at + width c) (refusedAt-silent 2 (wrong2 t s c) (s .at) (a .1 .0));
         counted = refusedAt-silent 6 (wrong6 s c) (s .at) (a .1 .1 .0);
-        ranged = operands-silent (s .at) (operands L t s c) (a .1 .1 .1 .0);
-        fresh = refusedAt-silent 5 (wrong5 L t s c) (s .at) (a .1 .1 .1 .1 .0);
+        lively = refusedAt-silent 16 (wrong16 w s c) (s .at) (a .1 .1 .1 .0);
+        ranged = operands-silent (s .at) (operands L t s c) (a .1 .1 .1 .1 .0);
+        fresh = refusedAt-silent 5 (wrong5 L t s c) (s .at) (a .1 .1 .1 .1 .1 .0);
       }))
 
   pub passes-refusal : {c : Command} → Passes L w t s c → refusal L w t s c ≡ none
@@ -214,6 +222,7 @@ module _ (L : Limits) (w : Wanted) (t : List ℕ) (s : Seen) where
       (not-false (wrong3 w s c) (T-not (wrong3 w s c) (h .placed)))
       (not-false (ltb (length t) (s .at + width c)) (λ b. omega (arith, ltb→lt (length t) (s .at + width c) b, h .uncut)))
       (not-false (wrong6 s c) (T-not (wrong6 s c) (h .counted)))
+      (not-false (wrong16 w s c) (T-not (wrong16 w s c) (h .lively)))
       (firstWrong-none (operands L t s c) (h .ranged))
       (not-false (wrong5 L t s c) (T-not (wrong5 L t s c) (h .fresh)))
 

@@ -9,7 +9,8 @@ use lib.Seq.{length-take-le}
 use Rattle.model.specs.Limits.{Limits}
 use Rattle.model.specs.Task.{Term, Item, need, add, delete, condition, effect, Block}
 use Rattle.model.specs.Command.{Command, head, openMove, openGoal, endTable, needProp, addProp, deleteProp, term, closeCondition, closeEffect, unknown, codeOf, termBytes, itemsBytes, movesBytes, Place, start, preamble, inMove, inGoal, finished}
-use Rattle.model.specs.Reading.{Wanted, Head, Seen, closed, byteAfter, itemAt, withHead, withMark, withTerm, withItem, advance}
+use Rattle.model.specs.Seen.{Head, Seen, closed, byteAfter, itemAt, withHead, withMark, withTerm, withItem, advance}
+use Rattle.model.specs.Reading.{Wanted}
 use Rattle.model.specs.Theorems.Reading.Appending.{movesBytes-snoc}
 use Rattle.model.specs.Theorems.Reading.Commands.{Passes}
 use Rattle.model.specs.Theorems.Reading.Checks.{InBlock, Between, conditionAt, effectAt, need-read, add-read, delete-read, condition-read, effect-read, openMove-read, openGoal-read, endTable-read}

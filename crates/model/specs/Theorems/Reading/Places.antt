@@ -12,7 +12,8 @@ use Rattle.model.specs.Limits.{Limits, lastNumber}
 use Rattle.model.specs.Lists.{firstFrom}
 use Rattle.model.specs.Circle.{circular}
 use Rattle.model.specs.Command.{Command, head, openMove, openGoal, endTable, needProp, addProp, deleteProp, term, closeCondition, closeEffect, unknown, commandOf, Place, start, preamble, inMove, inGoal, finished}
-use Rattle.model.specs.Reading.{Table, Verdict, accepted, refused, Wanted, Seen, nothingSeen, wrong3, wrong2, wrong6, Operand, operands, firstWrong, wrong5, refusedAt, refusedOperand, firstRefusal, refusal, advance, tableOf, verdictOf, atEnd, done, stepWith, readCommand, continue, readFrom, lengthLimit, reading}
+use Rattle.model.specs.Seen.{Seen, nothingSeen, advance}
+use Rattle.model.specs.Reading.{Table, Verdict, accepted, refused, Wanted, wrong3, wrong2, wrong6, Operand, operands, firstWrong, wrong5, refusedAt, refusedOperand, firstRefusal, refusal, tableOf, verdictOf, atEnd, done, stepWith, readCommand, continue, readFrom, lengthLimit, reading, wrong16}
 use Rattle.model.specs.StateTable.{valueOffset, stateValue, valueInRange, refusedValue, refusedByte, stateRefusal}
 use Rattle.model.specs.Theorems.Reading.WellFormed.{All}
 use Rattle.model.specs.Theorems.Laws.Searching.{firstFrom-cases}
@@ -80,6 +81,7 @@ refusal-small L w t s c =
     (refusedAt 3 (wrong3 w s c) (s .at)
     ∷ refusedAt 2 (wrong2 t s c) (s .at)
     ∷ refusedAt 6 (wrong6 s c) (s .at)
+    ∷ refusedAt 16 (wrong16 w s c) (s .at)
     ∷ refusedOperand (s .at) (firstWrong (operands L t s c))
     ∷ refusedAt 5 (wrong5 L t s c) (s .at)
     ∷ []) (
@@ -89,8 +91,11 @@ refusal-small L w t s c =
         (
           refusedAt-small (s .at + 3) 6 (wrong6 s c) (s .at) (lit≤ tt) (lit≤ tt) (omega arith),
           (
-            operand-small (s .at) (operands L t s c) (operands-near L t s c),
-            (refusedAt-small (s .at + 3) 5 (wrong5 L t s c) (s .at) (lit≤ tt) (lit≤ tt) (omega arith), tt),
+            refusedAt-small (s .at + 3) 16 (wrong16 w s c) (s .at) (lit≤ tt) (lit≤ tt) (omega arith),
+            (
+              operand-small (s .at) (operands L t s c) (operands-near L t s c),
+              (refusedAt-small (s .at + 3) 5 (wrong5 L t s c) (s .at) (lit≤ tt) (lit≤ tt) (omega arith), tt),
+            ),
           ),
         ),
       ),

@@ -9,7 +9,7 @@ use lib.Signed.{leZ}
 use Rattle.model.specs.Limits.{Limits, varsInRange, weightInRange, comparisonInRange, kindInRange, boundInRange}
 use Rattle.model.specs.Task.{Form, written, normal}
 use Rattle.model.specs.Command.{comparisonCode, kindCode}
-use Rattle.model.specs.Reading.{comparisonOf, kindOf}
+use Rattle.model.specs.Seen.{comparisonOf, kindOf}
 use Rattle.model.specs.Theorems.Reading.WellFormed.{WeightOk, ComparisonOk, KindOk, BoundOk, VarsOk}
 use Rattle.model.specs.Theorems.Laws.Booleans.{and-left, and-right}
 

@@ -9,7 +9,8 @@ use lib.Dec.{T, ltb, ltb→lt, lt→ltb, nltb→le}
 use lib.ListN.{length}
 use Rattle.model.specs.Limits.{Limits}
 use Rattle.model.specs.Command.{Command, head, openMove, openGoal, endTable, needProp, addProp, deleteProp, term, closeCondition, closeEffect, unknown, width, Place, start, preamble, inMove, inGoal, finished}
-use Rattle.model.specs.Reading.{Wanted, Seen, nothingSeen, itemAt, withHead, withMark, withTerm, withItem, advance, Table, tableOf, Verdict, accepted, refused, verdictOf, atEnd, Step, more, done, readCommand, continue, readFrom, lengthLimit, reading}
+use Rattle.model.specs.Seen.{Seen, nothingSeen, itemAt, withHead, withMark, withTerm, withItem, advance}
+use Rattle.model.specs.Reading.{Wanted, Table, tableOf, Verdict, accepted, refused, verdictOf, atEnd, Step, more, done, readCommand, continue, readFrom, lengthLimit, reading}
 use Rattle.model.specs.Circle.{circular}
 use Rattle.model.specs.Theorems.Laws.Booleans.{T-true, not-false}
 use Rattle.model.specs.Theorems.Reading.Commands.{Passes, readCommand-cases, unknown-refused, width-positive}

@@ -10,7 +10,8 @@ use lib.ListN.{length, length-append}
 use Rattle.model.specs.Limits.{Limits}
 use Rattle.model.specs.Task.{Form, Term, Item, Block}
 use Rattle.model.specs.Command.{Command, head, openMove, openGoal, endTable, needProp, addProp, deleteProp, term, closeCondition, closeEffect, unknown, width, Place, start, preamble, inMove, inGoal, finished, inPlace}
-use Rattle.model.specs.Reading.{Wanted, Head, Seen, nothingSeen, byteAfter, opened, closed, termAt, itemAt, withHead, withMark, withTerm, withItem, advance}
+use Rattle.model.specs.Seen.{Head, Seen, nothingSeen, byteAfter, closed, termAt, itemAt, withHead, withMark, withTerm, withItem, advance}
+use Rattle.model.specs.Reading.{Wanted, opened}
 use Rattle.model.specs.Theorems.Reading.WellFormed.{All, TermOk, SumOk, BlockOk, GoalItem, ItemOk}
 use Rattle.model.specs.Theorems.Reading.Appending.{All-snoc, Rising-snoc, Once-snoc}
 use Rattle.model.specs.Theorems.Reading.Commands.{Passes}

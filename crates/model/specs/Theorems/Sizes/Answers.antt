@@ -29,7 +29,7 @@ use Rattle.model.specs.Command.{head, codeOf}
 use Rattle.model.specs.Move.{State, applicable, real, moveAt}
 use Rattle.model.specs.Layer.{Outcome, reached, exhausted, reported, outcome}
 use Rattle.model.specs.Memory.{wrong15, refuses, Built, answered, stopped, stopNumber, stopAt, build}
-use Rattle.model.specs.Reading.{Table, Verdict, accepted, refused, Wanted, only, both, reading, lengthLimit}
+use Rattle.model.specs.Reading.{Table, Verdict, accepted, refused, Wanted, only, both, reading, lengthLimit, stored}
 use Rattle.model.specs.StateTable.{stateOf, stateRefusal, stateBytes, valueInRange}
 use Rattle.model.specs.Calls.{readOf, readAnswer, partOf, noBlock, blockPart, blockRefusal, Output, writes, turns, fitted, writeAnswer, normalBytes, normalOf, normalised, normaliseAnswer, resultOf, moved, stepWithState, stepOf, stepped, stepAnswer, Ready, ready, unready, readyWith, readyOf, prepared, decided, decideOf, decideAnswer, planRecords, planned, planOf, planAnswer, onOutput, campaignDecision, campaignPlan}
 use Rattle.model.specs.Blocking.{blockingAnswer}
@@ -53,15 +53,16 @@ placeLimit = 64_003
 abbrev pub resultLimit : ℕ
 resultLimit = 4_294_967_295
 
-limit-most : (w : Wanted) (t : List ℕ) → lengthLimit paper w t ≤ 64_000
+either-most : (b : Bool) → cond b 32_000 64_000 ≤ 64_000
+either-most true = lit≤ tt
+either-most false = lit≤ tt
+
+pub limit-most : (w : Wanted) (t : List ℕ) → lengthLimit paper w t ≤ 64_000
 unfolding paper lengthLimit
 limit-most (only written) t = lit≤ tt
 limit-most (only normal) t = lit≤ tt
-limit-most both t = go (eqb (getD t 0 0) (codeOf (head written)))
-  where
-    go : (b : Bool) → cond b 32_000 64_000 ≤ 64_000
-    go true = lit≤ tt
-    go false = lit≤ tt
+limit-most both t = either-most (eqb (getD t 0 0) (codeOf (head written)))
+limit-most stored t = either-most (eqb (getD t 0 0) (codeOf (head written)))
 
 pub table-refused : (w : Wanted) (t : List ℕ) → IfRefused (Small placeLimit) (reading paper w t)
 table-refused w t = refused-wider (reading paper w t) (omega (arith, limit-most w t)) (reading-refused paper w t)

@@ -1,0 +1,3 @@
+pub mod Active
+pub mod Stored
+pub mod Answers

@@ -1,0 +1,55 @@
+//! Calls of a table with room for every result, and the whole outcome of a refused one.
+
+use campaign::call::{Call, CallKind, Field};
+
+/// The calls that take a written table, and those that take a normal one.
+pub const WRITTEN: [CallKind; 7] = [
+    CallKind::Read,
+    CallKind::Block,
+    CallKind::Normalise,
+    CallKind::Step,
+    CallKind::Campaign,
+    CallKind::Pddl,
+    CallKind::Listing,
+];
+pub const NORMAL: [CallKind; 5] = [
+    CallKind::Read,
+    CallKind::Block,
+    CallKind::Decide,
+    CallKind::Plan,
+    CallKind::Blocking,
+];
+
+/// A call of a table with a state of 0 bytes.
+pub fn roomy(kind: CallKind, table: &[u8], state: usize) -> Call {
+    let given = |field, size| if kind.has(field) { size } else { 0 };
+    Call {
+        table: table.to_vec(),
+        state: vec![0; given(Field::State, state)],
+        normal: given(Field::Normal, 60),
+        numbers: given(Field::Numbers, 20),
+        room: given(Field::Room, 600),
+        ..kind.call()
+    }
+}
+
+/// The outcome of such a call where the table is refused: every memory is as it was.
+pub fn refused(call: &Call, number: u8, place: usize) -> String {
+    let refusal = format!("refusal {number} place {place}");
+    let answer = match call.kind {
+        CallKind::Campaign => format!("{refusal} decision {refusal}"),
+        CallKind::Listing => format!("{refusal}\\n"),
+        _ => refusal,
+    };
+    let numbers = (0..call.numbers).map(|i| format!(" {}", -1_000 - i as i64));
+    let lent = [
+        (Field::Normal, " normal ", "a5".repeat(call.normal)),
+        (Field::Room, " out ", "a5".repeat(call.room)),
+        (Field::Numbers, " memory", numbers.collect()),
+    ];
+    let lent = lent.into_iter().filter(|(field, ..)| call.kind.has(*field));
+    let lent: String = lent
+        .map(|(_, name, held)| format!("{name}{held}"))
+        .collect();
+    format!("{answer}{lent}")
+}
