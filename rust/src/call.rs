@@ -1,10 +1,12 @@
 //! A call as data: read from a line of fields, printed as such, and run on an engine.
 
+mod records;
 mod run;
 
 pub use run::{Buffers, Fill, Outcome};
 
 use crate::hex::{hex, unhex};
+use records::Records;
 use std::fmt;
 use std::str::FromStr;
 
@@ -99,46 +101,20 @@ impl CallKind {
         self.records()[0].0
     }
 
-    /// All files of this call's outcomes, and how many each has: the newest, those of the calls of
-    /// document 01, and those by hand on comparisons, on weight 0 and on moves that do nothing.
-    pub fn records(self) -> &'static [(&'static str, usize)] {
+    /// All files of this call's outcomes, and how many each has.
+    pub fn records(self) -> Records {
         match self {
-            CallKind::Read => &[
-                ("read.txt", 160),
-                ("base/read.txt", 404),
-                ("comparisons/read.txt", 4),
-                ("weights/read.txt", 5),
-            ],
-            CallKind::Block => &[
-                ("block.txt", 139),
-                ("base/block.txt", 200),
-                ("comparisons/block.txt", 4),
-                ("idle-moves/block.txt", 16),
-            ],
-            CallKind::Normalise => &[
-                ("normalise.txt", 78),
-                ("base/normalise.txt", 274),
-                ("comparisons/normalise.txt", 4),
-                ("weights/normalise.txt", 5),
-            ],
-            CallKind::Step => &[
-                ("step.txt", 154),
-                ("base/step.txt", 355),
-                ("comparisons/step.txt", 5),
-                ("weights/step.txt", 5),
-            ],
-            CallKind::Decide => &[("decide.txt", 70), ("base/decide.txt", 340)],
-            CallKind::Plan => &[("plan.txt", 51), ("base/plan.txt", 468)],
-            CallKind::Campaign => &[("campaign.txt", 50), ("comparisons/campaign.txt", 4)],
-            CallKind::Pddl => &[("pddl.txt", 59), ("comparisons/pddl.txt", 3)],
-            CallKind::Blocking => &[("blocking.txt", 107), ("idle-moves/blocking.txt", 8)],
-            CallKind::Rewrite => &[("rewrite.txt", 160), ("comparisons/rewrite.txt", 4)],
-            CallKind::Listing => &[
-                ("listing.txt", 125),
-                ("base/listing.txt", 274),
-                ("comparisons/listing.txt", 4),
-                ("weights/listing.txt", 5),
-            ],
+            CallKind::Read => records::READ,
+            CallKind::Block => records::BLOCK,
+            CallKind::Normalise => records::NORMALISE,
+            CallKind::Step => records::STEP,
+            CallKind::Decide => records::DECIDE,
+            CallKind::Plan => records::PLAN,
+            CallKind::Campaign => records::CAMPAIGN,
+            CallKind::Pddl => records::PDDL,
+            CallKind::Blocking => records::BLOCKING,
+            CallKind::Rewrite => records::REWRITE,
+            CallKind::Listing => records::LISTING,
         }
     }
 }

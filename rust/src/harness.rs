@@ -207,7 +207,10 @@ pub fn campaigned(engine: &dyn Engine, table: &[u8], state: &[u8]) -> Result<Pla
 }
 
 /// The outcome of a call that plans a normal table with these counts.
-fn planned_by(
+///
+/// # Panics
+/// As `planned`.
+pub fn planned_by(
     [p, n, a]: [usize; 3],
     call: impl FnOnce(&mut [i64], &mut [u8]) -> Result<Plan, Refusal>,
 ) -> Result<Planned, Refusal> {

@@ -20,13 +20,13 @@ fn with_head(c: Cursor, form: Form, props: usize, vars: usize, moves: usize) -> 
         at: c.at + 4,
         place: Place::Preamble,
         form: form,
+        active: false,
         props: props,
         vars: vars,
         moves: moves,
         opened: 0,
         terms: 0,
         next: 0,
-        active: false,
         marked: 0,
         stamp: c.stamp,
     }
@@ -42,13 +42,13 @@ fn with_mark(c: Cursor, place: Place, opened: usize, stamp: u64) -> Cursor
         at: c.at + 1,
         place: place,
         form: form,
+        active: false,
         props: c.props,
         vars: c.vars,
         moves: c.moves,
         opened: opened,
         terms: 0,
         next: 0,
-        active: false,
         marked: c.marked + 1,
         stamp: stamp,
     }
@@ -71,9 +71,9 @@ fn with_item(mut c: Cursor, width: usize, active: bool) -> Cursor
     ensures { λ r. ⌜ r ≡ itemCursor c width active ⌝ }
 {
     c.at = c.at + width;
+    c.active = active;
     c.terms = 0;
     c.next = 0;
-    c.active = active;
     c
 }
 

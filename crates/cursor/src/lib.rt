@@ -11,20 +11,20 @@ use command::Form;
 use command::Place;
 use command::Wanted;
 
-// Where the reading stands: the offset of the next command and its place, the head, how many moves have been opened, how many
-// terms are open and the least variable that the next one may have, whether the open move changes something, how many blocks and
-// ends have been marked. `stamp` is the number of the open block, from 1 on.
+// Where the reading stands: the offset of the next command and its place, the head and whether the open move changes something, how
+// many moves have been opened, how many terms are open and the least variable that the next one may have, how many blocks and ends
+// have been marked. `stamp` is the number of the open block, from 1 on.
 pub struct Cursor {
     pub at: usize,
     pub place: Place,
     pub form: Form,
+    pub active: bool,
     pub props: usize,
     pub vars: usize,
     pub moves: usize,
     pub opened: usize,
     pub terms: usize,
     pub next: usize,
-    pub active: bool,
     pub marked: usize,
     pub stamp: u64,
 }
@@ -137,13 +137,13 @@ pub fn beginning() -> Cursor
         at: 0,
         place: Place::Start,
         form: Form::Written,
+        active: false,
         props: 0,
         vars: 0,
         moves: 0,
         opened: 0,
         terms: 0,
         next: 0,
-        active: false,
         marked: 0,
         stamp: 1,
     }

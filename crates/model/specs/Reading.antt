@@ -1,5 +1,5 @@
--- Reading a table: every check of document 01's table "Where a call turns back", in its order, with number and place, and the
--- task that accepted bytes stand for. One reading gives both. Assumes nothing.
+-- Reading a table: every check of document 01's table "Where a call turns back", in its order, and 16 of document 02, with number
+-- and place, and the task that accepted bytes stand for. One reading gives both. Assumes nothing.
 use Prim.Native.Nat.{ℕ, zero, suc, _+_}
 use mathlib.Core.Bool.{Bool, true, false, cond, _&&_, _||_, not}
 use mathlib.Core.List.{List, [], _∷_}
@@ -91,6 +91,7 @@ wrong6 s unknown = false
 
 -- ---- 16: a move without 2B, 2D or 46, "place the command that closes its block"
 
+-- "is now refused in both kinds of table"; the rewriter "makes all checks but 16"
 unfoldable pub checks16 : Wanted → Bool
 checks16 (only f) = true
 checks16 both = true

@@ -44,11 +44,14 @@
 --   Sizes.text-size; Calls.text-fits, text-too-long, text-always, same-output, declared, text-plans, no-plan-text;
 --   ZeroTerms.one-task, zero-in-move, zero-in-goal, one-table, same-plans; MeaningCases; Cases
 --
--- Rewriting: the rewriter of stored tables: lists renumbered and numbered back solve alike, run with real moves and relaxed; what is written
--- is a table that read takes, never longer; its refusals are read's but 16; twice is once; rewriting and normalising change places; layers,
--- answers and records are the old ones, with the records renumbered; decide's and plan's answers on the new table are right for the old one.
+-- Rewriting: moves that do nothing, and the rewriter of stored tables: lists renumbered and numbered back solve alike, run with real moves
+-- and relaxed; what is written is a table that read takes, byte for byte the old one without such moves; its refusals are read's but 16, and
+-- every other call refuses a table with such a move with 16, where the first closes; twice is once; normalise never makes a 16, and rewriting
+-- and normalising change places; layers, answers and records are the old ones, with the records renumbered; decide's and plan's answers on
+-- the new table are right for the old one.
 --   Solving.dropped-solves, back-solves, back-again; Accepted.rewrite-right; Refusals.stored-accepts, stored-refuses, never-16;
---   Sizes.rewrite-length, rewrote-whole, never-13; Twice.rewrote-twice, same-output; Normal.either-order, relaxed-forth, relaxed-back;
+--   Refused.first-refused, some-refused, still-accepted, read-refused, written-refused, normal-refused; Sizes.byte-for-byte, rewrite-length,
+--   rewrote-whole, never-13, answers-no-16; Twice.rewrote-twice, same-output; Normal.either-order, never-makes-16, relaxed-forth, relaxed-back;
 --   Layers.same-outcome, same-build; Plans.same-records, same-list; EndToEnd.same-campaign, answers-old; Cases; Instance
 -- Assumes nothing.
 pub mod Laws

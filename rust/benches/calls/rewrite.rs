@@ -3,8 +3,8 @@
 use crate::bench::Bench;
 use crate::mid_size;
 use campaign::generate::{dense, long_stored, m1, Rng, Task};
-use campaign::reference::parse_table;
 use campaign::reference::table::{Block, Item, Kind, MOVE_LIMIT};
+use campaign::reference::{parse_stored_table, parse_table};
 
 /// The task with so many moves that do nothing behind each of its own, as far as there is room: by
 /// turns one without commands and one that needs a proposition.
@@ -13,9 +13,12 @@ fn unfinished(task: &Task, each: usize) -> Task {
     let needs = Block {
         items: vec![Item::Require(0)],
     };
-    let idle = [Block::default(), needs].into_iter().cycle().take(each);
+    let mut idle = [Block::default(), needs].into_iter().cycle();
     let moves = table.moves.into_iter();
-    let rows = moves.flat_map(|block| [block].into_iter().chain(idle.clone()));
+    let rows = moves.flat_map(|block| {
+        let behind: Vec<Block> = idle.by_ref().take(each).collect();
+        [block].into_iter().chain(behind)
+    });
     table.moves = rows.take(MOVE_LIMIT).collect();
     Task {
         table: table.encode(),
@@ -28,22 +31,26 @@ pub fn campaigns() -> Vec<Bench> {
     let mut rng = Rng::new(10);
     let tasks = [
         ("M1", m1()),
-        ("M1, 6 idle", unfinished(&m1(), 2)),
+        ("M1", unfinished(&m1(), 2)),
         ("30 moves", mid_size()),
-        ("30 moves, 30 idle", unfinished(&mid_size(), 1)),
+        ("30 moves", unfinished(&mid_size(), 1)),
         ("32,000 bytes", dense(&mut rng, Kind::Written, 32_000)),
-        (
-            "32,000 bytes, some idle",
-            long_stored(&mut rng, Kind::Written, 32_000),
-        ),
+        ("32,000 bytes", long_stored(&mut rng, Kind::Written, 32_000)),
         ("64,000 bytes", dense(&mut rng, Kind::Normal, 64_000)),
-        (
-            "64,000 bytes, some idle",
-            long_stored(&mut rng, Kind::Normal, 64_000),
-        ),
-        ("64 idle moves", all_idle()),
+        ("64,000 bytes", long_stored(&mut rng, Kind::Normal, 64_000)),
+        ("64 moves", all_idle()),
     ];
-    tasks.map(|(name, task)| Bench::new(name, task)).into()
+    let benches = tasks.map(|(name, task)| Bench::new(&with_idle_count(name, &task.table), task));
+    benches.into()
+}
+
+/// The name, with the number of moves that do nothing if there are any.
+fn with_idle_count(name: &str, table: &[u8]) -> String {
+    let table = parse_stored_table(table).expect("a stored table");
+    match table.moves.iter().filter(|block| block.is_idle()).count() {
+        0 => name.into(),
+        idle => format!("{name}, {idle} idle"),
+    }
 }
 
 /// As many moves as a table may have, all without commands.

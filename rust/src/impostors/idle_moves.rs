@@ -12,13 +12,17 @@ use crate::reference::{parse_table, rewritten};
 /// The calls that take a normal table.
 const NORMAL: &[CallKind] = TABLES.split_at(5).0;
 
-pub const IDLE_MOVES: [Impostor; 13] = [
+pub const IDLE_MOVES: [Impostor; 14] = [
     impostor("16 comes before 6", reading::<BeforeMoveCount>()),
     impostor("16 comes behind all else", reading::<BehindAllElse>()),
     impostor("the place is the 41 that opens", reading::<WhereItOpens>()),
     impostor("the goal is a move", reading::<TheGoal>()),
-    impostor("+= 0 is nothing", reading::<IncreaseBy0>()),
-    impostor(":= 0 is nothing", reading::<Becomes0>()),
+    impostor("+= 0 is no effect", reading::<IncreaseBy0>()),
+    impostor(":= 0 is no effect", reading::<Becomes0>()),
+    impostor(
+        "an effect whose constant is 0 is no effect",
+        reading::<Constant0>(),
+    ),
     impostor("adding is nothing", reading::<Adding>()),
     impostor("deleting is nothing", reading::<Deleting>()),
     impostor("the goal closes no move", reading::<OpenAtTheGoal>()),
@@ -44,6 +48,9 @@ const fn impostor(trick: &'static str, engine: Calls) -> Impostor {
     }
 }
 
+/// Whether a 2B, a 2D or a 46 behind its terms counts for nothing.
+type Nothing = fn(&[&[u8]]) -> bool;
+
 /// A move as it stands in a table's bytes.
 pub struct Row<'t> {
     /// Where it opens and where it closes.
@@ -54,10 +61,12 @@ pub struct Row<'t> {
 
 impl Row<'_> {
     /// Whether it has nothing but conditions and what else counts for nothing.
-    pub fn is_idle(&self, nothing: fn(&[u8]) -> bool) -> bool {
-        let changes = |command: &&&[u8]| matches!(command[0], 0x2B | 0x2D | 0x46);
-        let mut changes = self.commands.iter().filter(changes);
-        changes.all(|command| nothing(command))
+    pub fn is_idle(&self, nothing: Nothing) -> bool {
+        let mut entries = self.commands.split_inclusive(|command| command[0] != 0x57);
+        entries.all(|entry| match entry {
+            [.., [0x2B | 0x2D | 0x46, ..]] => nothing(entry),
+            _ => true,
+        })
     }
 }
 
@@ -98,7 +107,7 @@ fn refused_row(table: &[u8]) -> Option<Row<'_>> {
 }
 
 /// Refuses moves too that only have what counts for nothing here.
-fn stricter(table: &[u8], nothing: fn(&[u8]) -> bool) -> Result<Vec<u8>, Refusal> {
+fn stricter(table: &[u8], nothing: Nothing) -> Result<Vec<u8>, Refusal> {
     let idle = rows(table).into_iter().find(|row| row.is_idle(nothing));
     let earlier = |row: &Row| match parse_table(table) {
         Err(refusal) if refusal.reason == Reason::TableTooLong => false,
@@ -172,7 +181,7 @@ struct IncreaseBy0;
 
 impl Misreading for IncreaseBy0 {
     fn misread(table: &[u8]) -> Result<Vec<u8>, Refusal> {
-        stricter(table, |command| matches!(command, [0x46, 1, _, 0, 0, 0, 0]))
+        stricter(table, |entry| matches!(entry, [[0x46, 1, _, 0, 0, 0, 0]]))
     }
 }
 
@@ -180,7 +189,17 @@ struct Becomes0;
 
 impl Misreading for Becomes0 {
     fn misread(table: &[u8]) -> Result<Vec<u8>, Refusal> {
-        stricter(table, |command| matches!(command, [0x46, 0, _, 0, 0, 0, 0]))
+        stricter(table, |entry| matches!(entry, [[0x46, 0, _, 0, 0, 0, 0]]))
+    }
+}
+
+struct Constant0;
+
+impl Misreading for Constant0 {
+    fn misread(table: &[u8]) -> Result<Vec<u8>, Refusal> {
+        stricter(table, |entry| {
+            matches!(entry, [.., [0x46, _, _, 0, 0, 0, 0]])
+        })
     }
 }
 
@@ -188,7 +207,7 @@ struct Adding;
 
 impl Misreading for Adding {
     fn misread(table: &[u8]) -> Result<Vec<u8>, Refusal> {
-        stricter(table, |command| command[0] == 0x2B)
+        stricter(table, |entry| matches!(entry, [[0x2B, _]]))
     }
 }
 
@@ -196,7 +215,7 @@ struct Deleting;
 
 impl Misreading for Deleting {
     fn misread(table: &[u8]) -> Result<Vec<u8>, Refusal> {
-        stricter(table, |command| command[0] == 0x2D)
+        stricter(table, |entry| matches!(entry, [[0x2D, _]]))
     }
 }
 

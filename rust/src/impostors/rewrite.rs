@@ -6,10 +6,10 @@ use super::{at_0, Impostor, HONEST};
 use crate::answer::{Reason, Refusal};
 use crate::call::CallKind;
 use crate::engine::{Calls, Rewrite};
-use crate::reference::table::{Block, Item, Kind};
+use crate::reference::table::{Block, Change, Item, Kind};
 use crate::reference::{parse_stored_table, read, rewrite, rewritten};
 
-pub const REWRITE: [Impostor; 17] = [
+pub const REWRITE: [Impostor; 19] = [
     impostor("such moves are kept", |table, out| {
         dropping(table, out, |_| false)
     }),
@@ -50,19 +50,18 @@ pub const REWRITE: [Impostor; 17] = [
         })
     }),
     impostor("a move that only deletes is dropped", |table, out| {
-        let deletes = |item: &Item| matches!(item, Item::Delete(_));
-        dropping(table, out, |block| {
-            let mut changes = block.items.iter().filter(|item| item.is_change());
-            changes.all(deletes)
-        })
+        overlooking(table, out, |item| matches!(item, Item::Delete(_)))
     }),
-    impostor("a move of += 0 is dropped", |table, out| {
-        let nothing = |item: &Item| matches!(item, Item::Effect(e) if e.constant == 0);
-        dropping(table, out, |block| {
-            let mut changes = block.items.iter().filter(|item| item.is_change());
-            changes.all(nothing)
-        })
+    impostor("+= 0 is no effect", |table, out| {
+        overlooking(table, out, |item| is_by_0(item, Change::Increase))
     }),
+    impostor(":= 0 is no effect", |table, out| {
+        overlooking(table, out, |item| is_by_0(item, Change::Assign))
+    }),
+    impostor(
+        "an effect whose constant is 0 is no effect",
+        |table, out| overlooking(table, out, has_constant_0),
+    ),
     impostor("16 is given", |table, out| {
         read(table)?;
         rewrite(table, out)
@@ -137,6 +136,30 @@ fn dropping(
     let mut stored = parse_stored_table(table)?;
     stored.moves.retain(|block| !drops(block));
     delivered(&stored.encode(), out)
+}
+
+/// A stored table without the moves all of whose changes an engine overlooks.
+fn overlooking(
+    table: &[u8],
+    out: &mut [u8],
+    overlooks: fn(&Item) -> bool,
+) -> Result<usize, Refusal> {
+    dropping(table, out, |block| {
+        let mut changes = block.items.iter().filter(|item| item.is_change());
+        changes.all(overlooks)
+    })
+}
+
+/// Whether it is an effect of this kind without terms and with constant 0.
+fn is_by_0(item: &Item, change: Change) -> bool {
+    let Item::Effect(effect) = item else {
+        return false;
+    };
+    effect.change == change && effect.terms.is_empty() && effect.constant == 0
+}
+
+fn has_constant_0(item: &Item) -> bool {
+    matches!(item, Item::Effect(effect) if effect.constant == 0)
 }
 
 /// An honest result whose head is changed, given how many moves were dropped.

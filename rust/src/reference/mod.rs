@@ -112,10 +112,31 @@ pub fn plan(
     layers: &mut [i64],
     out: &mut [u8],
 ) -> Result<Plan, Refusal> {
-    let (Parsed { table, .. }, built) = build_layers(table, state, layers)?;
+    let table = parse(table, Wanted::Only(Kind::Normal))?.table;
+    plan_of(&table, state, layers, out)
+}
+
+/// The same for a stored normal table, which may have moves that do nothing.
+pub fn stored_plan(
+    table: &[u8],
+    state: &[u8],
+    layers: &mut [i64],
+    out: &mut [u8],
+) -> Result<Plan, Refusal> {
+    let table = parse_stored(table, Wanted::Only(Kind::Normal))?.table;
+    plan_of(&table, state, layers, out)
+}
+
+fn plan_of(
+    table: &Table,
+    state: &[u8],
+    layers: &mut [i64],
+    out: &mut [u8],
+) -> Result<Plan, Refusal> {
+    let built = layers_of(table, state, layers)?;
     let decision = built.decision()?;
     let (records, first) = match built.end {
-        End::Goal => plan::extract(&table, &built.stored),
+        End::Goal => plan::extract(table, &built.stored),
         End::Equal | End::Refused(_) => (Vec::new(), 0),
     };
     let bytes: Vec<u8> = records.iter().flat_map(|r| r.encode()).collect();
@@ -134,17 +155,23 @@ pub fn rewritten(table: &[u8]) -> Result<Vec<u8>, Refusal> {
     Ok(rewrite::without_idle_moves(table, &stored))
 }
 
-/// Builds the layers and writes them into the layer memory.
+/// Checks a normal table, builds its layers and writes them into the layer memory.
 fn build_layers(
     table: &[u8],
     state: &[u8],
     memory: &mut [i64],
 ) -> Result<(Parsed, Layers), Refusal> {
     let parsed = parse(table, Wanted::Only(Kind::Normal))?;
-    let state = State::parse(&parsed.table, state)?;
-    let built = Layers::build(&parsed.table, &state, memory.len())?;
-    built.write(memory);
+    let built = layers_of(&parsed.table, state, memory)?;
     Ok((parsed, built))
+}
+
+/// Builds the layers of a normal table and writes them into the layer memory.
+fn layers_of(table: &Table, state: &[u8], memory: &mut [i64]) -> Result<Layers, Refusal> {
+    let state = State::parse(table, state)?;
+    let built = Layers::build(table, &state, memory.len())?;
+    built.write(memory);
+    Ok(built)
 }
 
 /// Parses an accepted table and its state, of either kind.
@@ -157,17 +184,6 @@ pub fn parse_task(table: &[u8], state: &[u8]) -> Result<(Table, State), Refusal>
 /// Parses an accepted table of either kind.
 pub fn parse_table(table: &[u8]) -> Result<Table, Refusal> {
     parse(table, Wanted::Either).map(|parsed| parsed.table)
-}
-
-/// What `decide` would answer for a stored normal table and leave in memory that suffices.
-pub fn stored_layers(table: &[u8], state: &[u8]) -> Result<(Decision, Vec<i64>), Refusal> {
-    let table = parse_stored(table, Wanted::Only(Kind::Normal))?.table;
-    let state = State::parse(&table, state)?;
-    let counts = [table.propositions, table.variables, table.moves.len()];
-    let mut memory = vec![0; room::layer_numbers(counts)];
-    let built = Layers::build(&table, &state, memory.len())?;
-    built.write(&mut memory);
-    Ok((built.decision()?, memory))
 }
 
 /// Parses a stored table of either kind, which may have moves that do nothing.

@@ -4,12 +4,12 @@ use native.Mathlib.Omega.{arith}
 use borrow.Author.Needs.{needs}
 use Rattle.model.specs.Command.{codeOf}
 use Rattle.model.specs.Theorems.Rewriting.Accepted.{kept-bytes}
-use Rattle.rewrite.specs.Stored.{storedTask, whole-written, kept-most, short, part-short, table-size, block-in}
+use Rattle.rewrite.specs.Stored.{storedTask, whole-written, few-moves, kept-most, short, part-short, table-size, block-in}
 use Rattle.rewrite.proofs.put_table.Statement.{statement}
 use Rattle.rewrite.proofs.put_table.Tie as tie
 
 put-head-requires : tie.Need-put-head-requires
-put-head-requires c κs = let s = c .before .before .before .before in (omega (arith, table-size (s .pre .0)), omega (arith, kept-most (s .pre .0), s .pre .1))
+put-head-requires c κs = let s = c .before .before .before .before in (omega (arith, table-size (s .pre .0)), omega (arith, kept-most (s .pre .0), few-moves (s .pre .0), s .pre .1))
 
 put-moves-requires : tie.Need-put-moves-requires
 put-moves-requires c κs = search needs

@@ -8,7 +8,7 @@ use lib.IntN.{ℤ}
 use Rattle.model.specs.Lists.{any}
 use Rattle.model.specs.Task.{Term, Comparison, atLeast, above, atMost, below, equal, Kind, assign, increase, decrease, Item, need, add, delete, condition, effect, Block, changes, active}
 use Rattle.model.specs.NormalForm.{least, normalCondition, mirrored, normalEffect, normalItem, normalBlock}
-use Rattle.model.specs.Theorems.NormalForm.Blocks.{any-append}
+use Rattle.model.specs.Theorems.NormalForm.Blocks.{any-append, All-of-map}
 use Rattle.model.specs.Theorems.Reading.Active.{AllActive}
 
 condition-changes : (o : Comparison) (ts : List Term) (c : ℤ) → any changes (normalCondition o ts c) ≡ false
@@ -43,5 +43,4 @@ normal-active (i ∷ b) =
     ∙ ap (λ (x : Bool). changes i || x) (normal-active b)
 
 pub normal-all-active : (ms : List Block) → AllActive ms → AllActive (map normalBlock ms)
-normal-all-active [] a = tt
-normal-all-active (b ∷ ms) a = (subst T (sym (normal-active b)) (a .0), normal-all-active ms (a .1))
+normal-all-active ms = All-of-map (λ b. T (active b)) normalBlock ms (λ b. subst T (sym (normal-active b)))

@@ -29,6 +29,7 @@ use Rattle.model.specs.Theorems.Reading.Kept.{kept-length}
 use Rattle.model.specs.Theorems.Printing.Passing.{paper-small}
 use Rattle.model.specs.Theorems.Printing.Items.{itemCommand, length-item}
 use Rattle.model.specs.Theorems.Printing.Tables.{printedTable, print-read-only}
+use Rattle.model.specs.Theorems.NormalForm.Blocks.{All-of-map}
 use Rattle.model.specs.Theorems.NormalForm.Print.{length-task, written-short}
 use Rattle.model.specs.Theorems.NormalForm.ZeroTerms.{itemWithout, blockWithout, withoutZero, without-normal-bytes, without-ok, without-moves, move-applicable, after-move, SumsOk, filled-ok}
 
@@ -88,8 +89,7 @@ block-active [] = refl
 block-active (i ∷ b) = ap₂ _||_ (item-changes i) (block-active b)
 
 without-active : (ms : List Block) → AllActive ms → AllActive (map blockWithout ms)
-without-active [] a = tt
-without-active (b ∷ ms) a = (subst T (sym (block-active b)) (a .0), without-active ms (a .1))
+without-active ms = All-of-map (λ b. T (active b)) blockWithout ms (λ b. subst T (sym (block-active b)))
 
 filled-active : (ms : List Block) → AllActive (map blockWithout ms) → AllActive ms
 filled-active [] a = tt

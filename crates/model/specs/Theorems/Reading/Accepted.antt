@@ -26,11 +26,11 @@ use Rattle.model.specs.Theorems.Printing.Printed.{Printed, printed-step}
 use Rattle.model.specs.Theorems.Reading.Marks.{Marked, starts, marked-step}
 
 -- what every command keeps
-record Kept (L : Limits) (w : Wanted) (t : List ℕ) (s : Seen) : Type 0 where
-  sound : Sound L w s
-  printed : Printed t s
-  marked : Marked (s .place) (s .moves) (s .items) (s .marks)
-  lively : All (Lively w) (s .moves)
+pub record Kept (L : Limits) (w : Wanted) (t : List ℕ) (s : Seen) : Type 0 where
+  pub sound : Sound L w s
+  pub printed : Printed t s
+  pub marked : Marked (s .place) (s .moves) (s .items) (s .marks)
+  pub lively : All (Lively w) (s .moves)
 
 closed-lively : (w : Wanted) (p : Place) (ms : List Block) (b : Block) → T (not (checks16 w && idle p b)) → All (Lively w) ms → All (Lively w) (closed p ms b)
 unfolding closed
@@ -40,7 +40,7 @@ closed-lively w inMove ms b h a = All-snoc (Lively w) ms b a (passes-lively w b 
 closed-lively w inGoal ms b h a = a
 closed-lively w finished ms b h a = a
 
-lively-step : {L : Limits} {w : Wanted} {t : List ℕ} {s : Seen} (c : Command) → Passes L w t s c → All (Lively w) (s .moves) → All (Lively w) (advance t s c .moves)
+pub lively-step : {L : Limits} {w : Wanted} {t : List ℕ} {s : Seen} (c : Command) → Passes L w t s c → All (Lively w) (s .moves) → All (Lively w) (advance t s c .moves)
 unfolding advance withHead withMark withTerm withItem itemAt wrong16
 lively-step (head f) h a = tt
 lively-step {w} {s} openMove h a = closed-lively w (s .place) (s .moves) (s .items) (h .lively) a
@@ -54,11 +54,11 @@ lively-step closeCondition h a = a
 lively-step closeEffect h a = a
 lively-step unknown h a = a
 
-kept-start : (L : Limits) (w : Wanted) (t : List ℕ) → Kept L w t nothingSeen
+pub kept-start : (L : Limits) (w : Wanted) (t : List ℕ) → Kept L w t nothingSeen
 unfolding nothingSeen seenBytes
 kept-start L w t = record { sound = sound-start L w; printed = record { long = refl; same = λ all. refl }; marked = tt; lively = tt }
 
-kept-step : (L : Limits) (w : Wanted) (t : List ℕ) (s : Seen) (c : Command) → Kept L w t s → Passes L w t s c → Kept L w t (advance t s c)
+pub kept-step : (L : Limits) (w : Wanted) (t : List ℕ) (s : Seen) (c : Command) → Kept L w t s → Passes L w t s c → Kept L w t (advance t s c)
 kept-step L w t s c k h =
     record {
       sound = sound-step c (k .sound) h;

@@ -1,11 +1,12 @@
 -- Moves that do something: what the check for refusal 16 says of a move. Assumes nothing.
 use mathlib.Core.Bool.{Bool, true, false, not, _&&_}
-use mathlib.Core.List.{List, [], _∷_}
+use mathlib.Core.List.{List}
 use lib.Dec.{T}
 use Rattle.model.specs.Task.{Form, Block, active}
 use Rattle.model.specs.Command.{inMove}
 use Rattle.model.specs.Reading.{Wanted, only, both, checks16, idle}
 use Rattle.model.specs.Theorems.Reading.WellFormed.{All}
+use Rattle.model.specs.Theorems.Laws.Searching.{All-map}
 
 -- every move does something
 abbrev pub AllActive : List Block → Type 0
@@ -49,9 +50,7 @@ none-closes true = tt
 none-closes false = tt
 
 pub all-lively : (w : Wanted) (ms : List Block) → AllActive ms → All (Lively w) ms
-all-lively w [] a = tt
-all-lively w (b ∷ ms) a = (λ c. a .0, all-lively w ms (a .1))
+all-lively w ms = All-map ms (λ b h c. h)
 
 pub lively-active : (w : Wanted) (ms : List Block) → T (checks16 w) → All (Lively w) ms → AllActive ms
-lively-active w [] c a = tt
-lively-active w (b ∷ ms) c a = (a .0 c, lively-active w ms c (a .1))
+lively-active w ms c = All-map ms (λ b h. h c)

@@ -32,6 +32,12 @@ starts-snoc n (c ∷ bs) b =
     let e : m + length rest ≡ n + suc (length (itemsBytes c ++ rest)) = omega (arith, length-append (itemsBytes c) rest) in
     ap (λ (l : List ℕ). n ∷ l) (starts-snoc m bs b ∙ ap (λ (k : ℕ). starts m bs ++ (k ∷ [])) e)
 
+-- one mark for each block, and one for the end
+pub starts-length : (n : ℕ) (bs : List Block) → length (starts n bs) ≡ suc (length bs)
+unfolding starts
+starts-length n [] = refl
+starts-length n (b ∷ bs) = ap suc (starts-length (n + suc (length (itemsBytes b))) bs)
+
 -- mark b
 pub starts-at : (n : ℕ) (bs : List Block) (b : ℕ) → b ≤ length bs → getD (starts n bs) b 0 ≡ n + length (movesBytes (take b bs))
 unfolding starts movesBytes

@@ -13,7 +13,7 @@ use Rattle.integer.specs.BigEndian.{AllBytes}
 use Rattle.model.specs.declared.Refusal.{Refusal}
 use Rattle.model.specs.Limits.{Limits}
 use Rattle.model.specs.Lists.{any, anyBelow}
-use Rattle.model.specs.Task.{Form, written, normal, need, add, delete, condition, effect, Block, Task, changes, active}
+use Rattle.model.specs.Task.{Form, written, normal, Block, Task, active}
 use Rattle.model.specs.Move.{State, real, relaxed, Solves}
 use Rattle.model.specs.Circle.{itemEdge, edge, walkTo, circular}
 use Rattle.model.specs.Command.{codeOf, itemsBytes, movesBytes, taskBytes}
@@ -28,11 +28,11 @@ use Rattle.model.specs.Theorems.Printing.Passing.{SmallLimits}
 use Rattle.model.specs.Theorems.Printing.Tables.{headOf, printedTable, print-read-only, print-read-both}
 use Rattle.model.specs.Theorems.NormalForm.Print.{length-task}
 use Rattle.model.specs.Theorems.Rewriting.Refusals.{stored-accepts}
-use Rattle.model.specs.Theorems.Rewriting.Solving.{dropped-solves, back-solves, real-inert, relaxed-inert}
+use Rattle.model.specs.Theorems.Rewriting.Solving.{idle-any, dropped-solves, back-solves, real-inert, relaxed-inert}
 
--- ---- the activeMoves moves
+-- ---- the kept moves
 
--- what holds of a list with the move b before it, and without, holds of the activeMoves ones
+-- what holds of a list with the move b before it, and without, holds of the kept ones
 pub kept-by : (P : List Block → Type 0) (b : Block) (ms : List Block) → (T (active b) → P (b ∷ ms)) → (active b ≡ false → P ms) → P (cond (active b) (b ∷ ms) ms)
 kept-by P b ms f g = go (active b) (λ t. t) (λ e. e)
   where
@@ -55,7 +55,7 @@ unfolding activeMoves
 kept-few [] = omega arith
 kept-few (b ∷ ms) = kept-by (λ (l : List Block). length l ≤ suc (length ms)) b (activeMoves ms) (λ does. omega (arith, kept-few ms)) (λ idle. omega (arith, kept-few ms))
 
--- where every move does something, all are activeMoves
+-- where every move does something, all are kept
 pub kept-same : (ms : List Block) → AllActive ms → activeMoves ms ≡ ms
 unfolding activeMoves
 kept-same [] a = refl
@@ -82,22 +82,10 @@ kept-bytes (b ∷ ms) =
 
 -- ---- edges and circles
 
-idle-edge : (u v : ℕ) (b : Block) → active b ≡ false → any (itemEdge u v) b ≡ false
-unfolding active any changes itemEdge
-idle-edge u v [] h = refl
-idle-edge u v (need q ∷ b) h = idle-edge u v b h
-idle-edge u v (add q ∷ b) h = absurd (subst T h tt)
-idle-edge u v (delete q ∷ b) h = absurd (subst T h tt)
-idle-edge u v (condition c ∷ b) h = idle-edge u v b h
-idle-edge u v (effect e ∷ b) h = absurd (subst T h tt)
-
-kept-edge : (u v : ℕ) (ms : List Block) → any (λ m. any (itemEdge u v) m) (activeMoves ms) ≡ any (λ m. any (itemEdge u v) m) ms
-kept-edge u v ms = kept-any (λ m. any (itemEdge u v) m) (idle-edge u v) ms
-
 module _ (k : Task) where
   same-edge : (u v : ℕ) → edge (rewritten k) u v ≡ edge k u v
-  unfolding edge rewritten
-  same-edge u v = kept-edge u v (k .moves)
+  unfolding edge rewritten itemEdge
+  same-edge u v = kept-any (λ m. any (itemEdge u v) m) (idle-any (itemEdge u v) (λ q. refl) (λ c. refl)) (k .moves)
 
   same-walk : (n v : ℕ) → walkTo (rewritten k) n v ≡ walkTo k n v
   unfolding walkTo rewritten

@@ -9,6 +9,8 @@ use lib.Dec.{T, ltb, ltb→lt, lit≤}
 use lib.IntN.{pos}
 use lib.ListN.{length, replicate}
 use Rattle.integer.specs.BigEndian.{AllBytes, all-cons, all-nil}
+use Rattle.model.specs.declared.ReadAnswer.the-variants as read
+use Rattle.model.specs.declared.WriteAnswer.the-variants as write
 use Rattle.model.specs.Limits.{paper}
 use Rattle.model.specs.Lists.{all}
 use Rattle.model.specs.Task.{written}
@@ -16,7 +18,7 @@ use Rattle.model.specs.Move.{real, relaxed, Solves}
 use Rattle.model.specs.Layer.{reported}
 use Rattle.model.specs.Reading.{Table, accepted, only, stored, reading}
 use Rattle.model.specs.Memory.{wrong15}
-use Rattle.model.specs.Calls.{writes, normalBytes, decideAnswer}
+use Rattle.model.specs.Calls.{readAnswer, writes, normalBytes, normaliseAnswer, decideAnswer}
 use Rattle.model.specs.Rewrite.{activeMoves, rewritten, newNumber, oldNumber, renumbered, numberedBack, rewriteOf, rewrote}
 use Rattle.model.specs.Theorems.Laws.Booleans.{and-left, and-right}
 use Rattle.model.specs.Theorems.Printing.Passing.{paper-small}
@@ -26,6 +28,8 @@ use Rattle.model.specs.Theorems.Campaigns.Instance.{tableIn}
 use Rattle.model.specs.Theorems.Campaigns.Demand2.{normalPart}
 use Rattle.model.specs.Theorems.Campaigns.Demand3.{relaxedTask, startState, layerZero, endOf, Given}
 use Rattle.model.specs.Theorems.Rewriting.Accepted.{Rewrites, RewriteRight, rewrite-right}
+use Rattle.model.specs.Theorems.Rewriting.Following.{FirstIdle}
+use Rattle.model.specs.Theorems.Rewriting.Refused.{read-refused, written-refused}
 use Rattle.model.specs.Theorems.Rewriting.EndToEnd.{SameCampaign, same-campaign, AnswersOld, answers-old}
 use Rattle.model.specs.Theorems.Rewriting.Cases.{unfinished, finished}
 
@@ -53,6 +57,20 @@ all-below (b ∷ bs) h = all-cons (ltb→lt b 256 (and-left (ltb b 256) (all (λ
 
 unfinished-bytes : AllBytes unfinished
 unfinished-bytes = all-below unfinished (unfold computing unfinished in tt)
+
+-- move 0 is the first that does nothing, and closes at 5: read and normalise refuse the table there
+unfinished-first : FirstIdle (unfinishedTable .task .moves) 0
+unfolding computing unfinished unfinishedTable tableIn
+unfinished-first = record { within = lit≤ tt; idle = refl; before = λ i h. absurd (omega arith) }
+
+pub unfinished-refused :
+    (readAnswer paper unfinished ≡ read.Refused (record { number = 16; place = 5 }))
+    × (normaliseAnswer paper unfinished [] ≡ write.Refused (record { number = 16; place = 5 }))
+unfolding computing unfinished unfinishedTable tableIn
+unfinished-refused = (
+  read-refused paper unfinished unfinished-read 0 unfinished-first,
+  written-refused paper unfinished unfinished-read 0 unfinished-first unfinished-bytes unfinished-written [] 0 [] .0,
+)
 
 -- what the rewriter writes is right
 pub unfinished-right : Rewrites paper unfinished finished

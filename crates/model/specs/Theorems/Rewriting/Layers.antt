@@ -2,7 +2,7 @@
 -- that was long enough still is. Assumes nothing.
 use Prim.Native.Nat.{ℕ, zero, suc}
 use native.Mathlib.Omega.{arith}
-use mathlib.Core.Path.{_≡_, refl, sym, ap, ap₂, _∙_, subst}
+use mathlib.Core.Path.{_≡_, refl, sym, ap, _∙_, subst}
 use mathlib.Core.Logic.{_↔_}
 use mathlib.Core.Bool.{Bool, true, false, cond, _&&_, _||_, and-false}
 use mathlib.Core.List.{List, [], _∷_}
@@ -12,7 +12,7 @@ use Rattle.model.specs.Limits.{Limits}
 use Rattle.model.specs.Lists.{anyBelow, firstFrom}
 use Rattle.model.specs.Task.{written, normal, Effect, Block, Task, adds, effectOn, active}
 use Rattle.model.specs.Move.{State}
-use Rattle.model.specs.Layer.{Value, Layer, highest, usable, offered, gained, raised, next, layer, layerAt, meetsGoal, EqualNext, Passed, Reached, Exhausted, Outcome, reached, exhausted, reported, sameLayer, settled, outcome}
+use Rattle.model.specs.Layer.{Value, Layer, highest, usable, offered, gained, raised, next, layer, layerAt, meetsGoal, EqualNext, Passed, Reached, Exhausted, Outcome, reached, exhausted, reported, outcome}
 use Rattle.model.specs.Memory.{room, tooLarge, wrong15, wrong14, refuses, Built, answered, stopped, stopAt, build}
 use Rattle.model.specs.NormalForm.{normalTask}
 use Rattle.model.specs.Rewrite.{activeMoves, rewritten}
@@ -78,11 +78,6 @@ module _ (k : Task) (s : State) where
   pub same-meetsGoal : (t : ℕ) → meetsGoal (rewritten k) s t ≡ meetsGoal k s t
   unfolding meetsGoal rewritten
   same-meetsGoal t = ap (λ (l : Layer). usable l (k .goal)) (same-layerAt t)
-
-  -- the same steps change nothing
-  pub same-settled : (t : ℕ) → settled (rewritten k) s t ≡ settled k s t
-  unfolding settled rewritten
-  same-settled t = ap₂ (sameLayer (k .props) (k .vars)) (same-layerAt t) (same-layerAt (suc t))
 
 -- ---- the answer
 

@@ -115,7 +115,8 @@ take-map f zero xs = refl
 take-map f (suc n) [] = refl
 take-map f (suc n) (x ∷ xs) = ap (λ (l : List _). f x ∷ l) (take-map f n xs)
 
-normal-newNumber : (ms : List Block) (b : ℕ) → newNumber (map normalBlock ms) b ≡ newNumber ms b
+-- a written table and its normal form number their moves alike
+pub normal-newNumber : (ms : List Block) (b : ℕ) → newNumber (map normalBlock ms) b ≡ newNumber ms b
 unfolding newNumber
 normal-newNumber ms b =
     ap (λ (l : List Block). length (activeMoves l)) (take-map normalBlock b ms)

@@ -9,6 +9,7 @@ use mathlib.Core.List.{List, [], _∷_}
 use mathlib.Core.Option.{Option, none, some}
 use lib.Dec.{T, eqb, eqb→eq, eqb-refl}
 use lib.ListN.{length, getD, take}
+use lib.Seq.{take-length}
 use Rattle.model.specs.Lists.{any, firstFrom}
 use Rattle.model.specs.Task.{Block, active}
 use Rattle.model.specs.Rewrite.{activeMoves, newNumber, oldNumber}
@@ -70,11 +71,7 @@ new-next (m ∷ ms) (suc b) = go (active m) (active (getD ms b [])) (activeMoves
 
 new-last : (ms : List Block) → newNumber ms (length ms) ≡ length (activeMoves ms)
 unfolding newNumber
-new-last ms = ap (λ (l : List Block). length (activeMoves l)) (all-taken ms)
-  where
-    all-taken : (l : List Block) → take (length l) l ≡ l
-    all-taken [] = refl
-    all-taken (m ∷ l) = ap (λ (r : List Block). m ∷ r) (all-taken l)
+new-last ms = ap (λ (l : List Block). length (activeMoves l)) (take-length ms)
 
 -- A walk over all moves beside one over those that do something. P relates the n moves from b on to the m from the new number of b on.
 module _ (ms : List Block) (P : ℕ → ℕ → ℕ → ℕ → Type 0) where

@@ -1,26 +1,25 @@
 -- The plan does not see moves that do nothing: its records are the old ones with each move under its new number, and so is its
 -- list. Assumes nothing.
 use Prim.Native.Nat.{ℕ, zero, suc, max}
-use mathlib.Core.Path.{_≡_, refl, sym, ap, ap₂, _∙_, subst}
+use mathlib.Core.Path.{_≡_, refl, sym, ap, ap₂, _∙_, subst, fun-ext}
 use mathlib.Core.Bool.{Bool, true, false, cond, not, _&&_, and-false}
 use mathlib.Core.List.{List, [], _∷_, _++_, map, map-append}
 use mathlib.Core.Option.{Option, none, some}
 use lib.Dec.{T, eqb, eqb→eq}
 use lib.IntN.{ℤ, _-ℤ_}
-use lib.ListN.{length, length-map, take, replicate}
+use lib.ListN.{length, replicate}
 use Rattle.model.specs.Lists.{foldBelow}
 use Rattle.model.specs.Task.{Effect, Block, Task, adds, effectOn, active}
 use Rattle.model.specs.Move.{State, moveAt}
 use Rattle.model.specs.Layer.{Layer, reaches, usable, layerValue, layerAt}
 use Rattle.model.specs.Plan.{Target, free, least, Wants, noWants, wantSum, wantBlock, Descent, counted, adder, takeAdder, demand, achieves, achiever, runs, takeEffect, takeAchiever, carriedDown, takeProp, takeTarget, takeValue, descend, Record, layerRecords, recordsFrom, records, moveAndCount, planList}
-use Rattle.model.specs.NormalForm.{normalBlock, normalTask}
-use Rattle.model.specs.Rewrite.{activeMoves, rewritten, newNumber, renumbered}
+use Rattle.model.specs.NormalForm.{normalTask}
+use Rattle.model.specs.Rewrite.{rewritten, newNumber, renumbered}
 use Rattle.model.specs.Theorems.Reading.WellFormed.{All}
 use Rattle.model.specs.Theorems.Laws.Booleans.{T-true, true-T, not-false, false-not}
-use Rattle.model.specs.Theorems.NormalForm.Active.{normal-active}
-use Rattle.model.specs.Theorems.NormalForm.Moves.{normal-move}
 use Rattle.model.specs.Theorems.Plans.Records.{All-append}
-use Rattle.model.specs.Theorems.Rewriting.Solving.{idle-adds, idle-effects, normal-activeMoves, normal-rewritten}
+use Rattle.model.specs.Theorems.Rewriting.Solving.{idle-adds, idle-effects, normal-rewritten}
+use Rattle.model.specs.Theorems.Rewriting.Normal.{normal-newNumber, normal-renumbered}
 use Rattle.model.specs.Theorems.Rewriting.Layers.{same-layerAt}
 use Rattle.model.specs.Theorems.Rewriting.Numbers.{new-same, new-equal, walk, first-same}
 
@@ -229,31 +228,21 @@ module _ (k : Task) where
 
 -- ---- written tables
 
--- a written table and its normal form number their moves alike
-normal-number : (ms : List Block) (b : ℕ) → newNumber (map normalBlock ms) b ≡ newNumber ms b
-unfolding newNumber
-normal-number ms b =
-    ap (λ (l : List Block). length (activeMoves l)) (taken b ms) ∙ ap length (sym (normal-activeMoves (take b ms))) ∙ length-map (activeMoves (take b ms)) normalBlock
-  where
-    taken : (n : ℕ) (l : List Block) → take n (map normalBlock l) ≡ map normalBlock (take n l)
-    taken zero l = refl
-    taken (suc n) [] = refl
-    taken (suc n) (m ∷ l) = ap (λ (r : List Block). normalBlock m ∷ r) (taken n l)
-
 module _ (k : Task) where
-  normal-renumbered : (bs : List ℕ) → renumbered (normalTask k) bs ≡ renumbered k bs
-  unfolding renumbered normalTask
-  normal-renumbered [] = refl
-  normal-renumbered (b ∷ bs) =
-      ap (λ (c : Bool). cond c (newNumber (normalTask k .moves) b ∷ renumbered (normalTask k) bs) (renumbered (normalTask k) bs))
-      (ap active (normal-move k b) ∙ normal-active (moveAt k b))
-      ∙ ap₂ (λ (n : ℕ) (l : List ℕ). cond (active (moveAt k b)) (n ∷ l) l) (normal-number (k .moves) b) (normal-renumbered bs)
+  -- the plan's records of a rewritten written table are the old ones, each move under its new number
+  pub same-records-written : (s : State) (m : ℕ) → records (normalTask (rewritten k)) s m ≡ map (newRecord k) (records (normalTask k) s m)
+  unfolding normalTask
+  same-records-written s m =
+      ap (λ (n : Task). records n s m) (normal-rewritten k)
+      ∙ same-records (normalTask k) s m
+      ∙ ap (λ (f : Record → Record). map f (records (normalTask k) s m))
+      (fun-ext (λ r. ap (λ (b : ℕ). record { layer = r .layer; move = b; count = r .count }) (normal-newNumber (k .moves) (r .move))))
 
-  -- the plan's list of a rewritten written table is the old one, renumbered
+  -- and its list is the old one, renumbered
   pub same-list-written :
       (s : State) (m : ℕ)
       → planList (map moveAndCount (records (normalTask (rewritten k)) s m)) ≡ renumbered k (planList (map moveAndCount (records (normalTask k) s m)))
   same-list-written s m =
       ap (λ (n : Task). planList (map moveAndCount (records n s m))) (normal-rewritten k)
       ∙ same-list (normalTask k) s m
-      ∙ normal-renumbered (planList (map moveAndCount (records (normalTask k) s m)))
+      ∙ normal-renumbered k (planList (map moveAndCount (records (normalTask k) s m)))

@@ -121,6 +121,18 @@ module _ (L : Limits) (t : List ℕ) where
       go (accepted k) read answer = let z : _≡_ {A = ℕ} 0 1 = cc in omega arith
       go (refused q) read answer = let same : q ≡ r = cc in omega (arith, stored-numbers L t read, ap (λ (x : Refusal). x .number) same)
 
+  -- "makes all checks but 16": no answer has this number
+  pub answers-no-16 : (out : List ℕ) {r : Refusal} → rewriteAnswer L t out ≡ write.Refused r → r .number ≡ 16 → ⊥
+  unfolding rewriteAnswer rewrote rewriteOf writeAnswer fitted
+  answers-no-16 out {r} e is = go (reading L stored t) refl e
+    where
+      go : (v : Verdict) → reading L stored t ≡ v → writeAnswer (fitted (length out) (rewriteOf v)) ≡ write.Refused r → ⊥
+      go (accepted k) read =
+          fitted-cases (length out) (taskBytes (k .header .form) (rewritten (k .task))) (λ (o : Output). writeAnswer o ≡ write.Refused r → ⊥)
+          (λ whole answer. let z : _≡_ {A = ℕ} 0 1 = cc in omega arith)
+          (λ short answer. let same : record { number = 13; place = 0 } ≡ r = cc in omega (arith, ap (λ (x : Refusal). x .number) same))
+      go (refused q) read = λ answer. let same : q ≡ r = cc in omega (arith, stored-numbers L t read, ap (λ (x : Refusal). x .number) same)
+
 -- a refusal's number and place are small, and so is a length
 pub rewrite-small : (t out : List ℕ) → WriteSmall 64_000 (rewriteAnswer paper t out)
 unfolding rewriteAnswer rewrote rewriteOf

@@ -3,7 +3,7 @@
 use Prim.Native.Nat.{ℕ, zero, suc, _*_, _<_}
 use native.Mathlib.Omega.{arith}
 use mathlib.Core.Path.{_≡_, refl, sym, ap, ap₂, _∙_, subst}
-use mathlib.Core.Bool.{Bool, true, false, cond, not, _&&_, _||_}
+use mathlib.Core.Bool.{Bool, true, false, cond, not, _&&_, _||_, and-true, or-false}
 use mathlib.Core.List.{List, [], _∷_, map}
 use mathlib.Core.Option.{Option, none}
 use lib.Dec.{T}
@@ -11,7 +11,7 @@ use lib.IntN.{ℤ}
 use lib.ListN.{length, getD, take}
 use Rattle.integer.specs.Linear.{larger, larger-cases}
 use Rattle.model.specs.Lists.{any}
-use Rattle.model.specs.Task.{need, add, delete, condition, effect, Block, Task, isAdd, isDelete, adds, deletes, effectOn, changes, active}
+use Rattle.model.specs.Task.{Item, need, add, delete, condition, Condition, effect, Block, Task, isAdd, isDelete, adds, deletes, effectOn, changes, active}
 use Rattle.model.specs.Move.{State, applicable, changedBy, real, relaxed, moveAt, Solves}
 use Rattle.model.specs.NormalForm.{normalBlock, normalTask}
 use Rattle.model.specs.Rewrite.{activeMoves, rewritten, newNumber, oldNumber, renumbered, numberedBack}
@@ -20,23 +20,23 @@ use Rattle.model.specs.Theorems.Laws.Booleans.{T-true, true-T}
 
 -- ---- a move that does nothing
 
+-- a test that no 50 and no 43 passes finds nothing in it
+pub idle-any : (f : Item → Bool) → ((p : ℕ) → f (need p) ≡ false) → ((c : Condition) → f (condition c) ≡ false) → (b : Block) → active b ≡ false → any f b ≡ false
+unfolding active any changes
+idle-any f n c [] h = refl
+idle-any f n c (need q ∷ b) h = ap (λ (x : Bool). x || any f b) (n q) ∙ idle-any f n c b h
+idle-any f n c (add q ∷ b) h = absurd (subst T h tt)
+idle-any f n c (delete q ∷ b) h = absurd (subst T h tt)
+idle-any f n c (condition d ∷ b) h = ap (λ (x : Bool). x || any f b) (c d) ∙ idle-any f n c b h
+idle-any f n c (effect e ∷ b) h = absurd (subst T h tt)
+
 pub idle-adds : (p : ℕ) (b : Block) → active b ≡ false → adds p b ≡ false
-unfolding active any changes adds isAdd
-idle-adds p [] h = refl
-idle-adds p (need q ∷ b) h = idle-adds p b h
-idle-adds p (add q ∷ b) h = absurd (subst T h tt)
-idle-adds p (delete q ∷ b) h = absurd (subst T h tt)
-idle-adds p (condition c ∷ b) h = idle-adds p b h
-idle-adds p (effect e ∷ b) h = absurd (subst T h tt)
+unfolding adds isAdd
+idle-adds p = idle-any (isAdd p) (λ q. refl) (λ c. refl)
 
 idle-deletes : (p : ℕ) (b : Block) → active b ≡ false → deletes p b ≡ false
-unfolding active any changes deletes isDelete
-idle-deletes p [] h = refl
-idle-deletes p (need q ∷ b) h = idle-deletes p b h
-idle-deletes p (add q ∷ b) h = absurd (subst T h tt)
-idle-deletes p (delete q ∷ b) h = absurd (subst T h tt)
-idle-deletes p (condition c ∷ b) h = idle-deletes p b h
-idle-deletes p (effect e ∷ b) h = absurd (subst T h tt)
+unfolding deletes isDelete
+idle-deletes p = idle-any (isDelete p) (λ q. refl) (λ c. refl)
 
 pub idle-effects : (v : ℕ) (b : Block) → active b ≡ false → effectOn v b ≡ none
 unfolding active any changes effectOn
@@ -58,32 +58,24 @@ pub real-inert : Inert real
 real-inert =
     record {
       same = λ b s idle. same-state (real b s) s
-          (λ p. unfold real in (ap₂ (λ (x y : Bool). x || (s .has p && not y)) (idle-adds p b idle) (idle-deletes p b idle)) ∙ stays (s .has p))
+          (λ p. unfold real in (ap₂ (λ (x y : Bool). x || (s .has p && not y)) (idle-adds p b idle) (idle-deletes p b idle)) ∙ and-true (s .has p))
           (λ v. unfold real changedBy in (ap (changedBy s v) (idle-effects v b idle)));
     }
-  where
-    stays : (x : Bool) → (false || (x && not false)) ≡ x
-    stays true = refl
-    stays false = refl
 
 pub relaxed-inert : Inert relaxed
 relaxed-inert =
     record {
       same = λ b s idle. same-state (relaxed b s) s
-          (λ p. unfold relaxed in (ap (λ (x : Bool). s .has p || x) (idle-adds p b idle)) ∙ stays (s .has p))
+          (λ p. unfold relaxed in (ap (λ (x : Bool). s .has p || x) (idle-adds p b idle)) ∙ or-false (s .has p))
           (λ v. unfold relaxed changedBy in (ap (λ (o : Option _). larger (s .val v) (changedBy s v o)) (idle-effects v b idle)) ∙ once (s .val v));
     }
   where
-    stays : (x : Bool) → (x || false) ≡ x
-    stays true = refl
-    stays false = refl
-
     once : (z : ℤ) → larger z z ≡ z
     once z = larger-cases z z (λ (m : ℤ). m ≡ z) (λ h. refl) (λ h. refl)
 
 -- ---- numbers
 
--- a activeMoves move under its new number
+-- a kept move under its new number
 pub new-number :
     (ms : List Block) (b : ℕ)
     → b < length ms
@@ -145,7 +137,7 @@ old-number (m ∷ ms) (suc n) h = go (active m) refl h (old-number ms n) (old-nu
 -- ---- lists
 
 module _ {run : Block → State → State} (inert : Inert run) (k : Task) where
-  -- "A list with those moves renumbered and the rest renumbered solves the rewritten table whenever the old list solved the old one."
+  -- "A list with those moves dropped and the rest renumbered solves the rewritten table whenever the old list solved the old one."
   pub dropped-solves : (bs : List ℕ) (s : State) → Solves run k s bs → Solves run (rewritten k) s (renumbered k bs)
   unfolding renumbered rewritten
   dropped-solves [] s h = h

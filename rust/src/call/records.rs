@@ -1,0 +1,64 @@
+//! The files of recorded outcomes under `tests/data/`, and how many outcomes each has: the newest of
+//! a call, those of the calls of document 01, and those by hand on comparisons, on weight 0 and on
+//! moves that do nothing.
+
+pub type Records = &'static [(&'static str, usize)];
+
+pub const READ: Records = &[
+    ("read.txt", 160),
+    ("base/read.txt", 404),
+    ("comparisons/read.txt", 4),
+    ("weights/read.txt", 5),
+];
+
+pub const BLOCK: Records = &[
+    ("block.txt", 139),
+    ("base/block.txt", 200),
+    ("comparisons/block.txt", 4),
+    ("idle-moves/block.txt", 16),
+];
+
+pub const NORMALISE: Records = &[
+    ("normalise.txt", 78),
+    ("base/normalise.txt", 274),
+    ("comparisons/normalise.txt", 4),
+    ("weights/normalise.txt", 5),
+];
+
+pub const STEP: Records = &[
+    ("step.txt", 154),
+    ("base/step.txt", 355),
+    ("comparisons/step.txt", 5),
+    ("weights/step.txt", 5),
+];
+
+pub const DECIDE: Records = &[("decide.txt", 70), ("base/decide.txt", 340)];
+
+pub const PLAN: Records = &[("plan.txt", 51), ("base/plan.txt", 468)];
+
+pub const CAMPAIGN: Records = &[
+    ("campaign.txt", 50),
+    ("comparisons/campaign.txt", 4),
+    ("idle-moves/campaign.txt", 4),
+];
+
+pub const PDDL: Records = &[
+    ("pddl.txt", 59),
+    ("comparisons/pddl.txt", 3),
+    ("idle-moves/pddl.txt", 4),
+];
+
+pub const BLOCKING: Records = &[("blocking.txt", 107), ("idle-moves/blocking.txt", 8)];
+
+pub const REWRITE: Records = &[
+    ("rewrite.txt", 160),
+    ("comparisons/rewrite.txt", 4),
+    ("idle-moves/rewrite.txt", 9),
+];
+
+pub const LISTING: Records = &[
+    ("listing.txt", 125),
+    ("base/listing.txt", 274),
+    ("comparisons/listing.txt", 4),
+    ("weights/listing.txt", 5),
+];
