@@ -11,19 +11,21 @@ use Rattle.model.specs.Command.{taskBytes}
 use Rattle.model.specs.Reading.{Verdict, accepted, refused, stored, reading}
 use Rattle.model.specs.Calls.{Output, writes, turns, fitted, writeAnswer, outputAfter}
 
--- the moves that do something, in their order
+-- "drops such moves": the moves that do something, in their order
 unfoldable pub activeMoves : List Block → List Block
 activeMoves [] = []
 activeMoves (b ∷ ms) = cond (active b) (b ∷ activeMoves ms) (activeMoves ms)
 
+-- the others stay as they are, and so do P, V and the goal; a move's number is its place among the moves
 unfoldable pub rewritten : Task → Task
 rewritten k = record { props = k .props; vars = k .vars; moves = activeMoves (k .moves); goal = k .goal }
 
--- the new number of a move: how many before it do something
+-- "renumbers the others": the new number of a move is how many before it do something
 unfoldable pub newNumber : List Block → ℕ → ℕ
 newNumber ms b = length (activeMoves (take b ms))
 
--- the old number of the new move n
+-- the old number of the new move n: that of the one move that does something and whose new number is n
+-- (`Theorems.Rewriting.Solving.old-number`)
 unfoldable pub oldNumber : List Block → ℕ → ℕ
 oldNumber [] n = n
 oldNumber (b ∷ ms) zero = cond (active b) 0 (suc (oldNumber ms 0))

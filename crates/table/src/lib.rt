@@ -1,4 +1,4 @@
-// Reading a table: every check of document 01, "Where a call turns back", in one pass over the bytes.
+// Reading a table: every check of document 01, "Where a call turns back", and 16 of document 02, in one pass over the bytes.
 ghost use mathlib.Core.Path.{_≡_};
 ghost use mathlib.Core.Bool.{false};
 ghost use Prim.Native.Nat.{_≤_};
