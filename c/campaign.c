@@ -1,4 +1,5 @@
-/* A small host: plans the campaign of a table and a state from files, and shows the decision and the plan's records.
+/* A small host: plans the campaign of a table and a state from files, and shows the decision, the plan's records and its
+ * helpful moves.
  *
  * usage: campaign TABLE STATE [NORMAL LAYERS OUT]
  *
@@ -37,9 +38,9 @@ static uint64_t count_of(const uint8_t *record) {
     return count;
 }
 
-/* Shows each record: its move and how often it is made. */
-static void show_records(uint64_t records, uint64_t first) {
-    printf("%" PRIu64 " records, first moves %016" PRIx64 "\n", records, first);
+/* Shows the set of helpful moves, and each record: its move and how often it is made. */
+static void show_records(uint64_t records, uint64_t helpful) {
+    printf("%" PRIu64 " records, helpful moves %016" PRIx64 "\n", records, helpful);
     for (const uint8_t *record = out; record < out + RECORD_BYTES * records; record += RECORD_BYTES) {
         printf("%u %" PRIu64 "\n", (unsigned)record[1], count_of(record));
     }
@@ -57,13 +58,13 @@ int main(int argc, char **argv) {
                        length_of(argv[4], LAYER_NUMBERS, &layers_len) && length_of(argv[5], OUT_BYTES, &out_len))) {
         return 2;
     }
-    uint64_t decision, records, first;
+    uint64_t decision, records, helpful;
     uint64_t answer = lapyndo_campaign(table, table_len, state, state_len, normal, normal_len, layers, layers_len, out,
-                                       out_len, &decision, &records, &first);
+                                       out_len, &decision, &records, &helpful);
     show("decide", decision);
     if (!show("plan", answer)) {
         return 1;
     }
-    show_records(records, first);
+    show_records(records, helpful);
     return 0;
 }

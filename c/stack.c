@@ -23,7 +23,7 @@ static size_t written_len, normal_len, state_len;
 
 static uint8_t spare[LAPYNDO_NORMAL_BYTES], out[LAPYNDO_PDDL_BYTES];
 static int64_t layers[LAYER_NUMBERS];
-static uint64_t decision, records, first_moves;
+static uint64_t decision, records, helpful;
 
 /* Which move or block, and how much of the output is lent. */
 static uint64_t number;
@@ -42,7 +42,7 @@ static void call_step(void) { lapyndo_step(written, written_len, state, state_le
 
 static void call_campaign(void) {
     lapyndo_campaign(written, written_len, state, state_len, spare, sizeof spare, layers, LAYER_NUMBERS, out, room,
-                     &decision, &records, &first_moves);
+                     &decision, &records, &helpful);
 }
 
 static void call_pddl(void) { lapyndo_pddl(written, written_len, state, state_len, out, room); }
@@ -62,14 +62,14 @@ uint64_t lapyndo_block(const uint8_t *table, size_t table_len, uint64_t block, u
 uint64_t lapyndo_decide(const uint8_t *table, size_t table_len, const uint8_t *state, size_t state_len,
                         int64_t *layers, size_t layers_len);
 uint64_t lapyndo_plan(const uint8_t *table, size_t table_len, const uint8_t *state, size_t state_len, int64_t *layers,
-                      size_t layers_len, uint8_t *out, size_t out_len, uint64_t *records, uint64_t *first_moves);
+                      size_t layers_len, uint8_t *out, size_t out_len, uint64_t *records, uint64_t *helpful);
 
 static void call_block(void) { lapyndo_block(normal, normal_len, number, out, room); }
 
 static void call_decide(void) { lapyndo_decide(normal, normal_len, state, state_len, layers, LAYER_NUMBERS); }
 
 static void call_plan(void) {
-    lapyndo_plan(normal, normal_len, state, state_len, layers, LAYER_NUMBERS, out, room, &records, &first_moves);
+    lapyndo_plan(normal, normal_len, state, state_len, layers, LAYER_NUMBERS, out, room, &records, &helpful);
 }
 #endif
 

@@ -4,7 +4,7 @@
 use campaign::call::{Call, Fill};
 use campaign::engine::REFERENCE;
 use campaign::fenced::Fenced;
-use campaign::generate::{blocked, call, damage, rewritten_length, stored, Rng, Task};
+use campaign::generate::{blocked, call, damage, helpful, rewritten_length, stored, Rng, Task};
 use campaign::harness::compare_over;
 use campaign::input::{decode, encode};
 use campaign::proved::PROVED;
@@ -60,7 +60,8 @@ pub unsafe extern "C" fn LLVMFuzzerCustomMutator(
 }
 
 /// Now and then another call, the same one with a damaged table or state, a `blocking` of the same task
-/// with a goal that mostly cannot be reached, or a `rewrite` of its table with moves that do nothing.
+/// with a goal that mostly cannot be reached, a `rewrite` of its table with moves that do nothing, or a
+/// `plan` or `campaign` of it with more moves that help at layer 0 or nearly do.
 fn changed(input: &[u8], seed: u32) -> Option<Vec<u8>> {
     let mut rng = Rng::new(u64::from(seed));
     match rng.below(16) {
@@ -80,6 +81,15 @@ fn changed(input: &[u8], seed: u32) -> Option<Vec<u8>> {
             let task = stored(&mut rng, &Task { table, state });
             let room = rewritten_length(&task.table) + rng.below(4);
             encode(&task.rewrite(room.saturating_sub(1)))
+        }
+        7 => {
+            let Call { table, state, .. } = decode(input);
+            let task = helpful(&mut rng, &Task { table, state });
+            let [numbers, room] = [200, 100].map(|most| rng.below(most));
+            encode(&match task.table.first() {
+                Some(0x54) => task.campaign(1_000, numbers, room),
+                _ => task.plan(numbers, room),
+            })
         }
         _ => None,
     }

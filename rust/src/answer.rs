@@ -126,7 +126,8 @@ impl fmt::Display for Decision {
     }
 }
 
-/// What `plan` answers; bit b of `first` is set if move b is taken at layer 0.
+/// What `plan` answers; bit b of `first` is set if move b is helpful: usable in layer 0, and it brings
+/// about something wanted at layer 1 that layer 0 does not have.
 #[derive(Clone, Copy, Debug, PartialEq, Eq)]
 pub struct Plan {
     pub answer: Answer,

@@ -3,6 +3,7 @@
 mod records;
 mod run;
 
+pub use records::GROWN_SETS;
 pub use run::{Buffers, Fill, Outcome};
 
 use crate::hex::{hex, unhex};

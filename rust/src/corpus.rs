@@ -1,7 +1,7 @@
 //! The calls that are kept, from fuzzing and some by hand, a line each: the call's name, then its
 //! fields.
 
-use crate::call::{Call, CallKind};
+use crate::call::{Call, CallKind, GROWN_SETS};
 use crate::harness::outcomes;
 use std::fs;
 use std::path::Path;
@@ -29,8 +29,9 @@ pub fn recorded() -> Vec<Call> {
             fields.map(|(call, _)| Call::parse(kind, call)).collect();
         calls.expect("every line has a call")
     };
-    let files = |kind: CallKind| kind.records().iter().map(move |(file, _)| (kind, file));
+    let files = |kind: CallKind| kind.records().iter().map(move |(file, _)| (kind, *file));
     let files = CallKind::ALL.into_iter().flat_map(files);
+    let files = files.chain([(CallKind::Plan, GROWN_SETS.0)]);
     files.flat_map(|(kind, file)| calls(kind, file)).collect()
 }
 
@@ -67,6 +68,6 @@ mod tests {
     fn every_recorded_call_is_there() {
         let records = CallKind::ALL.into_iter().flat_map(CallKind::records);
         let lines: usize = records.map(|(_, lines)| lines).sum();
-        assert_eq!(recorded().len(), lines);
+        assert_eq!(recorded().len(), lines + GROWN_SETS.1);
     }
 }

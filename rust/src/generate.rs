@@ -4,6 +4,7 @@ mod blocked;
 mod call;
 mod damage;
 mod grid;
+mod helpful;
 mod maker;
 mod rng;
 mod scale;
@@ -16,13 +17,15 @@ mod tuned;
 pub use crate::hex::hex;
 pub use blocked::{blocked, long_goal};
 pub use call::{
-    blocking_call, call, campaign_call, normal_length, pddl_call, rewrite_call, sized_calls,
+    blocking_call, call, campaign_call, normal_length, pddl_call, plan_call, rewrite_call,
+    sized_calls,
 };
 pub use damage::{
     command_string, damage, deletions, insertions, random_bytes, single_byte_changes, spoil,
     truncations, wrong_state,
 };
 pub use grid::{grid, long_sum, m1_grid};
+pub use helpful::helpful;
 pub use maker::{task, task_of};
 pub use rng::Rng;
 pub use scale::state_for;

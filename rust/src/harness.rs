@@ -91,18 +91,18 @@ pub fn compare(call: &Call, one: &dyn Engine, other: &dyn Engine) -> Result<(), 
     compare_over(call, Fill::Recorded, one, other).map(drop)
 }
 
-/// The same with other contents of all outputs before the call; answers what both answer.
+/// The same with other contents of all outputs before the call; hands back the outcome of both.
 pub fn compare_over(
     call: &Call,
     fill: Fill,
     one: &dyn Engine,
     other: &dyn Engine,
-) -> Result<String, Difference> {
+) -> Result<Outcome, Difference> {
     let buffers = Buffers::of(call, fill);
     let outcomes = [(one, buffers.clone()), (other, buffers)];
     let outcomes = outcomes.map(|(engine, buffers)| run(call, buffers, engine));
     let [expected, got] = match outcomes {
-        [Ok(expected), Ok(got)] if expected == got => return Ok(got.answer),
+        [Ok(expected), Ok(got)] if expected == got => return Ok(got),
         outcomes => outcomes.map(|outcome| match outcome {
             Ok(outcome) => outcome.to_string(),
             Err(error) => format!("error: {error}"),

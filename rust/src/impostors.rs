@@ -3,6 +3,7 @@
 mod blocking;
 mod changed;
 mod comparisons;
+mod helpful;
 mod idle_moves;
 mod reading;
 mod rewrite;
@@ -16,6 +17,7 @@ use crate::reference::table::{Change, Comparison, Item};
 use crate::reference::{block, decide, normalise, parse_task, pddl, pddl_text, plan, read, step};
 use changed::{each, retold};
 use comparisons::COMPARISONS;
+use helpful::HELPFUL;
 use idle_moves::IDLE_MOVES;
 use rewrite::REWRITE;
 use weight_zero::WEIGHT_ZERO;
@@ -50,6 +52,7 @@ pub fn check_found(kinds: &[CallKind], found: impl Fn(CallKind, &dyn Engine) -> 
         &COMPARISONS,
         &IDLE_MOVES,
         &REWRITE,
+        &HELPFUL,
     ];
     let mut missed = Vec::new();
     for impostor in IMPOSTORS.iter().chain(others.into_iter().flatten()) {

@@ -1,6 +1,7 @@
 //! Two engines compared on many calls, counted by what they answer.
 
 mod blocking;
+mod planning;
 mod rewriting;
 mod shares;
 
@@ -22,6 +23,7 @@ pub struct Tally<'e> {
     /// Calls of a written table with a term of weight 0.
     zeros: usize,
     blocking: Shares,
+    planning: Shares,
     rewriting: Shares,
 }
 
@@ -33,6 +35,7 @@ impl<'e> Tally<'e> {
             counts: [0; 17],
             zeros: 0,
             blocking: Shares::default(),
+            planning: Shares::default(),
             rewriting: Shares::default(),
         }
     }
@@ -44,13 +47,14 @@ impl<'e> Tally<'e> {
     pub fn check(&mut self, call: &Call) {
         let fill = Fill::Seeded(self.rng.next_u64());
         self.zeros += usize::from(has_zero_term(&call.table));
-        let answer = match compare_over(call, fill, &REFERENCE, self.engine) {
-            Ok(answer) => answer,
+        let outcome = match compare_over(call, fill, &REFERENCE, self.engine) {
+            Ok(outcome) => outcome,
             Err(difference) => panic!("{difference}\n  before: {fill:?}"),
         };
-        self.counts[refusal_number(&answer)] += 1;
+        self.counts[refusal_number(&outcome.answer)] += 1;
         match call.kind {
-            CallKind::Blocking => self.blocking.add_blocking(call, &answer),
+            CallKind::Blocking => self.blocking.add_blocking(call, &outcome.answer),
+            CallKind::Plan | CallKind::Campaign => self.planning.add_planning(call, &outcome),
             CallKind::Rewrite => self.rewriting.add_rewriting(call),
             _ => {}
         }
@@ -82,6 +86,11 @@ impl<'e> Tally<'e> {
     /// What calls of `blocking` had to tell apart.
     pub fn blocking(&self) -> &Shares {
         &self.blocking
+    }
+
+    /// What calls of `plan` and `campaign` had to tell apart.
+    pub fn planning(&self) -> &Shares {
+        &self.planning
     }
 
     /// What calls of `rewrite` had to tell apart.

@@ -5,8 +5,9 @@ use campaign::call::{Call, CallKind};
 use campaign::engine::{Calls, Engine};
 use campaign::fenced::Fenced;
 use campaign::generate::{
-    at_value_limit, campaign_call, damage, dense, full_length, grid, m1, m1_grid, normal_length,
-    single_byte_changes, task, task_of, truncations, waves, wrong_state, Rng, Sizes, Task,
+    at_value_limit, campaign_call, damage, dense, full_length, grid, helpful, m1, m1_grid,
+    normal_length, single_byte_changes, task, task_of, truncations, waves, wrong_state, Rng, Sizes,
+    Task,
 };
 use campaign::harness::{campaigned, check_lines};
 use campaign::meaning::check_meaning;
@@ -45,7 +46,8 @@ fn check_sizes(tally: &mut Tally, rng: &mut Rng, task: &Task) {
     }
 }
 
-/// Written tasks of all sizes, with many layers, and with values at 10^12 and past it.
+/// Written tasks of all sizes, with many layers, with values at 10^12 and past it, and with moves that
+/// help with what is wanted at layer 1 or nearly do.
 fn written_tasks(seed: u64, count: usize) -> impl Iterator<Item = Task> {
     let mut rng = Rng::new(seed);
     (0..count).map(move |i| match i % 16 {
@@ -57,6 +59,10 @@ fn written_tasks(seed: u64, count: usize) -> impl Iterator<Item = Task> {
         2 => {
             let counts = [120, 16, 64].map(|limit| limit * rng.below(2));
             task_of(&mut rng, Kind::Written, counts)
+        }
+        3..=8 => {
+            let task = task(&mut rng, Kind::Written);
+            helpful(&mut rng, &task)
         }
         _ => task(&mut rng, Kind::Written),
     })
@@ -78,6 +84,9 @@ fn memories_around_what_is_needed() {
     }
     tally.expect(25_000, &[0, 13, 14, 15]);
     tally.expect_zero_terms(8_000);
+    tally.planning().expect_faults(25);
+    let shares = [("the moves that the plan takes", 1_200)];
+    tally.planning().expect(&shares);
     assert!(
         plans > 500 && none > 100,
         "{plans} plans, {none} times none"

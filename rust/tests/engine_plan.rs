@@ -1,16 +1,20 @@
 //! The proved engine's plan, over its C function.
 
+mod before;
+mod helpful;
+
 use crate::common::tasks;
 use campaign::answer::Answer;
 use campaign::call::CallKind;
 use campaign::engine::{Calls, Engine};
 use campaign::generate::{
-    m1, many_records, single_byte_changes, truncations, wrong_state, Rng, Sizes, Task,
+    damage, helpful, m1, many_records, plan_call, single_byte_changes, truncations, wrong_state,
+    Rng, Sizes, Task,
 };
 use campaign::harness::{check_lines, planned};
 use campaign::meaning::{check_meaning, solves};
 use campaign::proved;
-use campaign::tally::Tally;
+use campaign::tally::{Shares, Tally};
 
 const ENGINE: &dyn Engine = &Calls {
     read: proved::read,
@@ -36,7 +40,8 @@ fn memories_and_outputs_around_what_is_needed() {
     let mut rng = Rng::new(401);
     let mut tally = Tally::new(ENGINE, 402);
     let (mut plans, mut none, mut needed_counts) = (0, 0, 0);
-    for task in tasks::normal_tasks(403, 7_000) {
+    let tasks = tasks::normal_tasks(403, 2_800).chain(tasks::helpful_tasks(408, 3_600));
+    for task in tasks {
         check_sizes(&mut tally, &mut rng, &task);
         let Some(planned) = check_meaning(&task, planned(ENGINE, &task.table, &task.state)) else {
             continue;
@@ -52,8 +57,37 @@ fn memories_and_outputs_around_what_is_needed() {
         }
     }
     tally.expect(100_000, &[0, 13, 14]);
+    expect_shares(tally.planning());
     let found = [plans, none, needed_counts];
     assert!(found.iter().all(|count| *count > 500), "{found:?}");
+}
+
+/// Answers, and faults in the set by how many calls show them.
+fn expect_shares(shares: &Shares) {
+    shares.expect_faults(100);
+    shares.expect(&[
+        ("no plan", 5_000),
+        ("answer layer 0", 6_000),
+        ("answer layer 1", 7_000),
+        ("a later answer layer", 9_000),
+        ("the moves that the plan takes", 8_000),
+        ("the set has 32 bits", 3_000),
+        ("a move need not be usable", 10_000),
+        ("a move may be usable in a later layer", 5_000),
+        ("a proposition that layer 0 has counts", 2_000),
+        ("a target that layer 0 reaches counts", 2_500),
+        ("a target that layer 0 just reaches counts", 1_000),
+        ("propositions only", 10_000),
+        ("targets only", 9_000),
+        ("effects have their values of layer 1", 3_000),
+        ("+= 0 reaches a target", 1_100),
+        ("every += reaches a target", 4_000),
+        (":= has to exceed its target", 5_000),
+        ("the wants are the goal's", 7_000),
+        ("what is handed down to layer 1 is not wanted there", 3_500),
+        ("a target is the value of layer 1", 550),
+        ("a set at answer layer 0", 1_800),
+    ]);
 }
 
 #[test]
@@ -61,12 +95,19 @@ fn tasks_at_the_edges() {
     let mut rng = Rng::new(404);
     let mut tally = Tally::new(ENGINE, 405);
     let mut counts = Vec::new();
-    for task in tasks::edge_tasks(&mut rng) {
+    for (i, task) in tasks::edge_tasks(&mut rng).into_iter().enumerate() {
+        let task = match i % 2 {
+            0 => task,
+            _ => helpful(&mut rng, &task),
+        };
         check_sizes(&mut tally, &mut rng, &task);
         let planned = check_meaning(&task, planned(ENGINE, &task.table, &task.state));
         counts.extend(planned.iter().flat_map(|p| &p.records).map(|(_, c)| *c));
     }
     tally.expect(15_000, &[0, 13, 14, 15]);
+    let shares = tally.planning();
+    shares.expect(&[("a later answer layer", 800), ("the set has 32 bits", 90)]);
+    shares.expect(&[("the moves that the plan takes", 250)]);
     let large = counts.iter().filter(|count| **count > 10_000_000_000);
     assert!(large.count() > 20, "large counts are needed");
 }
@@ -111,14 +152,23 @@ fn damaged_tables_and_states() {
         let (numbers, room) = (rng.below(24), rng.below(40));
         tally.check(&Task { table, state }.plan(numbers, room));
     }
-    for task in tasks::spoilt_tasks(&mut rng, 4_000) {
+    for task in tasks::spoilt_tasks(&mut rng, 3_000) {
         tally.check(&task.plan(40, 40));
+    }
+    for _ in 0..1_500 {
+        let mut call = plan_call(&mut rng);
+        tally.check(&call);
+        damage(&mut rng, &mut call);
+        tally.check(&call);
     }
     for task in tasks::normal_tasks(411, 2_000) {
         let state = wrong_state(&mut rng, &task.state);
         tally.check(&Task { state, ..task }.plan(200, 100));
     }
     tally.expect(20_000, &[0, 2, 3, 4, 5, 6, 7, 8, 9, 13, 14, 16]);
+    tally
+        .planning()
+        .expect(&[("the moves that the plan takes", 100)]);
 }
 
 #[test]

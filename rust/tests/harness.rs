@@ -148,6 +148,54 @@ fn shares_of_blocking_are_counted() {
 }
 
 #[test]
+#[should_panic(expected = "a later answer layer: 0 only")]
+fn a_missing_share_of_planning_is_found() {
+    let tally = Tally::new(&REFERENCE, 1);
+    tally.planning().expect(&[("a later answer layer", 1)]);
+}
+
+#[test]
+#[should_panic(expected = "the moves that the plan takes: 0 only")]
+fn a_missing_share_of_a_fault_is_found() {
+    let mut tally = Tally::new(&REFERENCE, 1);
+    let task = Task {
+        table: bytes("4e 00 02 01 41 46 01 00 00000001 47 57 00 0001 43 00 00000004 45"),
+        state: vec![0; 4],
+    };
+    tally.check(&task.plan(5, 10));
+    tally.planning().expect_faults(1);
+}
+
+/// Two moves add the goal's proposition, and a third could where another one is true; the state has
+/// the goal's other one. The same in one call, and with an output that is too short.
+#[test]
+fn shares_of_planning_are_counted() {
+    let mut tally = Tally::new(&REFERENCE, 1);
+    let moves = "41 2b 00 41 2b 00 41 50 02 2b 00 41 2b 01";
+    let [written, normal] = ["54", "4e"].map(|head| Task {
+        table: bytes(&format!("{head} 03 00 04 {moves} 47 50 00 50 01 45")),
+        state: vec![0, 1, 0],
+    });
+    tally.check(&normal.plan(7, 10));
+    tally.check(&normal.plan(7, 9));
+    tally.check(&written.campaign(24, 7, 10));
+    for (name, count) in [
+        ("answer layer 1", 2),
+        ("a later answer layer", 0),
+        ("no plan", 0),
+        ("the moves that the plan takes", 2),
+        ("a move need not be usable", 2),
+        ("a move may be usable in a later layer", 0),
+        ("a proposition that layer 0 has counts", 2),
+        ("a target that layer 0 reaches counts", 0),
+        ("propositions only", 0),
+        ("targets only", 2),
+    ] {
+        assert_eq!(tally.planning().count(name), count, "{name}");
+    }
+}
+
+#[test]
 #[should_panic(expected = "several in a row: 0 only")]
 fn a_missing_share_of_rewriting_is_found() {
     let tally = Tally::new(&REFERENCE, 1);

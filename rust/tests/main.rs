@@ -21,6 +21,7 @@ mod pddl_text;
 mod properties;
 mod refusals;
 mod tool;
+mod tool_plan;
 mod tool_readme;
 mod tool_rewrite;
 mod tool_script;

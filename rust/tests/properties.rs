@@ -1,6 +1,7 @@
 //! Properties of the specification on generated inputs: real lists, plans and layers.
 
 mod blocking;
+mod helpful;
 mod memory;
 mod rewrite;
 mod tables;

@@ -83,12 +83,45 @@ fn an_example_shows_what_blocks() {
     }
 }
 
+/// Files of an example.
+fn files<const N: usize>(example: &str, names: [&str; N]) -> [Vec<u8>; N] {
+    let folder = repository().join("examples").join(example);
+    names.map(|name| fs::read(folder.join(name)).expect("a file"))
+}
+
+/// Makes real moves and checks that they reach the goal.
+fn check_solves(table: &[u8], state: &[u8], moves: &[u64]) {
+    let mut state = state.to_vec();
+    for mv in moves {
+        let mut after = state.clone();
+        proved::step(table, &state, *mv, &mut after).expect("a move that can be made");
+        state = after;
+    }
+    let planned = campaigned(&PROVED, table, &state).expect("an accepted campaign");
+    assert_eq!(planned.plan.answer, Answer::Layer(0));
+}
+
+/// Each move's row says whether it is helpful, and each helpful one does in place of the first.
+#[test]
+fn an_example_shows_helpful_moves() {
+    let [page, table, state] = files("spare_jacks", ["README.md", "task.bin", "state.bin"]);
+    let page = String::from_utf8(page).expect("text");
+    assert_eq!(check_shown(&copy(), &page), ["plan", "step"]);
+    let rows = page.lines().filter(|line| line.matches('|').count() == 5);
+    let said: Vec<bool> = rows.skip(2).map(|row| row.contains("| yes")).collect();
+    let planned = campaigned(&PROVED, &table, &state).expect("an accepted campaign");
+    let helpful = (0..8).map(|mv| planned.plan.first >> mv & 1 == 1);
+    assert_eq!(said, helpful.collect::<Vec<bool>>());
+    for moves in [&[1, 1, 1, 7][..], &[2, 2, 7], &[4, 7]] {
+        check_solves(&table, &state, moves);
+    }
+}
+
 /// The page, the stored and the rewritten table and the state of the example of the rewriter.
 fn unfinished_rows() -> (String, [Vec<u8>; 3]) {
-    let folder = repository().join("examples/unfinished_rows");
-    let files = ["stored.bin", "task.bin", "state.bin"];
-    let files = files.map(|file| fs::read(folder.join(file)).expect("a file"));
-    (text(&folder.join("README.md")), files)
+    let names = ["README.md", "stored.bin", "task.bin", "state.bin"];
+    let [page, files @ ..] = files("unfinished_rows", names);
+    (String::from_utf8(page).expect("text"), files)
 }
 
 #[test]
@@ -107,7 +140,7 @@ fn an_example_shows_how_a_stored_table_is_rewritten() {
 /// and that one reaches the goal.
 #[test]
 fn an_example_shows_a_list_with_new_numbers() {
-    let (page, [_, table, mut state]) = unfinished_rows();
+    let (page, [_, table, state]) = unfinished_rows();
     let list = |name| -> Vec<u64> {
         let list = indented(&page).find_map(|line| line.strip_prefix(name));
         let numbers = list.expect("a list").split_whitespace();
@@ -124,11 +157,5 @@ fn an_example_shows_a_list_with_new_numbers() {
     let renumbered = renumbered.iter().filter_map(new).map(|(_, new)| *new);
     let renumbered: Vec<u64> = renumbered.collect();
     assert_eq!(renumbered, list("now "));
-    for mv in renumbered {
-        let mut after = state.clone();
-        proved::step(&table, &state, mv, &mut after).expect("a move that can be made");
-        state = after;
-    }
-    let planned = campaigned(&PROVED, &table, &state).expect("an accepted campaign");
-    assert_eq!(planned.plan.answer, Answer::Layer(0));
+    check_solves(&table, &state, &renumbered);
 }

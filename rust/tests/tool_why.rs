@@ -104,7 +104,7 @@ impl Moves {
 }
 
 /// What follows a label on its line.
-fn row<'t>(text: &'t str, label: &str) -> Option<&'t str> {
+pub fn row<'t>(text: &'t str, label: &str) -> Option<&'t str> {
     let label = format!("{label:10}");
     text.lines().find_map(|line| line.strip_prefix(&label))
 }

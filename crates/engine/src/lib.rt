@@ -80,7 +80,7 @@ pub extern "C" fn lapyndo_blocking(table: &[u8], state: &[u8], layers: &mut [i64
     codes::blocking_code(blocking::blocking(table, state, layers))
 }
 
-// Plan, for tests. The number of records and the first moves are written in an answer only.
+// Plan, for tests. The number of records and the helpful moves are written in an answer only.
 #[no_mangle]
 pub extern "C" fn lapyndo_plan(
     table: &[u8],
@@ -105,7 +105,7 @@ pub extern "C" fn lapyndo_plan(
 
 // Normalise, decide and plan in one call, with demand 3 of what is answered: a written table is normalised into `normal`, and
 // decide and plan run on exactly those bytes. The result is plan's answer; `decision` gets decide's, always; the number of
-// records and the first moves are written in an answer only.
+// records and the helpful moves are written in an answer only.
 #[no_mangle]
 pub extern "C" fn lapyndo_campaign(
     table: &[u8],

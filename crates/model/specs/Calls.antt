@@ -29,7 +29,7 @@ use Rattle.model.specs.NormalForm.{normalTask, normalState}
 use Rattle.model.specs.StateTable.{stateOf, stateRefusal, stateBytes, valueInRange}
 use Rattle.model.specs.Layer.{reached, exhausted}
 use Rattle.model.specs.Memory.{overwrite, Built, answered, stopped, build, builtMemory}
-use Rattle.model.specs.Plan.{Record, records, firstMoves}
+use Rattle.model.specs.Plan.{Record, records, helpfulMoves}
 
 -- ---- read
 
@@ -222,16 +222,17 @@ planRecords k s (answered (reached m)) = records k s m
 planRecords k s (answered (exhausted m)) = []
 planRecords k s (stopped n m) = []
 
-unfoldable pub planned : List Record → Built → PlanAnswer
-planned rs (answered (reached m)) = plan.Plan m m (length rs) (firstMoves rs)
-planned rs (answered (exhausted m)) = plan.NoPlan m 0 0
-planned rs (stopped n m) = plan.Refused (record { number = n; place = m })
+-- "plan adds the number of records and the first moves", which are the helpful moves (document 02, request 6); with "no plan" both are 0
+unfoldable pub planned : Task → State → Built → PlanAnswer
+planned k s (answered (reached m)) = plan.Plan m m (length (records k s m)) (helpfulMoves k s m)
+planned k s (answered (exhausted m)) = plan.NoPlan m 0 0
+planned k s (stopped n m) = plan.Refused (record { number = n; place = m })
 
-unfoldable pub planFitted : ℕ → List Record → Built → PlanAnswer
-planFitted size rs b = onOutput (fitted size (writes (recordBytes rs))) (λ bs. planned rs b) (λ r. plan.Refused r)
+unfoldable pub planFitted : ℕ → Task → State → Built → PlanAnswer
+planFitted size k s b = onOutput (fitted size (writes (recordBytes (planRecords k s b)))) (λ bs. planned k s b) (λ r. plan.Refused r)
 
 unfoldable pub planOf : Limits → ℕ → ℕ → Ready → PlanAnswer
-planOf L size room (ready k s) = let b = build L k s size in planFitted room (planRecords k s b) b
+planOf L size room (ready k s) = planFitted room k s (build L k s size)
 planOf L size room (unready r) = plan.Refused r
 
 unfoldable pub planAnswer : Limits → List ℕ → List ℕ → List ℤ → List ℕ → PlanAnswer

@@ -68,7 +68,7 @@ answerText (plan.Refused r) rs = refusalText r
 
 unfoldable pub readyText : Limits → Ready → List ℕ
 readyText L (ready k s) =
-    let b = build L k s listingLayers in let rs = planRecords k s b in answerText (planFitted listingBytes rs b) rs
+    let b = build L k s listingLayers in answerText (planFitted listingBytes k s b) (planRecords k s b)
 readyText L (unready r) = refusalText r
 
 -- "The listing program reads task.bin and state.bin .. task.bin, a written table, is normalised first"

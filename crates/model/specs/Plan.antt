@@ -1,6 +1,6 @@
--- The plan: wants, the moves taken for them, counts and records (document 01, "Plan").
+-- The plan: wants, the moves taken for them, counts and records (document 01, "Plan"); the helpful moves (document 02, request 6).
 -- Assumes nothing.
-use Prim.Native.Nat.{ℕ, zero, suc, _+_, _^_, max}
+use Prim.Native.Nat.{ℕ, zero, suc, _+_, _-_, _*_, _^_, _/_, _%_, max}
 use mathlib.Core.Bool.{Bool, true, false, cond, not, _&&_, _||_}
 use mathlib.Core.List.{List, [], _∷_, _++_}
 use mathlib.Core.Option.{Option, none, some}
@@ -9,7 +9,7 @@ use lib.IntN.{ℤ, pos, natAbs, _-ℤ_}
 use lib.ListN.{length, replicate}
 use Rattle.integer.specs.Linear.{up, larger}
 use Rattle.integer.specs.Ceiling.{ceiling}
-use Rattle.model.specs.Lists.{firstFrom, foldBelow}
+use Rattle.model.specs.Lists.{any, firstFrom, foldBelow}
 use Rattle.model.specs.Task.{Term, Kind, assign, increase, decrease, Effect, Item, need, add, delete, condition, effect, Block, Task, adds, effectOn}
 use Rattle.model.specs.Move.{State, sum, moveAt}
 use Rattle.model.specs.Layer.{Value, finite, unbounded, Layer, reaches, usable, layerValue, layerAt}
@@ -199,11 +199,6 @@ recordsFrom k s (suc t) w =
 unfoldable pub records : Task → State → ℕ → List Record
 records k s m = recordsFrom k s m (wantBlock (layerAt k s m) s noWants (k .goal))
 
--- "the first moves: a 64-bit set of the moves taken at layer 0, bit b (of worth 2^b) for move b"
-unfoldable pub firstMoves : List Record → ℕ
-firstMoves [] = 0
-firstMoves (r ∷ rs) = cond (eqb (r .layer) 0) (2 ^ (r .move)) 0 + firstMoves rs
-
 -- what the bytes of a record say
 abbrev pub moveAndCount : Record → ℕ × ℕ
 moveAndCount r = (r .move, r .count)
@@ -212,3 +207,47 @@ moveAndCount r = (r .move, r .count)
 unfoldable pub planList : List (ℕ × ℕ) → List ℕ
 planList [] = []
 planList ((move, count) ∷ rs) = replicate count move ++ planList rs
+
+-- ---- the wants of each layer, on the walk of `records` (`Theorems.Plans.Records.records-down`)
+
+-- n layers below the answer layer m: "Begin with the goal in m."
+unfoldable pub wantsBelow : Task → State → ℕ → ℕ → Wants
+wantsBelow k s m zero = wantBlock (layerAt k s m) s noWants (k .goal)
+wantsBelow k s m (suc n) = descend k (layerAt k s (m - suc n)) s (wantsBelow k s m n) .wants
+
+-- the wants of layer u, carried ones too, for an answer layer m not below it
+unfoldable pub wantsAt : Task → State → ℕ → ℕ → Wants
+wantsAt k s m u = wantsBelow k s m (m - u)
+
+-- ---- helpful moves; l is layer 0, w the wants of layer 1
+
+-- "whose effect reaches, by the test that Plan uses to take a move .., a target there that layer 0 did not"
+unfoldable pub reachesNew : Layer → Target → Effect → Bool
+reachesNew l free e = false
+reachesNew l (least z) e = not (reaches (l .val (e .var)) z) && achieves l z (some e)
+
+-- "adds a proposition first had and wanted at layer 1, or .."; where the move is usable, layer 1 has what it adds
+unfoldable pub supports : Layer → Wants → Item → Bool
+supports l w (need p) = false
+supports l w (add p) = w .props p && not (l .has p)
+supports l w (delete p) = false
+supports l w (condition c) = false
+supports l w (effect e) = reachesNew l (w .target (e .var)) e
+
+-- "each move usable in layer 0 that .."
+unfoldable pub helpful : Layer → Wants → Block → Bool
+helpful l w b = usable l b && any (supports l w) b
+
+-- "a 64-bit set .. bit b (of worth 2^b) for move b": the lowest bit for the first
+unfoldable pub setOf : (Block → Bool) → List Block → ℕ
+setOf f [] = 0
+setOf f (b ∷ bs) = cond (f b) 1 0 + 2 * setOf f bs
+
+-- is bit b of the set
+unfoldable pub bit : ℕ → ℕ → Bool
+bit n b = eqb ((n / 2 ^ b) % 2) 1
+
+-- the set for answer layer m; "With answer layer 0 .. it is empty."
+unfoldable pub helpfulMoves : Task → State → ℕ → ℕ
+helpfulMoves k s zero = 0
+helpfulMoves k s (suc m) = setOf (helpful (layerAt k s 0) (wantsAt k s (suc m) 1)) (k .moves)

@@ -31,7 +31,7 @@ pub enum DecideAnswer {
     Refused(Refusal),
 }
 
-// "plan adds the number of records and the first moves": of "no plan" both are 0.
+// "plan adds the number of records and the first moves", since request 6 of document 02 the helpful ones: of "no plan" both are 0.
 pub enum PlanAnswer {
     Plan {
         layer: u64,

@@ -1,27 +1,27 @@
 -- "From answer layer m down": the wants of each layer, the number of records, their bytes from the last one backwards, and the
--- first moves. Assumes nothing.
+-- helpful moves. Assumes nothing.
 use Prim.Native.Nat.{ℕ, zero, suc, _+_, _*_, _-_, _≤_, _<_}
 use native.Mathlib.Omega.{arith}
 use mathlib.Core.Path.{_≡_, refl, sym, ap, _∙_, subst}
-use mathlib.Core.List.{List, [], _∷_, _++_, append-nil, append-assoc}
-use borrow.Author.Tests.{eq-eqb, ne-eqb}
+use mathlib.Core.List.{List, [], _++_, append-nil, append-assoc}
 use lib.IntN.{ℤ, natAbs}
-use lib.ListN.{length, getD, replicate, length-append, getD-replicate}
+use lib.ListN.{length, length-append}
 use Rattle.integer.specs.Store.{put, put-nil, length-put}
-use Rattle.model.specs.Plan.{Target, free, least, Wants, Record, layerRecords, recordsFrom, records, firstMoves}
+use Rattle.model.specs.Task.{Task}
+use Rattle.model.specs.Move.{State}
+use Rattle.model.specs.Layer.{layerAt}
+use Rattle.model.specs.Plan.{Target, free, least, Wants, Record, layerRecords, recordsFrom, records, wantsAt, helpful, setOf, helpfulMoves}
 use Rattle.model.specs.Calls.{recordBytes}
-use Rattle.model.specs.Theorems.Reading.WellFormed.{All}
-use Rattle.model.specs.Theorems.Laws.Searching.{All-map}
-use Rattle.model.specs.Theorems.Plans.Records.{Entry, layer-entries, length-recordBytes}
+use Rattle.model.specs.Theorems.Plans.Records.{descentAt, wantsAt-answer, wantsAt-down, records-answer, records-down, length-recordBytes}
 use Rattle.model.specs.Theorems.Plans.Targets.{EachTarget}
 use Rattle.model.specs.Theorems.Sizes.Bounds.{Between, between-size}
 use Rattle.model.specs.Theorems.Sizes.Targets.{SmallWants}
-use Rattle.model.specs.Theorems.Sizes.Plans.{wantsAt, descentAt, wantsAt-answer, wantsAt-down, records-answer, records-down, targets-small, records-most}
+use Rattle.model.specs.Theorems.Sizes.Plans.{targets-small, records-most}
 use Rattle.block.specs.Sums.{Row}
 use Rattle.targets.specs.declared.Targets.{Targets}
-use Rattle.targets.specs.Encoding.{targetLimit, Encodes}
+use Rattle.targets.specs.Encoding.{SmallTarget, Encodes}
 use Rattle.taking.specs.Descending.{SmallTargets}
-use Rattle.stored_layer.specs.Stored.{stored-moves}
+use Rattle.helpful.specs.Sets.{LayerOne, HelpfulSet}
 use Rattle.descent.specs.Layers.{Stored, GoalWantable, GoalWanted, LayerDescendable, LayerDescended}
 use Rattle.records.specs.Records.{countAt, records-same, recordBytes-append, recordBytes-layer, records-layer-length, put-before}
 
@@ -31,7 +31,7 @@ use Rattle.records.specs.Records.{countAt, records-same, recordBytes-append, re
 pub small-targets : {w : Wants} → SmallWants 30_000_000_000_000 w → SmallTargets w
 small-targets {w} h = record { each = λ v. go (w .target v) (h .each .targets v) }
   where
-    go : (t : Target) → EachTarget (Between 9_000_000_000_000_000 30_000_000_000_000) t → EachTarget (λ (z : ℤ). natAbs z ≤ targetLimit) t
+    go : (t : Target) → EachTarget (Between 9_000_000_000_000_000 30_000_000_000_000) t → SmallTarget t
     go free i = tt
     go (least z) i = omega (arith, between-size 9_000_000_000_000_000 (omega arith) (omega arith) i)
 
@@ -48,6 +48,12 @@ pub record Begun (table marks : List ℕ) (layers start : List ℤ) (props vars 
   pub stored : Stored table marks layers props vars moves m
   pub row : Row (stored .task .vars) start (stored .start .val)
   pub walked : Walked stored m w
+
+-- the targets of a layer above 0 are small
+pub walk-small :
+    {table marks : List ℕ} {layers : List ℤ} {props vars moves m : ℕ} (x : Stored table marks layers props vars moves m) {t : ℕ} → t < m
+    → SmallTargets (wantsAt (x .task) (x .start) m (suc t))
+walk-small {m = m} x {t} h = small-targets (targets-small (x .memory .ok) (x .memory .small) m (x .memory .right) (x .memory .bounded) (suc t) h)
 
 module _ {table marks : List ℕ} {layers : List ℤ} {props vars moves m : ℕ} (x : Stored table marks layers props vars moves m) {start : List ℤ} (row : Row (x .task .vars) start (x .start .val)) where
   abbrev pub walk-goal : GoalWantable table marks layers start props vars moves m
@@ -70,7 +76,7 @@ module _ {table marks : List ℕ} {layers : List ℤ} {props vars moves m : ℕ}
           start-is = row;
           wants = wantsAt (x .task) (x .start) m (suc t);
           encoded = d .encoded;
-          small = small-targets (targets-small (x .memory .ok) (x .memory .small) m (x .memory .right) (x .memory .bounded) (suc t) h);
+          small = walk-small x h;
         }
 
     module _ {r : Targets} {counts : List ℕ} (e : LayerDescended walk-layer r counts) where
@@ -116,77 +122,77 @@ module _ {table marks : List ℕ} {layers : List ℤ} {props vars moves m : ℕ}
   split-next {t} {counts} later h c e =
       e ∙ ap (λ (rs : List Record). rs ++ later) (below-next h c) ∙ append-assoc (recordsBelow t) (layerRecords t (countAt counts) 0 moves) later
 
--- ---- first moves
+-- ---- the first pass: how many records, and the helpful moves
 
-firstMoves-append : (rs qs : List Record) → firstMoves (rs ++ qs) ≡ firstMoves rs + firstMoves qs
-unfolding firstMoves
-firstMoves-append [] qs = omega arith
-firstMoves-append (r ∷ rs) qs = omega (arith, firstMoves-append rs qs)
-
--- no record of a later layer is a first move
-later-firstMoves : (t : ℕ) (rs : List Record) → All (λ (r : Record). r .layer ≡ suc t) rs → firstMoves rs ≡ 0
-unfolding firstMoves
-later-firstMoves t [] a = refl
-later-firstMoves t (r ∷ rs) a = rw (ne-eqb (r .layer) 0 (λ e. omega (arith, a .0))) (omega (arith, later-firstMoves t rs (a .1)))
-
-layer-later : (t : ℕ) (f : ℕ → ℕ) (n : ℕ) → firstMoves (layerRecords (suc t) f 0 n) ≡ 0
-layer-later t f n =
-    later-firstMoves t (layerRecords (suc t) f 0 n)
-    (All-map {P = Entry (suc t) 0 (0 + n)} (layerRecords (suc t) f 0 n) (λ r e. e .layer) (layer-entries (suc t) f 0 n))
-
--- where nothing is counted there is no record
-layer-none : (t : ℕ) (f : ℕ → ℕ) (b n : ℕ) → ((c : ℕ) → c < b + n → f c ≡ 0) → layerRecords t f b n ≡ []
-unfolding layerRecords
-layer-none t f b zero h = refl
-layer-none t f b (suc n) h = rw (eq-eqb (f b) 0 (h b (omega arith)), layerRecords) (layer-none t f (suc b) n (λ c i. h c (omega arith)))
-
-pub none-counted : (t n : ℕ) {counts : List ℕ} → counts ≡ replicate {A = ℕ} 64 0 → n ≤ 64 → layerRecords t (countAt counts) 0 n ≡ []
-unfolding countAt
-none-counted t n {counts} e h =
-    layer-none t (countAt counts) 0 n (λ c i. ap (λ (l : List ℕ). getD l c 0) e ∙ getD-replicate {A = ℕ} 64 c 0 0 (omega arith))
-
--- ---- the first pass: how many records, and the first moves
-
-pub record Surveying {table marks : List ℕ} {layers : List ℤ} {props vars moves m : ℕ} (x : Stored table marks layers props vars moves m) (t : ℕ) (w : Targets) (counts : List ℕ) (n : ℕ) : Type 0 where
+pub record Surveying {table marks : List ℕ} {layers : List ℤ} {props vars moves m : ℕ} (x : Stored table marks layers props vars moves m) (t : ℕ) (w : Targets) (n : ℕ) : Type 0 where
   pub walked : Walked x t w
   pub total : length (planRecords x) ≡ length (recordsBelow x t) + n
-  pub firsts : firstMoves (planRecords x) ≡ firstMoves (recordsBelow x t) + firstMoves (layerRecords t (countAt counts) 0 moves)
 
-pub record Surveyed {table marks : List ℕ} {layers : List ℤ} {props vars moves m : ℕ} (x : Stored table marks layers props vars moves m) (n first : ℕ) : Type 0 where
+-- the set is known in layer 0
+pub record Gathered {table marks : List ℕ} {layers : List ℤ} {props vars moves m : ℕ} (x : Stored table marks layers props vars moves m) (t set : ℕ) : Type 0 where
+  pub is : t ≤ 0 → set ≡ helpfulMoves (x .task) (x .start) m
+
+pub record Surveyed {table marks : List ℕ} {layers : List ℤ} {props vars moves m : ℕ} (x : Stored table marks layers props vars moves m) (n set : ℕ) : Type 0 where
   pub total : n ≡ length (planRecords x)
-  pub firsts : first ≡ firstMoves (planRecords x)
+  pub helpful : set ≡ helpfulMoves (x .task) (x .start) m
+
+-- "With answer layer 0 .. it is empty."
+layer-none : (k : Task) (s : State) (m : ℕ) → m ≤ 0 → 0 ≡ helpfulMoves k s m
+unfolding helpfulMoves
+layer-none k s zero h = refl
+layer-none k s (suc m) h = absurd (omega arith)
+
+layer-some : (k : Task) (s : State) (m : ℕ) → 0 < m → setOf (helpful (layerAt k s 0) (wantsAt k s m 1)) (k .moves) ≡ helpfulMoves k s m
+unfolding helpfulMoves
+layer-some k s zero h = absurd (omega arith)
+layer-some k s (suc m) h = refl
 
 module _ {table marks : List ℕ} {layers : List ℤ} {props vars moves m : ℕ} (x : Stored table marks layers props vars moves m) where
-  pub survey-start : {w : Targets} {counts : List ℕ} → Walked x m w → counts ≡ replicate {A = ℕ} 64 0 → Surveying x m w counts 0
-  unfolding firstMoves
-  survey-start {w} {counts} walked e =
-      record {
-        walked = walked;
-        total = omega (arith, ap length (records-answer (x .task) (x .start) m));
-        firsts = omega (arith, ap firstMoves (records-answer (x .task) (x .start) m), ap firstMoves (none-counted m moves e (stored-moves (x .memory))));
-      }
+  pub survey-start : {w : Targets} → Walked x m w → Surveying x m w 0
+  survey-start walked = record { walked = walked; total = omega (arith, ap length (records-answer (x .task) (x .start) m)) }
 
-  module _ {t : ℕ} {w : Targets} {counts : List ℕ} {n : ℕ} (h : t < m) (s : Surveying x (suc t) w counts n) {u : Targets} {more : List ℕ} {c : ℕ} (walked : Walked x t u) (counted : Counted x t more) (is : c ≡ length (layerRecords 0 (countAt more) 0 moves)) where
+  pub gather-start : Gathered x m 0
+  gather-start = record { is = layer-none (x .task) (x .start) m }
+
+  module _ {t : ℕ} (h : t ≡ 1) (below : t ≤ m) {w : Targets} (d : Walked x t w) where
+    -- the wants of layer 1
+    abbrev pub walk-one : LayerOne table marks layers props moves w
+    walk-one =
+        record {
+          top = m;
+          vars = vars;
+          stored = x;
+          below = omega arith;
+          wants = wantsAt (x .task) (x .start) m 1;
+          encoded = subst (λ (i : ℕ). Walked x i w) h d .encoded;
+          small = walk-small x (omega arith);
+        }
+
+    pub gather-one : {set : ℕ} → HelpfulSet walk-one set → Gathered x (t - 1) set
+    gather-one e = record { is = λ zero-left. e .is ∙ layer-some (x .task) (x .start) m (omega arith) }
+
+  pub gather-later : {t set : ℕ} → 0 < t → (t ≡ 1 → ⊥) → Gathered x (t - 1) set
+  gather-later h n = record { is = λ zero-left. absurd (n (omega arith)) }
+
+  module _ {t : ℕ} {w : Targets} {n : ℕ} (h : t < m) (s : Surveying x (suc t) w n) {u : Targets} {more : List ℕ} {c : ℕ} (walked : Walked x t u) (counted : Counted x t more) (is : c ≡ length (layerRecords 0 (countAt more) 0 moves)) where
     here : List Record
     here = layerRecords t (countAt more) 0 moves
 
-    pub survey-next : Surveying x t u more (n + c)
+    pub survey-next : Surveying x t u (n + c)
     unfolding here
     survey-next =
-        let next = below-next x h counted in
         record {
           walked = walked;
-          total = omega (arith, s .total, ap length next, length-append (recordsBelow x t) here, records-layer-length t (countAt more) 0 moves);
-          firsts = omega (arith, s .firsts, ap firstMoves next, firstMoves-append (recordsBelow x t) here, layer-later t (countAt counts) moves);
+          total = omega (arith, s .total, ap length (below-next x h counted), length-append (recordsBelow x t) here, records-layer-length t (countAt more) 0 moves);
         }
 
-  pub survey-few : {t : ℕ} {w : Targets} {counts : List ℕ} {n : ℕ} → Surveying x t w counts n → n ≤ 204_864
+  pub survey-few : {t : ℕ} {w : Targets} {n : ℕ} → Surveying x t w n → n ≤ 204_864
   survey-few s = omega (arith, s .total, records-most (x .memory .ok) (x .start) m (x .memory .bounded))
 
-  pub survey-end : (t : ℕ) {w : Targets} {counts : List ℕ} {n first : ℕ} → t ≤ 0 → Surveying x t w counts n → first ≡ firstMoves (layerRecords 0 (countAt counts) 0 moves) → Surveyed x n first
-  unfolding recordsFrom firstMoves
-  survey-end zero h s e = record { total = omega (arith, s .total); firsts = omega (arith, s .firsts) }
-  survey-end (suc t) h s e = absurd (omega arith)
+  pub survey-end : (t : ℕ) {w : Targets} {n set : ℕ} → t ≤ 0 → Surveying x t w n → Gathered x t set → Surveyed x n set
+  unfolding recordsFrom
+  survey-end zero h s g = record { total = omega (arith, s .total); helpful = g .is h }
+  survey-end (suc t) h s g = absurd (omega arith)
 
 -- ---- the second pass: the records' bytes, from the last layer backwards
 
@@ -275,11 +281,11 @@ abbrev pub down : (t : ℕ) → 0 < t → t ≡ suc (t - 1)
 down t h = omega arith
 
 pub survey-down :
-    {table marks : List ℕ} {layers : List ℤ} {props vars moves m : ℕ} {x : Stored table marks layers props vars moves m} {t : ℕ} {w : Targets} {counts : List ℕ} {n : ℕ}
+    {table marks : List ℕ} {layers : List ℤ} {props vars moves m : ℕ} {x : Stored table marks layers props vars moves m} {t : ℕ} {w : Targets} {n : ℕ}
     → 0 < t
-    → Surveying x t w counts n
-    → Surveying x (suc (t - 1)) w counts n
-survey-down {x = x} {t = t} {w = w} {counts = counts} {n = n} h s = subst (λ (i : ℕ). Surveying x i w counts n) (down t h) s
+    → Surveying x t w n
+    → Surveying x (suc (t - 1)) w n
+survey-down {x = x} {t = t} {w = w} {n = n} h s = subst (λ (i : ℕ). Surveying x i w n) (down t h) s
 
 pub backwards-down :
     {table marks : List ℕ} {layers start : List ℤ} {props vars moves m : ℕ} {w₀ : Targets} {n : ℕ} {out : List ℕ} {x : Writable table marks layers start props vars moves m w₀ n out} {t : ℕ} {w : Targets} {at : ℕ} {new : List ℕ}

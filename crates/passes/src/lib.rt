@@ -1,4 +1,4 @@
-// The two passes from the answer layer down: the records counted and kept, and written (document 01, "Plan").
+// The two passes from the answer layer down: the records counted and kept, with the helpful moves, and written (document 01, "Plan").
 use records::RECORD_LEN;
 use targets::Targets;
 ghost use mathlib.Core.Path.{_≡_};
@@ -9,14 +9,14 @@ ghost use Rattle.records.specs.Records.{keptBytes};
 ghost use Rattle.passes.specs.Passes.{Begun, Surveyed, Writable, planRecords};
 ghost use Rattle.passes.specs.Keeping.{KeptWhole};
 
-// The number of records and the set of first moves.
+// The number of records and the set of helpful moves.
 pub struct Summary {
     pub records: usize,
-    pub first: u64,
+    pub helpful: u64,
 }
 
-// "From answer layer m down", whose wants are given: the number of records and the first moves, before a byte is written. If
-// there are `KEPT` records at most, they stand at the end of `kept`.
+// "From answer layer m down", whose wants are given: the number of records and the helpful moves, before a byte is written.
+// If there are `KEPT` records at most, they stand at the end of `kept`.
 pub fn survey(
     mut wants: Targets,
     table: &[u8],
@@ -30,12 +30,16 @@ pub fn survey(
     kept: &mut [u8],
 ) -> Summary
     requires { ⌜ (Begun (now table) (now marks) (now layers) (now start) props vars moves m wants) × (keptBytes ≡ length (now kept)) ⌝ }
-    ensures { λ r. ⌜ ((x : Begun (now (table .entry)) (now (marks .entry)) (now (layers .entry)) (now (start .entry)) props vars moves m wants) → (Surveyed (x .stored) (r .records) (r .first)) × KeptWhole (x .stored) (r .records) (now (kept .exit))) ⌝ }
+    ensures { λ r. ⌜ ((x : Begun (now (table .entry)) (now (marks .entry)) (now (layers .entry)) (now (start .entry)) props vars moves m wants) → (Surveyed (x .stored) (r .records) (r .helpful)) × KeptWhole (x .stored) (r .records) (now (kept .exit))) ⌝ }
 {
     let mut counts = taking::no_counts();
     let mut records = 0;
+    let mut helpful = 0;
     let mut t = m;
     while t > 0 {
+        if t == 1 {
+            helpful = helpful::helpful_moves(wants, table, marks, layers, props, moves);
+        }
         wants = descent::descend(
             wants,
             table,
@@ -52,8 +56,7 @@ pub fn survey(
         records += records::count_taken(&counts, moves);
         records::keep_records(kept, records, &counts, moves);
     }
-    let first = records::first_moves(&counts, moves);
-    Summary { records, first }
+    Summary { records, helpful }
 }
 
 // The records of a plan of more than `KEPT` records, from the last layer's backwards, again from the wants of the answer layer; the output has room

@@ -1,7 +1,6 @@
--- The records of one layer from the counts in an array: how many, their bytes, the set of their moves (document 01, "Plan").
+-- The records of one layer from the counts in an array: how many, and their bytes (document 01, "Plan").
 -- Assumes nothing.
-use Prim.Native.Nat.{ℕ, zero, suc, _+_, _*_, _-_, _^_, _≤_, _<_}
-use native.Mathlib.Nat.{pow-succ', pow-le-pow-right, mul-add, mul-assoc, mul-comm}
+use Prim.Native.Nat.{ℕ, zero, suc, _+_, _*_, _-_, _≤_, _<_}
 use native.Mathlib.Numerals.{add-one}
 use native.Mathlib.Omega.{arith}
 use mathlib.Core.Path.{_≡_, refl, sym, ap, ap₂, _∙_}
@@ -12,7 +11,7 @@ use lib.Dec.{eqb}
 use lib.ListN.{length, getD, set, take, drop, length-append}
 use Rattle.integer.specs.BigEndian.{bytes, length-bytes}
 use Rattle.integer.specs.Store.{put, put-nil, put-cons, put-append, take-put-before, drop-put-at, length-put}
-use Rattle.model.specs.Plan.{Record, layerRecords, firstMoves}
+use Rattle.model.specs.Plan.{Record, layerRecords}
 use Rattle.model.specs.Calls.{recordBytes}
 use Rattle.model.specs.Theorems.Plans.Records.{length-recordBytes}
 
@@ -194,68 +193,3 @@ keptBytes = 640
 -- rs are stored in front of the records at the end of the bytes, n in all with rs, if n fit
 pub record KeptBefore (kept : List ℕ) (n : ℕ) (rs : List Record) (after : List ℕ) : Type 0 where
   pub is : n ≤ keptRecords → after ≡ put kept (keptBytes - 10 * n) (recordBytes rs)
-
--- ---- the set of first moves
-
-unfoldable pub oneBit : ℕ → ℕ
-oneBit zero = 0
-oneBit (suc n) = 1
-
--- the moves from b on that are counted, the lowest bit for b
-unfoldable pub setFrom : (ℕ → ℕ) → ℕ → ℕ → ℕ
-setFrom f b zero = 0
-setFrom f b (suc n) = oneBit (f b) + 2 * setFrom f (suc b) n
-
-pub bit-none : (n : ℕ) → n ≡ 0 → 0 ≡ oneBit n
-unfolding oneBit
-bit-none n e = sym (ap oneBit e)
-
-pub bit-some : (n : ℕ) → (n ≡ 0 → ⊥) → 1 ≡ oneBit n
-unfolding oneBit
-bit-some zero h = absurd (h refl)
-bit-some (suc n) h = refl
-
-bit-small : (n : ℕ) → oneBit n ≤ 1
-unfolding oneBit
-bit-small zero = omega arith
-bit-small (suc n) = omega arith
-
-pub set-small : (f : ℕ → ℕ) (b n : ℕ) → setFrom f b n < 2 ^ n
-unfolding setFrom
-set-small f b zero = omega arith
-set-small f b (suc n) = omega (arith, set-small f (suc b) n, bit-small (f b))
-
-pub set-fits : (f : ℕ → ℕ) (b n : ℕ) → n ≤ 64 → setFrom f b n < 2 ^ 64
-set-fits f b n h = let wide : 2 ^ n ≤ 2 ^ 64 = pow-le-pow-right (omega arith) h in omega (arith, set-small f b n)
-
-pub set-none : (f : ℕ → ℕ) (n : ℕ) → 0 ≡ setFrom f n (n - n)
-unfolding setFrom
-set-none f n = let over : n - n ≡ 0 = omega arith in sym (ap (setFrom f n) over)
-
-pub set-step : (f : ℕ → ℕ) {n b x : ℕ} → suc b ≤ n → x ≡ setFrom f (suc b) (n - suc b) → oneBit (f b) + 2 * x ≡ setFrom f b (n - b)
-unfolding setFrom
-set-step f {n} {b} {x} h e =
-    let one-more : n - b ≡ suc (n - suc b) = omega arith in
-    ap (λ (i : ℕ). oneBit (f b) + 2 * i) e ∙ sym (ap (setFrom f b) one-more)
-
-pub set-firstMoves : (f : ℕ → ℕ) (b n : ℕ) → firstMoves (layerRecords 0 f b n) ≡ 2 ^ b * setFrom f b n
-unfolding layerRecords firstMoves setFrom oneRecord oneBit
-set-firstMoves f b zero = omega arith
-set-firstMoves f b (suc n) = go (f b) (set-firstMoves f (suc b) n)
-  where
-    double : (y : ℕ) → 2 ^ suc b * y ≡ 2 ^ b * (2 * y)
-    double y = ap (λ (i : ℕ). i * y) (pow-succ' 2 b ∙ mul-comm 2 (2 ^ b)) ∙ mul-assoc (2 ^ b) 2 y
-
-    go : (x : ℕ) → firstMoves (layerRecords 0 f (suc b) n) ≡ 2 ^ suc b * setFrom f (suc b) n → firstMoves (oneRecord 0 b x (layerRecords 0 f (suc b) n)) ≡ 2 ^ b * (oneBit x + 2 * setFrom f (suc b) n)
-    go zero e = omega (arith, e, double (setFrom f (suc b) n))
-    go (suc x) e = rw (one-some 0 b x) (omega (arith, e, double (setFrom f (suc b) n), mul-add (2 ^ b) 1 (2 * setFrom f (suc b) n)))
-
-pub set-down : (f : ℕ → ℕ) {n x : ℕ} (b : ℕ) → 0 < b → b ≤ n → x ≡ setFrom f b (n - b) → oneBit (f (b - 1)) + 2 * x ≡ setFrom f (b - 1) (n - (b - 1))
-set-down f {n} {x} zero p h e = absurd (omega arith)
-set-down f {n} {x} (suc b) p h e = let less : suc b - 1 ≡ b = omega arith in rw less (set-step f h e)
-
-pub set-all : (f : ℕ → ℕ) (n : ℕ) {x : ℕ} (b : ℕ) → b ≤ 0 → x ≡ setFrom f b (n - b) → x ≡ firstMoves (layerRecords 0 f 0 n)
-set-all f n {x} zero h e =
-    let whole : n - 0 ≡ n = omega arith in
-    omega (arith, e, ap (setFrom f 0) whole, set-firstMoves f 0 n)
-set-all f n {x} (suc b) h e = absurd (omega arith)

@@ -1,11 +1,11 @@
-// The records of one layer from its moves' counts: how many, their bytes, the set of their moves (document 01, "Plan").
+// The records of one layer from its moves' counts: how many, and their bytes (document 01, "Plan").
 ghost use mathlib.Core.Path.{_≡_};
 ghost use Prim.Native.Nat.{_+_, _*_, _<_, _≤_};
 ghost use lib.ListN.{length};
-ghost use Rattle.model.specs.Plan.{layerRecords, firstMoves};
+ghost use Rattle.model.specs.Plan.{layerRecords};
 ghost use Rattle.model.specs.Calls.{recordBytes};
 ghost use Rattle.integer.specs.Store.{put};
-ghost use Rattle.records.specs.Records.{countAt, oneBit, oneBytes, keptBytes, KeptBefore};
+ghost use Rattle.records.specs.Records.{countAt, oneBytes, keptBytes, KeptBefore};
 
 // The bytes of a record.
 pub const RECORD_LEN: usize = 10;
@@ -32,31 +32,6 @@ pub fn count_taken(counts: &[u64], moves: usize) -> usize
         n += 1;
     }
     n
-}
-
-// Is the move of this count taken? 1 or 0.
-fn taken_bit(n: u64) -> u64
-    ensures { λ r. ⌜ (r ≡ oneBit n) × (r ≤ 1) ⌝ }
-{
-    if n == 0 {
-        return 0;
-    }
-    1
-}
-
-// "bit b (of worth 2^b) for move b": the moves whose count is not 0.
-pub fn first_moves(counts: &[u64], moves: usize) -> u64
-    requires { ⌜ (moves ≤ length (now counts)) × (moves ≤ 64) ⌝ }
-    ensures { λ r. ⌜ r ≡ firstMoves (layerRecords 0 (countAt (now (counts .entry))) 0 moves) ⌝ }
-{
-    let mut x: u64 = 0;
-    let mut b = moves;
-    while b > 0 {
-        b -= 1;
-        let n = counts[b];
-        x = taken_bit(n) + 2 * x;
-    }
-    x
 }
 
 // "Record: 52, move (1 byte), count (8 bytes)".

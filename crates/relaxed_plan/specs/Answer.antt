@@ -15,7 +15,7 @@ use Rattle.model.specs.Task.{normal, Task}
 use Rattle.model.specs.Move.{State, moveAt}
 use Rattle.model.specs.Layer.{reached, exhausted, reported}
 use Rattle.model.specs.Memory.{overwrite, Built, answered, stopped}
-use Rattle.model.specs.Plan.{Record, firstMoves}
+use Rattle.model.specs.Plan.{records, helpfulMoves}
 use Rattle.model.specs.Calls.{writes, fitted, outputAfter, Ready, ready, unready, prepared, memoryOf, decideMemory, recordBytes, planRecords, planned, planFitted, planOf, planAnswer, planMemory, planOutOf, planOut, Output}
 use Rattle.model.specs.Theorems.Plans.Records.{length-recordBytes}
 use Rattle.model.specs.Theorems.Campaigns.Demand3.{planLayers}
@@ -33,7 +33,6 @@ use Rattle.layers.specs.Preparing.{ReadyIn}
 use Rattle.layers.specs.Leaving.{built-layers}
 use Rattle.achievers.specs.Search.{Parts}
 use Rattle.descent.specs.Layers.{Stored}
-use Rattle.passes.specs.Passes.{planRecords as storedRecords}
 
 -- ---- what building leaves
 
@@ -81,14 +80,14 @@ planned-refused t bs mem out e =
 module _ (t bs : List ℕ) (mem mem′ : List ℤ) (out : List ℕ) {k : Task} {s : State} {b : BuiltAnswer} (e : prepared paper t bs ≡ ready k s) (built : IsBuilt k s mem mem′ b) where
   pub planned-built :
       {out′ : List ℕ} {r : PlanAnswer}
-      → r ≡ planFitted (length out) (planRecords k s (builtOf b)) (builtOf b)
+      → r ≡ planFitted (length out) k s (builtOf b)
       → out′ ≡ outputAfter (fitted (length out) (writes (recordBytes (planRecords k s (builtOf b))))) out
       → Planned t bs mem mem′ out out′ r
   unfolding planAnswer planOf planMemory decideMemory memoryOf planOut planOutOf
   planned-built f g =
       record {
         answers =
-            f ∙ ap (λ (x : Built). planFitted (length out) (planRecords k s x) x) (built .ended)
+            f ∙ ap (planFitted (length out) k s) (built .ended)
             ∙ sym (ap (planOf paper (length mem) (length out)) e);
         leaves = built .memory ∙ sym (ap (λ (x : Ready). memoryOf paper x mem) e);
         writes-is =
@@ -97,54 +96,57 @@ module _ (t bs : List ℕ) (mem mem′ : List ℤ) (out : List ℕ) {k : Task} {
       }
 
 -- no records
-none-fit : (n : ℕ) (b : Built) → planFitted n [] b ≡ planned [] b
+none-fit : (n : ℕ) (k : Task) (s : State) (b : Built) → planRecords k s b ≡ [] → planFitted n k s b ≡ planned k s b
 unfolding recordBytes
-none-fit n b = plan-whole n [] b (omega arith)
+none-fit n k s b none = plan-whole n k s b (rw none (omega arith))
 
 none-out : (out : List ℕ) → out ≡ outputAfter (fitted (length out) (writes (recordBytes []))) out
 unfolding recordBytes fitted outputAfter overwrite
 none-out out = rw (le-ltb (length out) 0 (omega arith), fitted) refl
 
 module _ (t bs : List ℕ) (mem mem′ : List ℤ) (out : List ℕ) {k : Task} {s : State} (e : prepared paper t bs ≡ ready k s) where
-  -- "No plan" is no refusal: it writes no plan bytes and its set of first moves is empty.
+  -- "No plan" is no refusal: it writes no plan bytes and its set of helpful moves is empty.
   pub planned-exhausted : {m : ℕ} → IsBuilt k s mem mem′ (building.Exhausted m) → Planned t bs mem mem′ out out (plan.NoPlan m 0 0)
   unfolding builtOf planRecords planned
   planned-exhausted {m} built =
-      planned-built t bs mem mem′ out e built (sym (none-fit (length out) (answered (exhausted m)))) (none-out out)
+      planned-built t bs mem mem′ out e built (sym (none-fit (length out) k s (answered (exhausted m)) refl)) (none-out out)
 
   pub planned-stopped : {n m : ℕ} → IsBuilt k s mem mem′ (building.Stopped n m) → Planned t bs mem mem′ out out (plan.Refused (record { number = n; place = m }))
   unfolding builtOf planRecords planned
-  planned-stopped {n} {m} built = planned-built t bs mem mem′ out e built (sym (none-fit (length out) (stopped n m))) (none-out out)
+  planned-stopped {n} {m} built = planned-built t bs mem mem′ out e built (sym (none-fit (length out) k s (stopped n m) refl)) (none-out out)
 
 -- ---- the records of an answer layer
 
-pub record Extracted (rs : List Record) (m : ℕ) (out out′ : List ℕ) (r : PlanAnswer) : Type 0 where
-  pub answers : r ≡ planFitted (length out) rs (answered (reached m))
-  pub writes-is : out′ ≡ outputAfter (fitted (length out) (writes (recordBytes rs))) out
+pub record Extracted (k : Task) (s : State) (m : ℕ) (out out′ : List ℕ) (r : PlanAnswer) : Type 0 where
+  pub answers : r ≡ planFitted (length out) k s (answered (reached m))
+  pub writes-is : out′ ≡ outputAfter (fitted (length out) (writes (recordBytes (records k s m)))) out
 
-module _ (rs : List Record) (m : ℕ) (out : List ℕ) {n first : ℕ} (total : n ≡ length rs) (firsts : first ≡ firstMoves rs) where
+module _ (k : Task) (s : State) (m : ℕ) (out : List ℕ) {n set : ℕ} (total : n ≡ length (records k s m)) (helpful : set ≡ helpfulMoves k s m) where
+  abbrev bytes : List ℕ
+  bytes = recordBytes (records k s m)
+
   -- "13 | output shorter than the result | 0"
-  pub extracted-short : length out < 10 * n → Extracted rs m out out (plan.Refused (record { number = 13; place = 0 }))
-  unfolding outputAfter
+  pub extracted-short : length out < 10 * n → Extracted k s m out out (plan.Refused (record { number = 13; place = 0 }))
+  unfolding outputAfter planRecords
   extracted-short h =
-      let short : length out < length (recordBytes rs) = omega (arith, length-recordBytes rs) in
+      let short : length out < length bytes = omega (arith, length-recordBytes (records k s m)) in
       record {
-        answers = sym (plan-short (length out) rs (answered (reached m)) short);
-        writes-is = sym (ap (λ (o : Output). outputAfter o out) (fitted-short (length out) (recordBytes rs) short));
+        answers = sym (plan-short (length out) k s (answered (reached m)) short);
+        writes-is = sym (ap (λ (o : Output). outputAfter o out) (fitted-short (length out) bytes short));
       }
 
-  pub extracted-written : {out′ : List ℕ} → 10 * n ≤ length out → out′ ≡ put out 0 (recordBytes rs) → Extracted rs m out out′ (plan.Plan m m n first)
-  unfolding outputAfter planned
+  pub extracted-written : {out′ : List ℕ} → 10 * n ≤ length out → out′ ≡ put out 0 bytes → Extracted k s m out out′ (plan.Plan m m n set)
+  unfolding outputAfter planned planRecords
   extracted-written h e =
-      let fits : length (recordBytes rs) ≤ length out = omega (arith, length-recordBytes rs) in
+      let fits : length bytes ≤ length out = omega (arith, length-recordBytes (records k s m)) in
       record {
-        answers = rw (total, firsts) (sym (plan-whole (length out) rs (answered (reached m)) fits));
+        answers = rw (total, helpful) (sym (plan-whole (length out) k s (answered (reached m)) fits));
         writes-is =
-            e ∙ put-first out (recordBytes rs)
-            ∙ sym (ap (λ (o : Output). outputAfter o out) (fitted-whole (length out) (recordBytes rs) fits));
+            e ∙ put-first out bytes
+            ∙ sym (ap (λ (o : Output). outputAfter o out) (fitted-whole (length out) bytes fits));
       }
 
 module _ {t bs marks : List ℕ} {props vars moves m : ℕ} {mem mem′ : List ℤ} (out : List ℕ) (r : ReadyIn t bs marks props vars moves) (b : IsBuilt (r .task) (startOf props bs) mem mem′ (building.Reached m)) where
-  pub planned-reached : {out′ : List ℕ} {a : PlanAnswer} → Extracted (storedRecords (built-stored r b)) m out out′ a → Planned t bs mem mem′ out out′ a
+  pub planned-reached : {out′ : List ℕ} {a : PlanAnswer} → Extracted (built-stored r b .task) (built-stored r b .start) m out out′ a → Planned t bs mem mem′ out out′ a
   unfolding builtOf planRecords built-stored
   planned-reached x = planned-built t bs mem mem′ out (r .is) b (x .answers) (x .writes-is)

@@ -12,7 +12,6 @@ ghost use Rattle.model.specs.Calls.{planAnswer, planMemory, planOut};
 ghost use Rattle.model.specs.Theorems.Campaigns.Demand3.{planLayers};
 ghost use Rattle.model.specs.Theorems.Campaigns.EndToEnd.{LayersWithin};
 ghost use Rattle.descent.specs.Layers.{Stored};
-ghost use Rattle.passes.specs.Passes.{planRecords};
 ghost use Rattle.relaxed_plan.specs.Answer.{Extracted};
 
 // The plan of a stored answer layer `m`: "13 | output shorter than the result" is known before a byte is written. Records that were
@@ -29,7 +28,7 @@ fn extract(
 ) -> PlanAnswer
     requires { ⌜ Stored (now table) (now marks) (now layers) props vars moves m ⌝ }
     ensures { λ r. ⌜ ((x : Stored (now (table .entry)) (now (marks .entry)) (now (layers .entry)) props vars moves m)
-        → Extracted (planRecords x) m (now (out .entry)) (now (out .exit)) r) ⌝ }
+        → Extracted (x .task) (x .start) m (now (out .entry)) (now (out .exit)) r) ⌝ }
 {
     let mut start = [0; 32];
     stored_layer::read_row(layers, props + moves, vars, &mut start);
@@ -48,7 +47,7 @@ fn extract(
         &mut kept,
     );
     let records = summary.records;
-    let first = summary.first;
+    let helpful = summary.helpful;
     if out.len() < RECORD_LEN * records {
         return PlanAnswer::Refused(Refusal {
             number: 13,
@@ -76,11 +75,12 @@ fn extract(
         layer: m as u64,
         layers: m as u64,
         records: records as u64,
-        first_moves: first,
+        first_moves: helpful,
     }
 }
 
-// "plan adds the number of records and the first moves"; the reported layers are at most (A + N + 1) × (N + 1).
+// "plan adds the number of records and the first moves", which are the helpful ones (document 02, request 6). The reported layers
+// are at most (A + N + 1) × (N + 1).
 pub fn plan(table: &[u8], state: &[u8], layers: &mut [i64], out: &mut [u8]) -> PlanAnswer
     ensures { λ r. ⌜ (r ≡ planAnswer paper (now (table .entry)) (now (state .entry)) (now (layers .entry)) (now (out .entry)))
         × (now (layers .exit) ≡ planMemory paper (now (table .entry)) (now (state .entry)) (now (layers .entry)))

@@ -85,12 +85,14 @@ planned-encodable t bs = go (prepared paper t bs) (prepared-is t bs)
 
 -- ---- what plan writes begins with the bytes of the records that it answers
 
-lists-built : (rs : List Record) → All Encodable rs → (old : List ℕ) (b : Built) → Lists (planned rs b) (overwrite (recordBytes rs) old) rs
-unfolding planned overwrite
-lists-built rs small old (answered (reached m)) =
-    record { many = refl; behind = drop (length (recordBytes rs)) old; is = refl; small = small }
-lists-built rs small old (answered (exhausted m)) = tt
-lists-built rs small old (stopped n m) = tt
+lists-built :
+    (k : Task) (s : State) (old : List ℕ) (b : Built) → All Encodable (planRecords k s b)
+    → Lists (planned k s b) (overwrite (recordBytes (planRecords k s b)) old) (planRecords k s b)
+unfolding planned planRecords overwrite
+lists-built k s old (answered (reached m)) small =
+    record { many = refl; behind = drop (length (recordBytes (records k s m))) old; is = refl; small = small }
+lists-built k s old (answered (exhausted m)) small = tt
+lists-built k s old (stopped n m) small = tt
 
 lists-ready :
     (q : Ready) (old : List ℕ)
@@ -103,24 +105,23 @@ lists-ready (ready k s) old e small =
     let rs = planRecords k s b in
     rw e
     (fitted-cases listingBytes (recordBytes rs)
-    (λ (o : Output). Lists (onOutput o (λ bs. planned rs b) (λ r. plan.Refused r)) (outputAfter o old) rs)
-    (λ whole. lists-built rs small old b) (λ short. tt))
+    (λ (o : Output). Lists (onOutput o (λ bs. planned k s b) (λ r. plan.Refused r)) (outputAfter o old) rs)
+    (λ whole. lists-built k s old b small) (λ short. tt))
 lists-ready (unready r) old e small = tt
 
 -- an answered plan has no more records than fit the output
-few-built : (rs : List Record) (b : Built) → recordCount (planned rs b) ≤ length rs
-unfolding recordCount planned
-few-built rs (answered (reached m)) = omega arith
-few-built rs (answered (exhausted m)) = omega arith
-few-built rs (stopped n m) = omega arith
+few-built : (k : Task) (s : State) (b : Built) → recordCount (planned k s b) ≤ length (planRecords k s b)
+unfolding recordCount planned planRecords
+few-built k s (answered (reached m)) = omega arith
+few-built k s (answered (exhausted m)) = omega arith
+few-built k s (stopped n m) = omega arith
 
 few-ready : (q : Ready) (size room : ℕ) → 10 * recordCount (planOf paper size room q) ≤ room
 unfolding planOf recordCount
 few-ready (ready k s) size room =
     let b = build paper k s size in
-    let rs = planRecords k s b in
-    plan-cases room rs b (λ (a : PlanAnswer). 10 * recordCount a ≤ room)
-    (λ whole. omega (arith, few-built rs b, length-recordBytes rs)) (omega arith)
+    plan-cases room k s b (λ (a : PlanAnswer). 10 * recordCount a ≤ room)
+    (λ whole. omega (arith, few-built k s b, length-recordBytes (planRecords k s b))) (omega arith)
 few-ready (unready r) size room = omega arith
 
 text-ready : (q : Ready) → answerText (planOf paper listingLayers listingBytes q) (plannedRecords q) ≡ readyText paper q

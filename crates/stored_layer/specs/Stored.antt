@@ -52,18 +52,22 @@ module _ {k : Task} {s : State} {props vars moves m steps : ℕ} {layers : List 
         {has : List Bool} → Filled false (heldAt layers 0 t) props 120 has → (p : ℕ) → p < k .props → getD has p false ≡ layerAt k s t .has p
     stored-has read p i = read .done p (omega (arith, x .props-is)) ∙ view-has (x .ok) (x .held) (omega arith) p i
 
+    -- a row of the numbers that stand in layer t's place
+    pub stored-values : {row : List ℤ} → vars ≤ length row → ((v : ℕ) → v < vars → getD row v (pos 0) ≡ numberAt layers (props + moves + vars * t) v) → LayerRow (k .vars) row (layerAt k s t .val)
+    stored-values long same =
+        view-row (x .ok) (x .held) (omega arith) (layer-small k s t (x .small) (x .right t h))
+        (omega (arith, x .vars-is))
+        (λ v i. same v (omega (arith, x .vars-is)) ∙ place v)
+      where
+        place : (v : ℕ) → numberAt layers (props + moves + vars * t) v ≡ numberAt layers (k .props + length (k .moves) + k .vars * t) v
+        place v =
+            ap (λ (i : ℕ). numberAt layers (i + moves + vars * t) v) (sym (x .props-is))
+            ∙ ap (λ (i : ℕ). numberAt layers (k .props + i + vars * t) v) (sym (x .moves-is))
+            ∙ ap (λ (i : ℕ). numberAt layers (k .props + length (k .moves) + i * t) v) (sym (x .vars-is))
+
     module _ {row : List ℤ} (read : Filled (pos 0) (numberAt layers (props + moves + vars * t)) vars 32 row) where
       pub stored-row : LayerRow (k .vars) row (layerAt k s t .val)
-      stored-row =
-          view-row (x .ok) (x .held) (omega arith) (layer-small k s t (x .small) (x .right t h))
-          (omega (arith, read .long, stored-vars, x .vars-is))
-          (λ v i. read .done v (omega (arith, x .vars-is)) ∙ place v)
-        where
-          place : (v : ℕ) → numberAt layers (props + moves + vars * t) v ≡ numberAt layers (k .props + length (k .moves) + k .vars * t) v
-          place v =
-              ap (λ (i : ℕ). numberAt layers (i + moves + vars * t) v) (sym (x .props-is))
-              ∙ ap (λ (i : ℕ). numberAt layers (k .props + i + vars * t) v) (sym (x .moves-is))
-              ∙ ap (λ (i : ℕ). numberAt layers (k .props + length (k .moves) + i * t) v) (sym (x .vars-is))
+      stored-row = stored-values (omega (arith, read .long, stored-vars)) (read .done)
 
       pub stored-low : {start lows : List ℤ} → Row (k .vars) start (s .val) → Filled (pos 0) (lowAt row start) vars 32 lows → Row (k .vars) lows (low (layerAt k s t) s)
       stored-low b filled =

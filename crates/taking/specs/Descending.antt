@@ -18,7 +18,7 @@ use Rattle.model.specs.Plan.{least, Wants, low, Descent, carried, carriedDown, 
 use Rattle.model.specs.Theorems.Plans.Targets.{EachTarget}
 use Rattle.block.specs.Sums.{Row, LayerRow}
 use Rattle.targets.specs.declared.Targets.{Targets}
-use Rattle.targets.specs.Encoding.{code, targetLimit, Encodes, isFree, free-yes, free-no}
+use Rattle.targets.specs.Encoding.{code, targetLimit, SmallTarget, Encodes, isFree, free-yes, free-no}
 use Rattle.achievers.specs.Search.{Searchable}
 use Rattle.taking.specs.Taking.{EncodesTaken, Takeable, AdderTaken, AchieverTaken}
 
@@ -94,7 +94,7 @@ module _ {table marks : List ℕ} {has used : List Bool} {row lows : List ℤ} {
 
 -- every target is small
 pub record SmallTargets (w : Wants) : Type 0 where
-  pub each : (v : ℕ) → EachTarget (λ (z : ℤ). natAbs z ≤ targetLimit) (w .target v)
+  pub each : (v : ℕ) → SmallTarget (w .target v)
 
 -- the state's values, the targets above, and what is taken for the propositions, beside
 pub record ValuesTakeable (table marks : List ℕ) (used : List Bool) (row lows start : List ℤ) (moves vars : ℕ) (targets : List ℤ) (t : Targets) (counts : List ℕ) : Type 0 where
@@ -138,7 +138,7 @@ module _ {table marks : List ℕ} {used : List Bool} {row lows start : List ℤ}
       least-is = free-no (x .scene .wants .target v) target-is f
 
       pub target-size : natAbs (getD targets v (pos 0)) ≤ targetLimit
-      target-size = subst (EachTarget (λ (z : ℤ). natAbs z ≤ targetLimit)) least-is (x .small .each v)
+      target-size = subst SmallTarget least-is (x .small .each v)
 
     pub value-is : {t : Bool} (z : ℤ) → ((w : Value) → getD row v (pos 0) ≡ encode w → t ≡ reaches w z) → reaches (x .scene .search .over .val v) z ≡ t
     value-is z q = sym (q (x .scene .search .over .val v) (x .scene .values .each v (omega (arith, x .many)) .is))

@@ -32,6 +32,9 @@ fresh = record { props = replicate 120 false; target = replicate 32 lowest }
 abbrev pub targetLimit : ℕ
 targetLimit = 10_000_000_000_000_000
 
+abbrev pub SmallTarget : Target → Type 0
+SmallTarget = EachTarget (λ (z : ℤ). natAbs z ≤ targetLimit)
+
 -- these propositions and these targets
 abbrev pub holding : List Bool → List ℤ → Targets
 holding ps ts = record { props = ps; target = ts }
@@ -135,7 +138,7 @@ module _ {props vars : ℕ} {t r : Targets} {w : Wants} (e : Encodes props vars 
 unfoldable pub isFree : ℤ → Bool
 isFree z = leZ z lowest
 
-pub free-yes : (t : Target) {z : ℤ} → z ≡ code t → EachTarget (λ (y : ℤ). natAbs y ≤ targetLimit) t → isFree z ≡ true → t ≡ free
+pub free-yes : (t : Target) {z : ℤ} → z ≡ code t → SmallTarget t → isFree z ≡ true → t ≡ free
 unfolding isFree code
 free-yes free e s h = refl
 free-yes (least y) {z} e s h = absurd (omega (zlin, natAbs-split y, e, le-true z lowest h))

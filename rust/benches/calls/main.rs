@@ -6,6 +6,7 @@
 mod bench;
 mod blocking;
 mod comparisons;
+mod helpful;
 mod rewrite;
 mod timing;
 
@@ -94,6 +95,10 @@ fn calls_table(mut written: Vec<Bench>) {
         row("decide", &mut bench, Bench::decide);
         row("plan", &mut bench, Bench::plan);
         row("blocking", &mut bench, Bench::blocking);
+    }
+    for mut bench in helpful::campaigns() {
+        row("decide", &mut bench, Bench::decide);
+        row("plan", &mut bench, Bench::plan);
     }
     for mut bench in blocking::campaigns() {
         row("decide", &mut bench, Bench::decide);

@@ -1,12 +1,13 @@
 //! The files of recorded outcomes under `tests/data/`, and how many outcomes each has: the newest of
-//! a call, those of the calls of document 01, and those by hand on comparisons, on weight 0 and on
-//! moves that do nothing.
+//! a call, those of the calls of document 01, those from before plan's set held helpful moves, and
+//! those by hand on comparisons, on weight 0, on moves that do nothing and on helpful moves.
 
 pub type Records = &'static [(&'static str, usize)];
 
 pub const READ: Records = &[
     ("read.txt", 160),
-    ("base/read.txt", 404),
+    ("base/read.txt", 403),
+    ("before-helpful/base/read.txt", 404),
     ("comparisons/read.txt", 4),
     ("weights/read.txt", 5),
 ];
@@ -14,31 +15,49 @@ pub const READ: Records = &[
 pub const BLOCK: Records = &[
     ("block.txt", 139),
     ("base/block.txt", 200),
+    ("before-helpful/base/block.txt", 200),
     ("comparisons/block.txt", 4),
     ("idle-moves/block.txt", 16),
 ];
 
 pub const NORMALISE: Records = &[
     ("normalise.txt", 78),
-    ("base/normalise.txt", 274),
+    ("base/normalise.txt", 273),
+    ("before-helpful/base/normalise.txt", 274),
     ("comparisons/normalise.txt", 4),
     ("weights/normalise.txt", 5),
 ];
 
 pub const STEP: Records = &[
     ("step.txt", 154),
-    ("base/step.txt", 355),
+    ("base/step.txt", 343),
+    ("before-helpful/base/step.txt", 355),
     ("comparisons/step.txt", 5),
     ("weights/step.txt", 5),
 ];
 
-pub const DECIDE: Records = &[("decide.txt", 70), ("base/decide.txt", 340)];
+pub const DECIDE: Records = &[
+    ("decide.txt", 141),
+    ("base/decide.txt", 319),
+    ("before-helpful/decide.txt", 70),
+    ("before-helpful/base/decide.txt", 340),
+];
 
-pub const PLAN: Records = &[("plan.txt", 51), ("base/plan.txt", 468)];
+pub const PLAN: Records = &[
+    ("plan.txt", 141),
+    ("base/plan.txt", 448),
+    ("before-helpful/plan.txt", 51),
+    ("before-helpful/base/plan.txt", 447),
+    ("helpful/plan.txt", 39),
+];
+
+/// Plans whose set has grown since: it holds the moves taken at layer 0 only. All else still holds.
+pub const GROWN_SETS: (&str, usize) = ("before-helpful/grown.txt", 21);
 
 pub const CAMPAIGN: Records = &[
     ("campaign.txt", 50),
     ("comparisons/campaign.txt", 4),
+    ("helpful/campaign.txt", 39),
     ("idle-moves/campaign.txt", 4),
 ];
 
@@ -58,7 +77,8 @@ pub const REWRITE: Records = &[
 
 pub const LISTING: Records = &[
     ("listing.txt", 125),
-    ("base/listing.txt", 274),
+    ("base/listing.txt", 270),
+    ("before-helpful/base/listing.txt", 274),
     ("comparisons/listing.txt", 4),
     ("weights/listing.txt", 5),
 ];

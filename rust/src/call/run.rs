@@ -66,6 +66,13 @@ pub struct Outcome {
     buffers: Buffers,
 }
 
+impl Outcome {
+    /// What the layer memory holds.
+    pub fn layers(&self) -> &[i64] {
+        self.buffers.layers.as_ref().map_or(&[], Guarded::lent)
+    }
+}
+
 /// The answer, and the whole of every output.
 impl Display for Outcome {
     fn fmt(&self, f: &mut fmt::Formatter<'_>) -> fmt::Result {

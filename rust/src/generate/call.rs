@@ -3,6 +3,7 @@
 use super::blocked::blocked;
 use super::damage::{command_string, misname_comparison, random_bytes, spoil, wrong_state};
 use super::grid::long_sum;
+use super::helpful::helpful;
 use super::maker::task;
 use super::rng::Rng;
 use super::scale::state_for;
@@ -58,6 +59,13 @@ pub fn call(rng: &mut Rng) -> Call {
 pub fn campaign_call(rng: &mut Rng) -> Call {
     let task = any_task(rng, Kind::Written);
     campaign_of(rng, &task)
+}
+
+/// A `plan` of a table that is mostly accepted, with memory and output that are mostly enough.
+pub fn plan_call(rng: &mut Rng) -> Call {
+    let task = any_task(rng, Kind::Normal);
+    let (numbers, room) = planning_sizes(rng, &task);
+    task.plan(numbers, room)
 }
 
 /// A `pddl` of a table that is mostly accepted, with an output that is mostly enough.
@@ -127,6 +135,9 @@ fn any_task(rng: &mut Rng, kind: Kind) -> Task {
     };
     if kind == Kind::Normal && rng.chance(1, 2) {
         task = normalised(task);
+    }
+    if rng.chance(1, 3) {
+        task = helpful(rng, &task);
     }
     if rng.chance(1, 12) {
         task = stored(rng, &task);

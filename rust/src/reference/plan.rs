@@ -1,8 +1,9 @@
-//! The plan read off the layers, from the answer layer down.
+//! The plan read off the layers, from the answer layer down, and its helpful moves.
 
 use super::layers::{Layer, Value};
 use super::table::{Block, Change, Effect, Table, Term};
 use std::collections::BTreeMap;
+use std::mem;
 
 /// A move and how many times in a row it runs.
 #[derive(Clone, Copy, Debug, PartialEq, Eq)]
@@ -22,13 +23,15 @@ impl Record {
 /// The moves taken at one layer, rising, with their counts.
 type Taken = BTreeMap<usize, u64>;
 
-/// The records of the plan and the set of moves taken at layer 0.
+/// The records of the plan and the set of its helpful moves.
 pub fn extract(table: &Table, layers: &[Layer]) -> (Vec<Record>, u64) {
-    let taken = taken_moves(table, layers);
-    let first = taken
-        .first()
-        .map_or(0, |moves| moves.keys().fold(0, |set, b| set | 1 << b));
-    let records = taken
+    let walk = Walk::down(table, layers);
+    let helpful = match &walk.wanted_at_1 {
+        Some(wants) => helpful_moves(table, &layers[0], wants),
+        None => 0,
+    };
+    let records = walk
+        .taken
         .iter()
         .flatten()
         .map(|(mv, count)| Record {
@@ -36,24 +39,69 @@ pub fn extract(table: &Table, layers: &[Layer]) -> (Vec<Record>, u64) {
             count: *count,
         })
         .collect();
-    (records, first)
+    (records, helpful)
 }
 
-/// What is taken at each layer below the answer layer.
-fn taken_moves(table: &Table, layers: &[Layer]) -> Vec<Taken> {
-    let start = &layers[0];
-    let answer = layers.len() - 1;
-    let mut wants = Wants::none(table);
-    wants.want_conditions(&table.goal, &layers[answer], start);
-    let mut taken = Vec::new();
-    for below in layers[..answer].iter().rev() {
-        let mut descent = Descent::new(table, start, below);
-        descent.pass(&wants);
-        wants = descent.wants;
-        taken.push(descent.taken);
+/// The way from the answer layer down to layer 0.
+struct Walk {
+    /// What is taken at each layer below the answer layer.
+    taken: Vec<Taken>,
+    /// What is wanted at layer 1, none if the answer layer is 0.
+    wanted_at_1: Option<Wants>,
+}
+
+impl Walk {
+    fn down(table: &Table, layers: &[Layer]) -> Walk {
+        let start = &layers[0];
+        let answer = layers.len() - 1;
+        let mut wants = Wants::none(table);
+        wants.want_conditions(&table.goal, &layers[answer], start);
+        let (mut taken, mut wanted_above) = (Vec::new(), None);
+        for below in layers[..answer].iter().rev() {
+            let mut descent = Descent::new(table, start, below);
+            descent.pass(&wants);
+            taken.push(descent.taken);
+            wanted_above = Some(mem::replace(&mut wants, descent.wants));
+        }
+        taken.reverse();
+        Walk {
+            taken,
+            wanted_at_1: wanted_above,
+        }
     }
-    taken.reverse();
-    taken
+}
+
+/// The moves usable in layer 0 that help with something wanted at layer 1, as bits.
+fn helpful_moves(table: &Table, start: &Layer, wants: &Wants) -> u64 {
+    let mut set = 0;
+    for (b, block) in table.moves.iter().enumerate() {
+        if start.meets(block) && helps(block, start, wants) {
+            set |= 1 << b;
+        }
+    }
+    set
+}
+
+/// Whether a move adds a wanted proposition that layer 0 does not have, or has an effect that
+/// reaches a target that layer 0 does not.
+fn helps(block: &Block, start: &Layer, wants: &Wants) -> bool {
+    let adds = |p: usize| wants.propositions[p] && !start.propositions[p];
+    let reaches = |effect: &Effect| match wants.targets[effect.variable] {
+        Some(target) => {
+            start.values[effect.variable] < Value::Finite(target) && reaches(effect, target, start)
+        }
+        None => false,
+    };
+    block.added().any(adds) || block.effects().any(reaches)
+}
+
+/// Whether the value of an effect in a layer is at least the target, or above 0 for `+=`.
+fn reaches(effect: &Effect, target: i128, layer: &Layer) -> bool {
+    let value = layer.effect_value(effect);
+    match effect.change {
+        Change::Assign => value >= Value::Finite(target),
+        _ => value > Value::Finite(0),
+    }
 }
 
 /// Wanted propositions and the largest target of each variable.
@@ -169,16 +217,8 @@ impl<'t> Descent<'t> {
             .iter()
             .flat_map(|(mv, block)| block.effects().map(move |effect| (*mv, *block, effect)))
             .filter(|(_, _, effect)| effect.variable == variable)
-            .find(|(_, _, effect)| self.reaches(effect, target))
+            .find(|(_, _, effect)| reaches(effect, target, self.below))
             .expect("a usable move reaches the target")
-    }
-
-    fn reaches(&self, effect: &Effect, target: i128) -> bool {
-        let value = self.below.effect_value(effect);
-        match effect.change {
-            Change::Assign => value >= Value::Finite(target),
-            _ => value > Value::Finite(0),
-        }
     }
 
     fn increase_count(&self, effect: &Effect, target: i128) -> u64 {

@@ -17,7 +17,7 @@ pub fn examples() -> Vec<PathBuf> {
     let paths = entries.map(|entry| entry.expect("an example").path());
     let mut found: Vec<PathBuf> = paths.filter(|path| path.is_dir()).collect();
     found.sort();
-    assert!(found.len() >= 8, "examples are missing");
+    assert!(found.len() >= 9, "examples are missing");
     found
 }
 

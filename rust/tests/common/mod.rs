@@ -5,3 +5,4 @@ pub mod pddl_reader;
 pub mod refused;
 pub mod rooms;
 pub mod tasks;
+pub mod words;

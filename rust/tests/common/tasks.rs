@@ -1,8 +1,8 @@
 //! Tasks for the planning calls, all with normal tables unless they say otherwise.
 
 use campaign::generate::{
-    at_value_limit, command_string, dense, full_length, large_values, spoil, state_for, steep,
-    task, task_of, waves, Rng, Task,
+    at_value_limit, command_string, dense, full_length, helpful, large_values, spoil, state_for,
+    steep, task, task_of, waves, Rng, Task,
 };
 use campaign::reference::parse_table;
 use campaign::reference::table::Kind;
@@ -13,6 +13,21 @@ pub fn normal_tasks(seed: u64, count: usize) -> impl Iterator<Item = Task> {
     (0..count).map(move |i| match i % 2 {
         0 => task(&mut rng, Kind::Written).normal(),
         _ => task(&mut rng, Kind::Normal),
+    })
+}
+
+/// The same with more moves that help with what is wanted at layer 1, or nearly do.
+pub fn helpful_tasks(seed: u64, count: usize) -> impl Iterator<Item = Task> {
+    let mut rng = Rng::new(seed);
+    (0..count).map(move |i| match i % 2 {
+        0 => {
+            let task = task(&mut rng, Kind::Written);
+            helpful(&mut rng, &task).normal()
+        }
+        _ => {
+            let task = task(&mut rng, Kind::Normal);
+            helpful(&mut rng, &task)
+        }
     })
 }
 

@@ -1,5 +1,6 @@
--- Tests, searches, counts and lists as facts.
+-- Tests, searches, counts, lists and sets as facts.
 pub mod Booleans
 pub mod Searching
 pub mod Counting
 pub mod Listed
+pub mod Sets

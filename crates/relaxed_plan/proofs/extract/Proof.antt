@@ -5,7 +5,7 @@ use borrow.Author.Needs.{needs}
 use Rattle.model.specs.Theorems.Sizes.Plans.{records-most}
 use Rattle.stored_layer.specs.Stored.{stored-vars, stored-room, stored-entries, stored-start}
 use Rattle.relaxed_plan.specs.Answer.{extracted-short, extracted-written}
-use Rattle.passes.specs.Passes.{planRecords, walk-goal, walk-begun}
+use Rattle.passes.specs.Passes.{walk-goal, walk-begun}
 use Rattle.passes.specs.Keeping.{kept-copied}
 use Rattle.relaxed_plan.proofs.extract.Statement.{statement}
 use Rattle.relaxed_plan.proofs.extract.Tie as tie
@@ -52,7 +52,7 @@ returns c x =
     let a = g .before .before .before .before .before .before .before .args in
     let row = stored-start (x .memory) (g .before .before .before .read-row .ensures) in
     let k = s .survey .ensures (walk-begun x row (g .want-goal .ensures (walk-goal x row))) .0 in
-    extracted-short (planRecords x) (a .m) (a .out .now) (k .total) (k .firsts) (c .if1 .taken)
+    extracted-short (x .task) (x .start) (a .m) (a .out .now) (k .total) (k .helpful) (c .if1 .taken)
 
 mul-copy : tie.Need-mul-copy
 mul-copy c = search needs
@@ -97,7 +97,7 @@ returns-2 c x =
     let a = g .before .before .before .before .before .before .before .args in
     let row = stored-start (x .memory) (g .before .before .before .read-row .ensures) in
     let k = s .survey .ensures (walk-begun x row (g .want-goal .ensures (walk-goal x row))) in
-    extracted-written (planRecords x) (a .m) (a .out .now) (k .0 .total) (k .0 .firsts) (e .if1 .left)
+    extracted-written (x .task) (x .start) (a .m) (a .out .now) (k .0 .total) (k .0 .helpful) (e .if1 .left)
     (kept-copied x (a .out .now) (f .if2 .taken) (k .0 .total) (e .if1 .left) (k .1) (c .before .before .copy .ensures))
 
 same-length-2 : tie.Need-same-length-2
@@ -113,7 +113,7 @@ returns-3 c x =
     let row = stored-start (x .memory) (g .before .before .before .read-row .ensures) in
     let b = walk-begun x row (g .want-goal .ensures (walk-goal x row)) in
     let k = s .survey .ensures b .0 in
-    extracted-written (planRecords x) (a .m) (a .out .now) (k .total) (k .firsts) (e .if1 .left)
+    extracted-written (x .task) (x .start) (a .m) (a .out .now) (k .total) (k .helpful) (e .if1 .left)
     (w .write-plan .ensures (record { begun = b; total = k .total; room = e .if1 .left }))
 
 pub extract-spec : {M : Type 1} → statement M

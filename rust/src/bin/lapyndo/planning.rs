@@ -31,13 +31,18 @@ signed value (v or -v) falls. That does not promise a list that can be carried o
 pub const PLAN: Command = Command {
     name: "plan",
     arguments: &["FOLDER"],
-    summary: "the decision, and which moves to make and how often",
+    summary: "the decision, which moves to make and how often, and helpful moves",
     help: "\
 A written table is brought into normal form first; a normal one is taken as it is.
 The plan has a line for each record: a move, how often it is made, and what it needs and does.
-First moves are those taken at layer 0, the state. A plan solves the relaxed task, in which
-nothing is deleted and no signed value (v or -v) falls: it guides, and need not be a list that
-can be carried out as it stands.
+A plan solves the relaxed task, in which nothing is deleted and no signed value (v or -v) falls:
+it guides, and need not be a list that can be carried out as it stands.
+Helpful moves are for a search over real moves, which tries them before all others, and for a
+day when a move of the plan cannot be made. Each is usable in the state, its conditions hold
+there, and it gives something that the plan wants next, in layer 1, and the state lacks: it adds
+a proposition, sets a value to its target or beyond (:=), or moves it towards its target (+=, -=).
+Of the moves that give the same thing the plan takes the one with the lowest number; helpful
+moves that are not in the plan at all have lines of their own.
 \"No plan\" means that no list of moves, of any length, reaches the goal.
 ",
     run: |words| {
@@ -115,7 +120,7 @@ impl Task {
         }
     }
 
-    /// A plan in words, a line for each record.
+    /// A plan in words: a line for each record, and the helpful moves.
     fn plan(&self, plan: Plan, out: &[u8]) -> String {
         if plan.answer == Answer::NoPlan {
             return String::new();
@@ -124,12 +129,10 @@ impl Task {
             return "plan      no move is needed: the state meets the goal\n".into();
         }
         let records = words::count(plan.records as usize, "record");
-        let first = (0..64).filter(|b| plan.first >> b & 1 == 1);
-        let first: Vec<String> = first.map(|b| format!("a{b}")).collect();
         format!(
-            "plan      {records}: a move, how often, what it needs and does\n{}first     {}\n{GUIDES}",
+            "plan      {records}: a move, how often, what it needs and does\n{}{}{GUIDES}",
             self.records(plan, out),
-            first.join(", "),
+            self.helpful(plan, out),
         )
     }
 
@@ -144,6 +147,28 @@ impl Task {
             format!("  {name:3}  {times:width$}  {items}\n")
         });
         lines.collect()
+    }
+
+    /// The helpful moves, and a line for each of them that the plan does without.
+    fn helpful(&self, plan: Plan, out: &[u8]) -> String {
+        let helpful: Vec<usize> = (0..64).filter(|b| plan.first >> b & 1 == 1).collect();
+        let planned = |mv: &usize| plan.list(out).any(|(taken, _)| taken == *mv as u64);
+        let others: Vec<usize> = helpful.iter().copied().filter(|mv| !planned(mv)).collect();
+        let list = words::moves(&helpful);
+        if others.is_empty() {
+            return format!("helpful   {list}\n");
+        }
+        let scan = Scan::of(&self.folder.table);
+        let lines = others.iter().map(|mv| {
+            let (name, items) = (format!("a{mv}"), words::items(&scan, Block::Move(*mv)));
+            format!("  {name:3}  {items}\n")
+        });
+        format!(
+            "helpful   {list}: usable in this state, each gives something that the plan wants next\n\
+             others    {} not in this plan; what they need and do:\n{}",
+            words::moves(&others),
+            lines.collect::<String>()
+        )
     }
 }
 

@@ -24,6 +24,12 @@ pub fn block(block: Block) -> String {
     }
 }
 
+/// Names of moves.
+pub fn moves(numbers: &[usize]) -> String {
+    let names: Vec<String> = numbers.iter().map(|b| format!("a{b}")).collect();
+    names.join(", ")
+}
+
 /// The sum of a condition or an effect without terms of weight 0, and a constant that is left out
 /// beside terms if it is 0.
 pub fn sum(normal: bool, line: &Line, constant: i64) -> String {

@@ -17,7 +17,7 @@ use Rattle.model.specs.Layer.{Reached, Exhausted, Outcome, reported, out
 use Rattle.model.specs.Reading.{Table, accepted, only, reading}
 use Rattle.model.specs.StateTable.{stateOf, stateRefusal}
 use Rattle.model.specs.Memory.{Built, room, wrong15, answered, build, overwrite}
-use Rattle.model.specs.Plan.{Record, records, firstMoves, moveAndCount, planList}
+use Rattle.model.specs.Plan.{Record, records, helpfulMoves, moveAndCount, planList}
 use Rattle.integer.specs.BigEndian.{AllBytes}
 use Rattle.model.specs.Calls.{Ready, Output, writes, fitted, outputAfter, ready, readyWith, readyOf, prepared, normalBytes, normaliseAnswer, decideAnswer, planAnswer, planOut, planRecords, recordBytes, recordsRead, decided, decideOf, planned, planOf, planFitted, planOutOf}
 use Rattle.model.specs.declared.WriteAnswer.the-variants as write
@@ -98,7 +98,7 @@ pub record Found (w : Table) (bs : List ℕ) (d : DecideAnswer) (p : PlanAnswer)
   -- it is the first layer that meets the goal, and no layer before it equals its next one
   pub answerLayer : Reached (relaxedTask w) (layerZero w bs) layer
   pub decides : d ≡ decide.Plan layer layer
-  pub plans : p ≡ plan.Plan layer layer (length (recordsOf w bs layer)) (firstMoves (recordsOf w bs layer))
+  pub plans : p ≡ plan.Plan layer layer (length (recordsOf w bs layer)) (helpfulMoves (relaxedTask w) (layerZero w bs) layer)
   -- the output holds the records, and nothing behind them is changed
   pub output : after ≡ overwrite (recordBytes (recordsOf w bs layer)) before
   pub bytes : AllBytes (recordBytes (recordsOf w bs layer))
@@ -152,12 +152,12 @@ module _ (w n : Table) (bs : List ℕ) (layers : List ℤ) (out : List ℕ) (rea
     records-fit : length (recordBytes planned-records) ≤ length out
     records-fit = omega (arith, length-recordBytes planned-records)
 
-    pub plan-answers : planAnswer paper (normalBytes (w .task)) bs layers out ≡ planned planned-records (answered (endOf w bs))
+    pub plan-answers : planAnswer paper (normalBytes (w .task)) bs layers out ≡ planned (relaxedTask w) (layerZero w bs) (answered (endOf w bs))
     unfolding planAnswer planOf
     plan-answers =
         ap (λ (r : Ready). planOf paper (length layers) (length out) r) ready-is
-        ∙ ap (λ (b : Built). planFitted (length out) (planRecords (relaxedTask w) (layerZero w bs) b) b) built
-        ∙ plan-whole (length out) planned-records (answered (endOf w bs)) records-fit
+        ∙ ap (λ (b : Built). planFitted (length out) (relaxedTask w) (layerZero w bs) b) built
+        ∙ plan-whole (length out) (relaxedTask w) (layerZero w bs) (answered (endOf w bs)) records-fit
 
     pub plan-writes : planOut paper (normalBytes (w .task)) bs layers out ≡ overwrite (recordBytes planned-records) out
     unfolding planOut planOutOf outputAfter

@@ -17,7 +17,7 @@ use Rattle.model.specs.declared.Refusal.{Refusal}
 use Rattle.model.specs.Layer.{Outcome, reached, exhausted, reported, bound}
 use Rattle.model.specs.Reading.{Table, accepted, refused, Verdict, only, reading}
 use Rattle.model.specs.Memory.{Built, answered, stopped, wrong15, build, overwrite}
-use Rattle.model.specs.Plan.{Record, firstMoves, moveAndCount, planList}
+use Rattle.model.specs.Plan.{Record, helpfulMoves, moveAndCount, planList}
 use Rattle.model.specs.Calls.{Ready, ready, unready, readyWith, readyOf, prepared, decideOf, planOf, planFitted, normalBytes, decided, planned, planRecords, decideAnswer, planAnswer, planOut, recordBytes, recordsRead}
 use Rattle.model.specs.declared.DecideAnswer.the-variants as decide
 use Rattle.model.specs.declared.PlanAnswer.{PlanAnswer}
@@ -73,10 +73,10 @@ module _ (t bs normalOut : List ℕ) (layers : List ℤ) (out : List ℕ) (g : G
   plans-as :
       (o : Outcome) → endOf (g .table) bs ≡ o
       → planAnswer paper (normalBytes (g .table .task)) bs layers out
-      ≡ planned (planRecords (relaxedTask (g .table)) (layerZero (g .table) bs) (answered o)) (answered o)
+      ≡ planned (relaxedTask (g .table)) (layerZero (g .table) bs) (answered o)
   plans-as o e =
       plan-answers (g .table) n bs layers out ready-is built (g .planRoom)
-      ∙ ap (λ (x : Outcome). planned (planRecords (relaxedTask (g .table)) (layerZero (g .table) bs) (answered x)) (answered x)) e
+      ∙ ap (λ (x : Outcome). planned (relaxedTask (g .table)) (layerZero (g .table) bs) (answered x)) e
 
   writes-as :
       (o : Outcome) → endOf (g .table) bs ≡ o
@@ -100,7 +100,7 @@ module _ (t bs normalOut : List ℕ) (layers : List ℤ) (out : List ℕ) (g : G
         planNoPlan = (
           λ no-plan.
               absurd
-              (plan-differs m m (length rs) (firstMoves rs) (no-plan .layers)
+              (plan-differs m m (length rs) (helpfulMoves (relaxedTask (g .table)) (layerZero (g .table) bs) m) (no-plan .layers)
               (sym (plans-as (reached m) e) ∙ no-plan .is)),
           λ none. absurd (none list solves),
         );
@@ -213,11 +213,11 @@ module _ (t : List ℕ) (w : Table) (e : reading paper (only normal) t ≡ accep
   within-decided (answered (exhausted m)) h = within (exhausted m) h
   within-decided (stopped n m) h = tt
 
-  within-planned : (rs : List Record) (room : ℕ) (b : Built) → build paper (w .task) s size ≡ b → LayersWithin t (planLayers (planFitted room rs b))
+  within-planned : (room : ℕ) (b : Built) → build paper (w .task) s size ≡ b → LayersWithin t (planLayers (planFitted room (w .task) s b))
   unfolding planned planLayers reported
-  within-planned rs room b h = plan-cases room rs b (λ (a : PlanAnswer). LayersWithin t (planLayers a)) (λ whole. go b h) tt
+  within-planned room b h = plan-cases room (w .task) s b (λ (a : PlanAnswer). LayersWithin t (planLayers a)) (λ whole. go b h) tt
     where
-      go : (b : Built) → build paper (w .task) s size ≡ b → LayersWithin t (planLayers (planned rs b))
+      go : (b : Built) → build paper (w .task) s size ≡ b → LayersWithin t (planLayers (planned (w .task) s b))
       go (answered (reached m)) h = within (reached m) h
       go (answered (exhausted m)) h = within (exhausted m) h
       go (stopped n m) h = tt
@@ -256,5 +256,5 @@ plan-within t bs layers out =
     (λ w e state.
     let s = layerZero w bs in
     let b : Built = build paper (w .task) s (length layers) in
-    within-planned t w e s (length layers) (planRecords (w .task) s b) (length out) b refl)
+    within-planned t w e s (length layers) (length out) b refl)
     (λ r. tt)

@@ -98,7 +98,7 @@ pub record Trials : Type 0 where
   pub m1-read : readAnswer paper m1 ≡ read.Head 0x54 1 2 3
   pub m1-normal : normaliseAnswer paper m1 (zeros 85) ≡ write.Written 85
   pub m1-normal-bytes : normaliseOut paper m1 (zeros 85) ≡ m1Normal
-  -- 3 records, layers 2; the moves taken at layer 0 are move 0 alone
+  -- 3 records, layers 2; move 0 alone is helpful
   pub m1-decide : decideAnswer paper m1Normal (zeros 9) (sevens 16) ≡ decide.Plan 2 2
   pub m1-plan : planAnswer paper m1Normal (zeros 9) (sevens 16) (zeros 30) ≡ plan.Plan 2 2 3 1
   pub m1-records :

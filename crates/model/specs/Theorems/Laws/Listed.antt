@@ -45,6 +45,14 @@ module _ {A : Type 0} (P : A → Type 0) where
   in-All [] f = tt
   in-All (x ∷ xs) f = (f x (inl refl), in-All xs (λ y i. f y (inr i)))
 
+pub All-append :
+    {A : Type 0} (P : A → Type 0) (xs ys : List A)
+    → All P xs
+    → All P ys
+    → All P (xs ++ ys)
+All-append P [] ys a b = b
+All-append P (x ∷ xs) ys a b = (a .0, All-append P xs ys (a .1) b)
+
 -- some element passes where one in the list does; where one element alone can pass and some passes, that one is in the list
 module _ {A : Type 0} (f : A → Bool) (x : A) where
   pub any-in : (xs : List A) → In x xs → T (f x) → T (any f xs)

@@ -12,6 +12,7 @@ use lib.IntN.{ℤ}
 use Rattle.model.specs.Lists.{all, any}
 use Rattle.model.specs.Task.{Term, Comparison, atLeast, above, atMost, below, equal, Condition, Kind, assign, increase, decrease, Effect, Item, need, add, delete, condition, effect, Block}
 use Rattle.model.specs.NormalForm.{least, normalCondition, mirrored, normalEffect, normalItem, normalBlock}
+use Rattle.model.specs.Theorems.Laws.Listed.{All-append}
 use Rattle.model.specs.Theorems.Laws.Booleans.{true-T, T-equal, and-left, and-right, and-both, or-left, or-right, or-cases}
 use Rattle.model.specs.Theorems.Reading.WellFormed.{All}
 
@@ -46,14 +47,6 @@ any-implies f g h (x ∷ xs) t =
     or-cases (f x) (any f xs) t
     (λ here. or-left (g x) (any g xs) (h x here))
     (λ there. or-right (g x) (any g xs) (any-implies f g h xs there))
-
-pub All-append :
-    {A : Type 0} (P : A → Type 0) (xs ys : List A)
-    → All P xs
-    → All P ys
-    → All P (xs ++ ys)
-All-append P [] ys a b = b
-All-append P (x ∷ xs) ys a b = (a .0, All-append P xs ys (a .1) b)
 
 pub All-of-map :
     {A B : Type 0} {P : A → Type 0} (Q : B → Type 0) (f : A → B) (xs : List A)

@@ -45,7 +45,7 @@ after-move :
     → real (moveAt (normalTask k) b) (normalState s) ≡ normalState (real (moveAt k b) s)
 after-move k b s = ap (λ (m : Block). real m (normalState s)) (normal-move k b) ∙ normal-real (moveAt k b) s
 
-move-applicable :
+pub move-applicable :
     (k : Task) (b : ℕ) (s : State)
     → applicable (normalState s) (moveAt (normalTask k) b) ≡ applicable s (moveAt k b)
 move-applicable k b s = ap (applicable (normalState s)) (normal-move k b) ∙ normal-applicable s (moveAt k b)

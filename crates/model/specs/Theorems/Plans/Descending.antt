@@ -4,7 +4,7 @@ use Prim.Native.Nat.{ℕ, _<_}
 use native.Mathlib.Omega.{arith}
 use mathlib.Core.Path.{_≡_, refl, sym, subst}
 use mathlib.Core.Bool.{Bool, true, false, not, _&&_}
-use lib.Dec.{T}
+use lib.Dec.{T, T-not, not-T}
 use lib.IntN.{ℤ, _-ℤ_}
 use lib.ListN.{length}
 use Rattle.model.specs.Limits.{Limits}
@@ -14,14 +14,14 @@ use Rattle.model.specs.Move.{State, moveAt}
 use Rattle.model.specs.Layer.{Value, Layer, reaches, usable, layerValue, gained, raised, next, layerOf}
 use Rattle.model.specs.Plan.{Target, free, least, Wants, wantBlock, Descent, adder, takeAdder, demand, achieves, achiever, runs, takeEffect, takeAchiever, carriedTarget, carried, carriedDown, takeProp, takeTarget, takeValue, descend}
 use Rattle.model.specs.Theorems.Reading.WellFormed.{ItemOk, TaskOk}
-use Rattle.model.specs.Theorems.Laws.Booleans.{T-cases, and-left, and-right, and-both, or-cases, cond-cases}
+use Rattle.model.specs.Theorems.Laws.Booleans.{T-cases, and-left, and-right, and-both, cond-cases}
 use Rattle.model.specs.Theorems.Laws.Searching.{below-suc, foldBelow-induction}
 use Rattle.model.specs.Theorems.Layers.Order.{finite-⊑, ⊑-reaches, reaches-mono}
 use Rattle.model.specs.Theorems.Layers.NextLayer.{effectOn-cases, move-ok}
 use Rattle.model.specs.Theorems.Plans.Targets.{EachTarget, Reached, noWants-each, carried-each, Sat, sat-mono}
 use Rattle.model.specs.Theorems.Plans.Wanting.{wantSum-old}
 use Rattle.model.specs.Theorems.Plans.Conditions.{Had, wantSum-had, wantEffect-enough}
-use Rattle.model.specs.Theorems.Plans.Supporting.{adder-found, achiever-found, repeated, relaxed-adds, runs-reach}
+use Rattle.model.specs.Theorems.Plans.Supporting.{gained-new, adder-found, achiever-found, repeated, relaxed-adds, runs-reach}
 use Rattle.model.specs.Theorems.Plans.Taking.{grows-trans, Good, leads-grows, Step, nothing, taken, block-had, unwanted, carried as carried-wants}
 
 -- a test passes or fails
@@ -34,21 +34,13 @@ elim-cases P true x y f g = f tt
 elim-cases P false x y f g = g (λ t. t)
 
 -- a target names a variable of the table
-in-range :
+pub in-range :
     (v vars : ℕ) (x y : Value) (t : Target)
     → EachTarget (λ (q : ℤ). (v < vars) × T (reaches x q)) t
     → (v < vars → Reached y t)
     → Reached y t
 in-range v vars x y free had f = tt
 in-range v vars x y (least z) had f = f (had .0)
-
-not-both : (b : Bool) → T (not b) → T b → ⊥
-not-both true t u = t
-not-both false t u = u
-
-not-neither : (b : Bool) → (T b → ⊥) → T (not b)
-not-neither true f = f tt
-not-neither false f = tt
 
 -- what leads to Q leads to what follows from it
 step-map : {k : Task} {l : Layer} {s : State} {d e : Descent} {Q R : State → Type 0} → ((z : State) → Q z → R z) → Step k l s d e Q → Step k l s d e R
@@ -61,20 +53,20 @@ step-map f st =
 
 module _ {L : Limits} {k : Task} (ok : TaskOk L normal k) (l : Layer) (s : State) where
   -- a target that the layer does not reach is reached in x
-  abbrev Raised : ℕ → Layer → Target → Type 0
+  abbrev pub Raised : ℕ → Layer → Target → Type 0
   Raised v x = EachTarget (λ (z : ℤ). (T (reaches (l .val v) z) → ⊥) → T (reaches (x .val v) z))
 
   -- what is carried and what is taken make up what is wanted
-  prop-met :
+  pub prop-met :
       (w : Wants) {x : Layer} → Sat (carried l w) x → (p : ℕ) → T (w .props p)
       → (T (w .props p && not (l .has p)) → T (x .has p))
       → T (x .has p)
   unfolding carried
   prop-met w {x} kept p t taken =
       T-cases (l .has p) (λ has. kept .each .props p (and-both (w .props p) (l .has p) t has))
-      (λ lacks. taken (and-both (w .props p) (not (l .has p)) t (not-neither (l .has p) lacks)))
+      (λ lacks. taken (and-both (w .props p) (not (l .has p)) t (not-T (l .has p) lacks)))
 
-  target-met :
+  pub target-met :
       (x : Layer) (v : ℕ) (t : Target) → Reached (x .val v) (carriedTarget (l .val v) t) → Raised v x t → Reached (x .val v) t
   unfolding carriedTarget
   target-met x v free kept taken = tt
@@ -147,9 +139,7 @@ module _ {L : Limits} {k : Task} (ok : TaskOk L normal k) (l : Layer) (s : State
         goal e = Step k l s d e wish
 
         gained-it : T (w .props p && not (l .has p)) → T (gained l p (k .moves))
-        gained-it t =
-            or-cases (l .has p) (gained l p (k .moves)) (had-next .each .props p (and-left (w .props p) (not (l .has p)) t) .1)
-            (λ has. absurd (not-both (l .has p) (and-right (w .props p) (not (l .has p)) t) has)) (λ u. u)
+        gained-it t = gained-new k l p (had-next .each .props p (and-left (w .props p) (not (l .has p)) t) .1) (T-not (l .has p) (and-right (w .props p) (not (l .has p)) t))
 
         lacks-it : T (w .props p && not (l .has p)) → goal (takeAdder k l s d (adder k l p))
         lacks-it t =

@@ -1,9 +1,9 @@
--- The records of a plan: in rising order, so at most one for a move in a layer, each with a count of 1 or more (document 01,
--- "Plan"). Assumes nothing.
-use Prim.Native.Nat.{ℕ, zero, suc, _+_, _*_, _≤_, _<_}
+-- The records of a plan: in rising order, so at most one for a move in a layer, each with a count of 1 or more; layer by layer, with the
+-- wants of each (document 01, "Plan"). Assumes nothing.
+use Prim.Native.Nat.{ℕ, zero, suc, _+_, _-_, _*_, _≤_, _<_}
 use native.Mathlib.Nat.{zero-add}
 use native.Mathlib.Omega.{arith}
-use mathlib.Core.Path.{_≡_, refl}
+use mathlib.Core.Path.{_≡_, refl, sym, ap, _∙_}
 use mathlib.Core.List.{List, [], _∷_, _++_}
 use lib.Dec.{T, eqb}
 use lib.ListN.{length, length-append}
@@ -11,10 +11,11 @@ use Rattle.integer.specs.BigEndian.{length-bytes}
 use Rattle.model.specs.Task.{Task}
 use Rattle.model.specs.Move.{State}
 use Rattle.model.specs.Layer.{layerAt}
-use Rattle.model.specs.Plan.{Wants, Descent, descend, Record, layerRecords, recordsFrom, records}
+use Rattle.model.specs.Plan.{Wants, noWants, wantBlock, Descent, descend, Record, layerRecords, recordsFrom, records, wantsBelow, wantsAt}
 use Rattle.model.specs.Calls.{recordBytes}
 use Rattle.model.specs.Theorems.Reading.WellFormed.{All}
 use Rattle.model.specs.Theorems.Laws.Searching.{All-map}
+use Rattle.model.specs.Theorems.Laws.Listed.{All-append}
 use Rattle.model.specs.Theorems.Plans.Descending.{elim-cases}
 
 -- ---- "layers rising, then moves"
@@ -39,10 +40,6 @@ pub record Bounded (layers moves : ℕ) (r : Record) : Type 0 where
   pub layer : r .layer < layers
   pub move : r .move < moves
   pub count : 1 ≤ r .count
-
-pub All-append {ℓ} : {A : Type ℓ} (P : A → Type 0) (xs ys : List A) → All P xs → All P ys → All P (xs ++ ys)
-All-append P [] ys a b = b
-All-append P (x ∷ xs) ys a b = (a .0, All-append P xs ys (a .1) b)
 
 rising-append :
     (rs qs : List Record)
@@ -153,6 +150,44 @@ module _ (k : Task) (s : State) where
   pub records-length : (m : ℕ) → length (records k s m) ≤ length (k .moves) * m
   unfolding records
   records-length m = from-length m _
+
+-- ---- the wants and the records of each layer
+
+-- from the wants of layer u + 1 to those of layer u, with the counts of the moves taken in layer u
+unfoldable pub descentAt : Task → State → ℕ → ℕ → Descent
+descentAt k s m u = descend k (layerAt k s u) s (wantsAt k s m (suc u))
+
+module _ (k : Task) (s : State) (m : ℕ) where
+  -- the goal's wants in the answer layer, and one layer down after another
+  pub wantsAt-answer : wantsAt k s m m ≡ wantBlock (layerAt k s m) s noWants (k .goal)
+  unfolding wantsAt wantsBelow
+  wantsAt-answer =
+      let none : m - m ≡ 0 = omega arith in
+      ap (wantsBelow k s m) none
+
+  pub wantsAt-down : {u : ℕ} → u < m → wantsAt k s m u ≡ descentAt k s m u .wants
+  unfolding wantsAt wantsBelow descentAt
+  wantsAt-down {u} h =
+      let one-more : m - u ≡ suc (m - suc u) = omega arith in
+      let same-layer : m - suc (m - suc u) ≡ u = omega arith in
+      ap (wantsBelow k s m) one-more
+      ∙ ap (λ (t : ℕ). descend k (layerAt k s t) s (wantsBelow k s m (m - suc u)) .wants) same-layer
+
+  -- "From answer layer m down": the records are those of the answer layer's wants
+  pub records-answer : records k s m ≡ recordsFrom k s m (wantsAt k s m m)
+  unfolding records
+  records-answer = ap (recordsFrom k s m) (sym wantsAt-answer)
+
+  -- "layers rising": those of the layers below u, then those of layer u
+  pub records-down :
+      {u : ℕ}
+      → u < m
+      → recordsFrom k s (suc u) (wantsAt k s m (suc u))
+      ≡ recordsFrom k s u (wantsAt k s m u) ++ layerRecords u (descentAt k s m u .count) 0 (length (k .moves))
+  unfolding recordsFrom descentAt
+  records-down {u} h =
+      ap (λ (w : Wants). recordsFrom k s u w ++ layerRecords u (descentAt k s m u .count) 0 (length (k .moves)))
+      (sym (wantsAt-down h))
 
 -- ---- "Record: 52, move (1 byte), count (8 bytes)"
 

@@ -17,12 +17,12 @@ use Rattle.model.specs.Limits.{Limits}
 use Rattle.model.specs.Lists.{firstFrom}
 use Rattle.model.specs.Task.{normal, Kind, assign, increase, decrease, Effect, Block, Task, adds, effectOn}
 use Rattle.model.specs.Move.{State, value, changed, changedBy, relaxed, moveAt}
-use Rattle.model.specs.Layer.{Value, finite, unbounded, Layer, reaches, usable, layerValue, offer, offered, gained, raised, layerOf}
+use Rattle.model.specs.Layer.{Value, finite, unbounded, Layer, reaches, usable, layerValue, offer, offered, gained, raised, next, layerOf}
 use Rattle.model.specs.Plan.{lowValue, adder, achieves, achiever, demand, stepSize, runs}
 use Rattle.model.specs.Theorems.Reading.WellFormed.{KindOk, EffectOk}
-use Rattle.model.specs.Theorems.Laws.Booleans.{and-left, and-right, and-both, or-left, or-right, cond-cases}
+use Rattle.model.specs.Theorems.Laws.Booleans.{and-left, and-right, and-both, or-left, or-right, or-cases, cond-cases}
 use Rattle.model.specs.Theorems.Laws.Searching.{firstFrom-cases}
-use Rattle.model.specs.Theorems.Layers.Order.{finite-⊑, ⊑-trans, ⊑-reaches, _≼_}
+use Rattle.model.specs.Theorems.Layers.Order.{finite-⊑, ⊑-unbounded, ⊑-trans, ⊑-reaches, _≼_}
 use Rattle.model.specs.Theorems.Layers.NextLayer.{raised-cases, gained-cases}
 use Rattle.model.specs.Theorems.Layers.Relaxation.{value-mono, val-mono}
 use Rattle.model.specs.Theorems.Plans.Targets.{Above, above-refl, above-trans, low-reaches}
@@ -51,6 +51,11 @@ module _ (k : Task) (l : Layer) where
       right : (b : ℕ) → T (usable l (moveAt k b) && test (moveAt k b)) → T (test (moveAt k b))
       right b = and-right (usable l (moveAt k b)) (test (moveAt k b))
 
+  -- a proposition that the next layer has and this one lacks is gained
+  pub gained-new : (p : ℕ) → T (next (k .moves) l .has p) → (T (l .has p) → ⊥) → T (gained l p (k .moves))
+  unfolding next
+  gained-new p t lacks = or-cases (l .has p) (gained l p (k .moves)) t (λ has. absurd (lacks has)) (λ u. u)
+
   -- a proposition that the next layer gains is added by a move usable in this one
   pub adder-found :
       (P : Option ℕ → Type 0) (p : ℕ)
@@ -78,6 +83,18 @@ module _ (k : Task) (l : Layer) where
       by-kind increase t =
           cond-cases (λ x. T (reaches x z) → T gains) gains unbounded (l .val v) (λ gain r. gain) (λ no-gain r. absurd (low r)) t
       by-kind decrease t = absurd (low t)
+
+  -- and back: what passes Plan's test offers the target
+  pub achieves-offered : {L : Limits} (v : ℕ) (z : ℤ) (e : Effect) → EffectOk L normal (k .vars) e → T (reaches (layerValue l e) (demand (e .kind) z)) → T (reaches (offered l v (some e)) z)
+  unfolding offered offer demand
+  achieves-offered v z e e-ok t = by-kind (e .kind) (e-ok .kind) t
+    where
+      by-kind : (d : Kind) → KindOk normal d → T (reaches (layerValue l e) (demand d z)) → T (reaches (offer l v d (layerValue l e)) z)
+      by-kind assign d-ok r = r
+      by-kind increase d-ok r =
+          cond-cases (λ y. T (reaches y z)) (reaches (layerValue l e) (pos 1)) unbounded (l .val v)
+          (λ gain. ⊑-reaches (⊑-unbounded (finite z))) (λ no-gain. absurd (no-gain r))
+      by-kind decrease d-ok r = absurd d-ok
 
   -- a target that the next layer reaches and this one does not is achieved by a move usable in this one
   pub achiever-found :

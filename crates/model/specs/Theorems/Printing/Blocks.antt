@@ -17,7 +17,7 @@ use Rattle.model.specs.Seen.{Head, Seen, byteAfter, numberAfter, termAt,
 use Rattle.model.specs.Reading.{Verdict, Wanted, headWanted, wrong6, wrong5, operands, wrong16}
 use Rattle.model.specs.Theorems.Reading.WellFormed.{All, Rising, TermOk, SumOk, ItemOk, Once}
 use Rattle.model.specs.Theorems.Laws.Booleans.{T-true, not-false, or-left, or-right}
-use Rattle.model.specs.Theorems.NormalForm.Blocks.{All-append}
+use Rattle.model.specs.Theorems.Laws.Listed.{All-append}
 use Rattle.model.specs.Theorems.Laws.Searching.{All-map, All-all}
 use Rattle.model.specs.Theorems.Reading.Reads.{verdictFrom}
 use Rattle.model.specs.Theorems.Printing.Passing.{Left, left-length, left-byte, left-code, left-skip, left-after, left-number, SmallLimits, well-placed, may-follow, passed}

@@ -10,7 +10,7 @@ use lib.ListN.{length, getD, length-append, List·getD-append}
 use Rattle.model.specs.Listing.{digits, decimal}
 use Rattle.model.specs.Theorems.Reading.WellFormed.{All}
 use Rattle.model.specs.Theorems.Laws.Booleans.{T-true, not-false, T-cases}
-use Rattle.model.specs.Theorems.NormalForm.Blocks.{All-append}
+use Rattle.model.specs.Theorems.Laws.Listed.{All-append}
 
 -- an ASCII digit, "0" to "9"
 abbrev pub Digit : ℕ → Type 0

@@ -10,11 +10,12 @@ use lib.ListN.{length, getD, take, drop, length-append, length-drop, List·getD-
 use lib.Seq.{getD-drop, getD-append-add, take-append-seam, drop-append-seam}
 use Rattle.integer.specs.Store.{put}
 use Rattle.model.specs.Memory.{overwrite, Built}
-use Rattle.model.specs.Plan.{Record}
+use Rattle.model.specs.Task.{Task}
+use Rattle.model.specs.Move.{State}
 use Rattle.model.specs.declared.PlanAnswer.{PlanAnswer}
 use Rattle.model.specs.declared.PlanAnswer.the-variants as plan
 use Rattle.model.specs.declared.WriteAnswer.the-variants as write
-use Rattle.model.specs.Calls.{Output, writes, turns, onOutput, fitted, writeAnswer, outputAfter, recordBytes, planned, planFitted}
+use Rattle.model.specs.Calls.{Output, writes, turns, onOutput, fitted, writeAnswer, outputAfter, recordBytes, planRecords, planned, planFitted}
 use Rattle.model.specs.Theorems.Laws.Booleans.{T-cases}
 
 -- ---- written over the start
@@ -93,20 +94,23 @@ written-inside (writes bs) out n e =
     let same : length bs ≡ n = cc in omega (arith, same, length-append bs (drop (length bs) out))
 
 -- plan's answer
-module _ (size : ℕ) (rs : List Record) (b : Built) where
-  pub plan-whole : length (recordBytes rs) ≤ size → planFitted size rs b ≡ planned rs b
-  unfolding planFitted onOutput
-  plan-whole h = rw (fitted-whole size (recordBytes rs) h) refl
+module _ (size : ℕ) (k : Task) (s : State) (b : Built) where
+  abbrev bytes-of : List ℕ
+  bytes-of = recordBytes (planRecords k s b)
 
-  pub plan-short : size < length (recordBytes rs) → planFitted size rs b ≡ plan.Refused (record { number = 13; place = 0 })
+  pub plan-whole : length bytes-of ≤ size → planFitted size k s b ≡ planned k s b
   unfolding planFitted onOutput
-  plan-short h = rw (fitted-short size (recordBytes rs) h) refl
+  plan-whole h = rw (fitted-whole size bytes-of h) refl
+
+  pub plan-short : size < length bytes-of → planFitted size k s b ≡ plan.Refused (record { number = 13; place = 0 })
+  unfolding planFitted onOutput
+  plan-short h = rw (fitted-short size bytes-of h) refl
 
   pub plan-cases :
       (P : PlanAnswer → Type 0)
-      → (length (recordBytes rs) ≤ size → P (planned rs b))
+      → (length bytes-of ≤ size → P (planned k s b))
       → P (plan.Refused (record { number = 13; place = 0 }))
-      → P (planFitted size rs b)
+      → P (planFitted size k s b)
   unfolding planFitted onOutput
   plan-cases P whole short =
-      fitted-cases size (recordBytes rs) (λ (o : Output). P (onOutput o (λ bs. planned rs b) (λ r. plan.Refused r))) whole (λ h. short)
+      fitted-cases size bytes-of (λ (o : Output). P (onOutput o (λ bs. planned k s b) (λ r. plan.Refused r))) whole (λ h. short)

@@ -1,6 +1,6 @@
 -- The plan does not see moves that do nothing: its records are the old ones with each move under its new number, and so is its
 -- list. Assumes nothing.
-use Prim.Native.Nat.{ℕ, zero, suc, max}
+use Prim.Native.Nat.{ℕ, zero, suc, _-_, max}
 use mathlib.Core.Path.{_≡_, refl, sym, ap, ap₂, _∙_, subst, fun-ext}
 use mathlib.Core.Bool.{Bool, true, false, cond, not, _&&_, and-false}
 use mathlib.Core.List.{List, [], _∷_, _++_, map, map-append}
@@ -12,12 +12,12 @@ use Rattle.model.specs.Lists.{foldBelow}
 use Rattle.model.specs.Task.{Effect, Block, Task, adds, effectOn, active}
 use Rattle.model.specs.Move.{State, moveAt}
 use Rattle.model.specs.Layer.{Layer, reaches, usable, layerValue, layerAt}
-use Rattle.model.specs.Plan.{Target, free, least, Wants, noWants, wantSum, wantBlock, Descent, counted, adder, takeAdder, demand, achieves, achiever, runs, takeEffect, takeAchiever, carriedDown, takeProp, takeTarget, takeValue, descend, Record, layerRecords, recordsFrom, records, moveAndCount, planList}
+use Rattle.model.specs.Plan.{Target, free, least, Wants, noWants, wantSum, wantBlock, Descent, counted, adder, takeAdder, demand, achieves, achiever, runs, takeEffect, takeAchiever, carriedDown, takeProp, takeTarget, takeValue, descend, Record, layerRecords, recordsFrom, records, moveAndCount, planList, wantsBelow, wantsAt}
 use Rattle.model.specs.NormalForm.{normalTask}
 use Rattle.model.specs.Rewrite.{rewritten, newNumber, renumbered}
 use Rattle.model.specs.Theorems.Reading.WellFormed.{All}
 use Rattle.model.specs.Theorems.Laws.Booleans.{T-true, true-T, not-false, false-not}
-use Rattle.model.specs.Theorems.Plans.Records.{All-append}
+use Rattle.model.specs.Theorems.Laws.Listed.{All-append}
 use Rattle.model.specs.Theorems.Rewriting.Solving.{idle-adds, idle-effects, normal-rewritten}
 use Rattle.model.specs.Theorems.Rewriting.Normal.{normal-newNumber, normal-renumbered}
 use Rattle.model.specs.Theorems.Rewriting.Layers.{same-layerAt}
@@ -132,6 +132,21 @@ module _ (k : Task) where
 
         begin : carriedDown l w ≡ old (carriedDown l w)
         begin = λ i. record { wants = carriedDown l w .wants; count = λ b. zeros (active (moveAt k b)) i }
+
+-- ---- the wants of each layer
+
+module _ (k : Task) (s : State) (m : ℕ) where
+  same-below : (n : ℕ) → wantsBelow (rewritten k) s m n ≡ wantsBelow k s m n
+  unfolding wantsBelow rewritten
+  same-below zero = ap (λ (l : Layer). wantBlock l s noWants (k .goal)) (same-layerAt k s m)
+  same-below (suc n) =
+      ap₂ (λ (l : Layer) (w : Wants). descend (rewritten k) l s w .wants) (same-layerAt k s (m - suc n)) (same-below n)
+      ∙ ap (λ (d : Descent). d .wants) (sym (same-descend k (layerAt k s (m - suc n)) s (wantsBelow k s m n)))
+
+  -- each layer has the same wants
+  pub same-wants : (u : ℕ) → wantsAt (rewritten k) s m u ≡ wantsAt k s m u
+  unfolding wantsAt
+  same-wants u = same-below (m - u)
 
 -- ---- records
 

@@ -31,7 +31,7 @@ use Rattle.model.specs.Layer.{Outcome, reached, exhausted, reported, out
 use Rattle.model.specs.Memory.{wrong15, refuses, Built, answered, stopped, stopNumber, stopAt, build}
 use Rattle.model.specs.Reading.{Table, Verdict, accepted, refused, Wanted, only, both, reading, lengthLimit, stored}
 use Rattle.model.specs.StateTable.{stateOf, stateRefusal, stateBytes, valueInRange}
-use Rattle.model.specs.Calls.{readOf, readAnswer, partOf, noBlock, blockPart, blockRefusal, Output, writes, turns, fitted, writeAnswer, normalBytes, normalOf, normalised, normaliseAnswer, resultOf, moved, stepWithState, stepOf, stepped, stepAnswer, Ready, ready, unready, readyWith, readyOf, prepared, decided, decideOf, decideAnswer, planRecords, planned, planOf, planAnswer, onOutput, campaignDecision, campaignPlan}
+use Rattle.model.specs.Calls.{readOf, readAnswer, partOf, noBlock, blockPart, blockRefusal, Output, writes, turns, fitted, writeAnswer, normalBytes, normalOf, normalised, normaliseAnswer, resultOf, moved, stepWithState, stepOf, stepped, stepAnswer, Ready, ready, unready, readyWith, readyOf, prepared, decided, decideOf, decideAnswer, planned, planOf, planAnswer, onOutput, campaignDecision, campaignPlan}
 use Rattle.model.specs.Blocking.{blockingAnswer}
 use Rattle.model.specs.Exports.{blockAnswer}
 use Rattle.model.specs.Theorems.Reading.WellFormed.{TaskOk, VarsOk}
@@ -42,7 +42,7 @@ use Rattle.model.specs.Theorems.Printing.Outputs.{fitted-cases, plan-cas
 use Rattle.model.specs.Theorems.Reading.Places.{Small, IfSome, IfRefused, small-wider, refused-wider, reading-refused, state-refused}
 use Rattle.model.specs.Theorems.NormalForm.Print.{written-short, normal-fits}
 use Rattle.model.specs.Theorems.Blocking.Calls.{blocks-inside, answers-cases}
-use Rattle.model.specs.Theorems.Sizes.Plans.{reported-most, records-most, firstMoves-small}
+use Rattle.model.specs.Theorems.Sizes.Plans.{reported-most, records-most, helpfulMoves-small}
 
 -- A place stands at most three bytes behind the end of a table, which has at most 64,000 bytes; places of states (at most 184)
 -- and layers (at most 3,201) are below that.
@@ -244,13 +244,13 @@ decide-small t bs layers = go (prepared paper t bs) (prepared-small t bs)
     go (unready r) small = small
 
 pub plan-small : (t bs : List ℕ) (layers : List ℤ) (out : List ℕ) → PlanSmall (planAnswer paper t bs layers out)
-unfolding planAnswer planOf planned planRecords reported
+unfolding planAnswer planOf planned reported
 plan-small t bs layers out = go (prepared paper t bs) (prepared-small t bs)
   where
-    by-built : (k : Task) (s : State) → TaskOk paper normal k → (b : Built) → BuiltSmall k s b → PlanSmall (planned (planRecords k s b) b)
+    by-built : (k : Task) (s : State) → TaskOk paper normal k → (b : Built) → BuiltSmall k s b → PlanSmall (planned k s b)
     by-built k s ok (answered (reached m)) h =
         let most : m ≤ 3201 = subst (λ (o : Outcome). reported o ≤ 3201) (sym h) (reported-most ok s) in
-        (refl, most, records-most ok s m most, firstMoves-small ok s m)
+        (refl, most, records-most ok s m most, helpfulMoves-small ok s m)
     by-built k s ok (answered (exhausted m)) h =
         (subst (λ (o : Outcome). reported o ≤ 3201) (sym h) (reported-most ok s), lit≤ tt, lit≤ tt)
     by-built k s ok (stopped n m) h = record { positive = h .0; number = h .1; place = omega (arith, h .2, reported-most ok s) }
@@ -258,7 +258,7 @@ plan-small t bs layers out = go (prepared paper t bs) (prepared-small t bs)
     go : (r : Ready) → ReadySmall r → PlanSmall (planOf paper (length layers) (length out) r)
     go (ready k s) ok =
         let b = build paper k s (length layers) in
-        plan-cases (length out) (planRecords k s b) b PlanSmall (λ whole. by-built k s ok b (build-small k s (length layers)))
+        plan-cases (length out) k s b PlanSmall (λ whole. by-built k s ok b (build-small k s (length layers)))
         (record { positive = lit≤ tt; number = lit≤ tt; place = lit≤ tt })
     go (unready r) small = small
 

@@ -2,76 +2,28 @@
 -- layer memory (document 01, "Plan"). The answer layer is at most 3,201, so every target and every count stays below
 -- 30,000,001,000,000. Assumes nothing.
 use Prim.Native.Nat.{ℕ, zero, suc, _+_, _-_, _*_, _^_, _≤_, _<_}
-use native.Mathlib.Nat.{mul-le-mul, mul-le-mul-right, pow-le-pow-right}
+use native.Mathlib.Nat.{mul-le-mul, mul-le-mul-right, pow-le-pow-right, one-le-pow}
 use native.Mathlib.Omega.{arith}
-use mathlib.Core.Path.{_≡_, sym, ap, _∙_, subst}
+use mathlib.Core.Path.{_≡_, sym, subst}
 use mathlib.Core.Bool.{false}
-use mathlib.Core.List.{_++_}
 use lib.ListN.{length}
 use Rattle.model.specs.Limits.{paper}
 use Rattle.model.specs.Task.{normal, Task}
 use Rattle.model.specs.Move.{State}
 use Rattle.model.specs.Layer.{layerAt, bound, Outcome, reported, outcome}
 use Rattle.model.specs.Memory.{room, wrong15, wrong14, refuses, answered, stopAt, build}
-use Rattle.model.specs.Plan.{Wants, noWants, wantBlock, Descent, descend, Record, layerRecords, recordsFrom, records, firstMoves}
+use Rattle.model.specs.Plan.{Wants, noWants, wantBlock, Descent, descend, Record, layerRecords, recordsFrom, records, wantsAt, helpful, helpfulMoves}
 use Rattle.model.specs.Theorems.Reading.WellFormed.{All, TaskOk}
 use Rattle.model.specs.Theorems.Laws.Booleans.{not-false, or-left}
 use Rattle.model.specs.Theorems.Laws.Searching.{firstFrom-cases}
-use Rattle.model.specs.Theorems.NormalForm.Blocks.{All-append}
+use Rattle.model.specs.Theorems.Laws.Listed.{All-append}
 use Rattle.model.specs.Theorems.Layers.Answer.{reported-bound}
-use Rattle.model.specs.Theorems.Plans.Records.{layerRecords-cases, records-length}
-use Rattle.model.specs.Theorems.Plans.FirstMoves.{records-firstMoves}
+use Rattle.model.specs.Theorems.Plans.Records.{descentAt, layerRecords-cases, records-length, wantsAt-answer, wantsAt-down, records-answer, records-down}
+use Rattle.model.specs.Theorems.Laws.Sets.{set-small}
 use Rattle.model.specs.Theorems.Sizes.States.{SmallState}
 use Rattle.model.specs.Theorems.Sizes.Layers.{layer-small}
 use Rattle.model.specs.Theorems.Sizes.Targets.{SmallWants, wants-wider, noWants-small, wantBlock-small}
 use Rattle.model.specs.Theorems.Sizes.Descents.{SmallDescent, descend-small}
-
--- ---- the wants of each layer
-
--- n layers below the answer layer m: "Begin with the goal in m."
-unfoldable pub wantsBelow : Task → State → ℕ → ℕ → Wants
-wantsBelow k s m zero = wantBlock (layerAt k s m) s noWants (k .goal)
-wantsBelow k s m (suc n) = descend k (layerAt k s (m - suc n)) s (wantsBelow k s m n) .wants
-
--- the wants of layer u, for an answer layer m not below it
-unfoldable pub wantsAt : Task → State → ℕ → ℕ → Wants
-wantsAt k s m u = wantsBelow k s m (m - u)
-
--- from the wants of layer u + 1 to those of layer u, with the counts of the moves taken in layer u
-unfoldable pub descentAt : Task → State → ℕ → ℕ → Descent
-descentAt k s m u = descend k (layerAt k s u) s (wantsAt k s m (suc u))
-
-module _ (k : Task) (s : State) (m : ℕ) where
-  -- the goal's wants in the answer layer, and one layer down after another
-  pub wantsAt-answer : wantsAt k s m m ≡ wantBlock (layerAt k s m) s noWants (k .goal)
-  unfolding wantsAt wantsBelow
-  wantsAt-answer =
-      let none : m - m ≡ 0 = omega arith in
-      ap (wantsBelow k s m) none
-
-  pub wantsAt-down : {u : ℕ} → u < m → wantsAt k s m u ≡ descentAt k s m u .wants
-  unfolding wantsAt wantsBelow descentAt
-  wantsAt-down {u} h =
-      let one-more : m - u ≡ suc (m - suc u) = omega arith in
-      let same-layer : m - suc (m - suc u) ≡ u = omega arith in
-      ap (wantsBelow k s m) one-more
-      ∙ ap (λ (t : ℕ). descend k (layerAt k s t) s (wantsBelow k s m (m - suc u)) .wants) same-layer
-
-  -- "From answer layer m down": the records are those of the answer layer's wants
-  pub records-answer : records k s m ≡ recordsFrom k s m (wantsAt k s m m)
-  unfolding records
-  records-answer = ap (recordsFrom k s m) (sym wantsAt-answer)
-
-  -- "layers rising": those of the layers below u, then those of layer u
-  pub records-down :
-      {u : ℕ}
-      → u < m
-      → recordsFrom k s (suc u) (wantsAt k s m (suc u))
-      ≡ recordsFrom k s u (wantsAt k s m u) ++ layerRecords u (descentAt k s m u .count) 0 (length (k .moves))
-  unfolding recordsFrom descentAt
-  records-down {u} h =
-      ap (λ (w : Wants). recordsFrom k s u w ++ layerRecords u (descentAt k s m u .count) 0 (length (k .moves)))
-      (sym (wantsAt-down h))
 
 -- ---- targets and counts of all layers
 
@@ -191,12 +143,13 @@ module _ {k : Task} (ok : TaskOk paper normal k) where
   pub records-bytes-most : (s : State) (m : ℕ) → m ≤ 3201 → 10 * length (records k s m) ≤ 2_048_640
   records-bytes-most s m h = omega (arith, records-most s m h)
 
-  -- "a 64-bit set of the moves taken at layer 0"
-  pub firstMoves-small : (s : State) (m : ℕ) → firstMoves (records k s m) < 2 ^ 64
-  unfolding paper
-  firstMoves-small s m =
+  -- "a 64-bit set"
+  pub helpfulMoves-small : (s : State) (m : ℕ) → helpfulMoves k s m < 2 ^ 64
+  unfolding helpfulMoves paper
+  helpfulMoves-small s zero = one-le-pow 64 2 (omega arith)
+  helpfulMoves-small s (suc m) =
       let wide : 2 ^ length (k .moves) ≤ 2 ^ 64 = pow-le-pow-right (omega arith) (ok .moves) in
-      omega (arith, records-firstMoves k s m .small)
+      omega (arith, set-small (helpful (layerAt k s 0) (wantsAt k s (suc m) 1)) (k .moves))
 
 -- where the layers are built to the end, each of them has passed the check for 15
 pub answered-passes :

@@ -1,0 +1,7 @@
+(define (problem start)
+  (:domain campaign)
+  (:init
+    (= (v0) 0)
+    (= (v1) 0))
+  (:goal (and
+    (p0))))
