@@ -84,10 +84,10 @@ enum {
  * decision: always written: what decide answers, which is the result where out is long enough. After 13 it is 13 too if
  *           normal is too short, and no refusal if out is.
  * records:  accepted, the number of records, 0 with "no plan"; refused, kept.
- * first:    accepted, the set of helpful moves, bit b for move b; refused, kept. Their conditions hold in the state, and each
- *           gives something that the plan wants in layer 1 and the state lacks: a proposition, which it adds, or a target
- *           of a signed variable (v or -v), which it reaches by := with a value of at least the target, or by += with a
- *           value above 0. Every move that the plan takes first is among them. 0 if the state meets the goal, and with
+ * first:    accepted, the set of helpful moves, bit b for move b; refused, kept. The conditions of each hold in the state,
+ *           and it gives something that the plan wants in layer 1 and the state lacks: it adds a proposition, or raises a
+ *           signed variable (v or -v) that has to be larger, by := to what is wanted at least, by += or -= in its
+ *           direction. Every move that the plan takes at layer 0 is among them. 0 if the state meets the goal, and with
  *           "no plan". A search over real moves tries helpful moves before all others.
  */
 uint64_t lapyndo_campaign(const uint8_t *table, size_t table_len, const uint8_t *state, size_t state_len,

@@ -43,9 +43,6 @@ fn main() {
     }
     let every_refusal: Vec<usize> = (0..17).collect();
     tally.expect(1, &every_refusal);
-    tally
-        .planning()
-        .expect(&[("the moves that the plan takes", 1)]);
 }
 
 /// A table within five bytes of a limit of length.

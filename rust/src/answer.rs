@@ -126,6 +126,11 @@ impl fmt::Display for Decision {
     }
 }
 
+/// A set of moves with a bit for each.
+pub fn bits(moves: impl IntoIterator<Item = u64>) -> u64 {
+    moves.into_iter().fold(0, |set, mv| set | 1 << mv)
+}
+
 /// What `plan` answers; bit b of `first` is set if move b is helpful: usable in layer 0, and it brings
 /// about something wanted at layer 1 that layer 0 does not have.
 #[derive(Clone, Copy, Debug, PartialEq, Eq)]
@@ -143,6 +148,11 @@ impl Plan {
             answer: self.answer,
             layers: self.layers,
         }
+    }
+
+    /// Its helpful moves, rising.
+    pub fn helpful(self) -> impl Iterator<Item = u64> {
+        (0..64).filter(move |mv| self.first >> mv & 1 == 1)
     }
 
     /// The moves and counts of its records, from the bytes that the call wrote.
@@ -217,5 +227,19 @@ mod tests {
         assert_eq!(Reason::from_number(14), Some(Reason::MemoryShort));
         assert_eq!(Reason::from_number(0), None);
         assert_eq!(Reason::from_number(17), None);
+    }
+
+    #[test]
+    fn a_set_has_a_bit_for_each_move() {
+        let moves = [0, 3, 31, 32, 63];
+        let first = 0x8000_0001_8000_0009;
+        assert_eq!(bits(moves), first);
+        let decision = Decision {
+            answer: Answer::Layer(1),
+            layers: 1,
+        };
+        let helpful = decision.with_plan(1, first).helpful();
+        assert_eq!(helpful.collect::<Vec<u64>>(), moves);
+        assert_eq!(bits([]), 0);
     }
 }

@@ -31,6 +31,6 @@ pub use rng::Rng;
 pub use scale::state_for;
 pub use sizes::Sizes;
 pub use stored::{long_stored, rewritten_length, stored};
-pub use task::Task;
+pub use task::{in_normal_form, Task};
 pub use text::{text_length, wordy};
 pub use tuned::{at_value_limit, dense, full_length, large_values, m1, many_records, steep, waves};

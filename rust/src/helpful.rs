@@ -1,7 +1,9 @@
 //! Plan's helpful moves by the rule of document 02, and by rules with one fault each.
 
+use crate::answer::{bits, Plan};
+use crate::reference::parse_table;
 use crate::reference::table::{Block, Change, Effect, Item, Table};
-use crate::walk::{Walk, Wants};
+use crate::walk::{walked, Walk, Wants};
 
 /// What makes a move helpful.
 struct Rule {
@@ -40,7 +42,7 @@ impl Rule {
         let moves = moves.iter().enumerate();
         let helpful =
             moves.filter(|(b, block)| (self.usable)(walk, *b) && self.helps(walk, &wants, block));
-        helpful.fold(0, |set, (b, _)| set | 1 << b)
+        bits(helpful.map(|(b, _)| b as u64))
     }
 
     fn helps(&self, walk: &Walk, wants: &Wants, block: &Block) -> bool {
@@ -64,7 +66,17 @@ pub fn helpful_moves(walk: &Walk) -> u64 {
 /// The moves that the plan takes at layer 0.
 pub fn taken_moves(walk: &Walk) -> u64 {
     let taken = walk.taken.first().into_iter().flatten();
-    taken.fold(0, |set, (mv, _)| set | 1 << mv)
+    bits(taken.map(|(mv, _)| *mv))
+}
+
+/// A plan of an accepted normal table with another set.
+///
+/// # Panics
+/// If the table is refused, or as `walked`.
+pub fn plan_with(set: fn(&Walk) -> u64, plan: Plan, table: &[u8], layers: &[i64]) -> Plan {
+    let table = parse_table(table).expect("an accepted table");
+    let first = walked(&table, layers, plan.answer, set).unwrap_or(0);
+    Plan { first, ..plan }
 }
 
 /// Another set than that of the helpful moves.

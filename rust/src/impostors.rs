@@ -93,7 +93,7 @@ const IMPOSTORS: [Impostor; 22] = [
         kinds: &[CallKind::Plan, CallKind::Campaign, CallKind::Listing],
     },
     Impostor {
-        trick: "no first moves",
+        trick: "no helpful moves",
         engine: Calls {
             plan: |table, state, layers, out| {
                 let mut plan = plan(table, state, layers, out)?;

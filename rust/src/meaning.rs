@@ -1,14 +1,18 @@
-//! What the answers of `plan` mean, by runs over unlimited whole numbers.
+//! What the answers of `plan` mean, by runs over unlimited whole numbers; and their records and sets of
+//! helpful moves, by the way down from the layers in memory.
 
 use crate::answer::{Answer, Reason, Refusal};
 use crate::generate::Task;
 use crate::harness::Planned;
+use crate::helpful::helpful_moves;
+use crate::reference::parse_table;
 use crate::reference::semantics::{relaxed_solves, relaxed_solves_one_by_one, saturate};
-use crate::room::layer_bound;
-use crate::walk::{walked, Walk};
+use crate::room::{counts, layer_bound};
+use crate::walk::walked;
 
-/// A plan's list solves the relaxed task; "no plan" means that nothing reaches the goal. The
-/// task is accepted and has a normal table, and its plan has room for all layers.
+/// A plan's list solves the relaxed task, its records and its set are those of the way down; "no plan"
+/// means that nothing reaches the goal. The task is accepted and has a normal table, and its plan has
+/// room for all layers.
 ///
 /// # Panics
 /// If the answer means anything else.
@@ -21,11 +25,8 @@ pub fn check_meaning(task: &Task, planned: Result<Planned, Refusal>) -> Option<P
             return None;
         }
     };
-    let counts = [1, 2, 3].map(|i| usize::from(task.table[i]));
-    assert!(
-        planned.plan.layers as usize <= layer_bound(counts),
-        "{task}"
-    );
+    let most = layer_bound(counts(&task.table));
+    assert!(planned.plan.layers as usize <= most, "{task}");
     match planned.plan.answer {
         Answer::NoPlan => {
             assert!(!bound.goal, "{task}");
@@ -34,7 +35,7 @@ pub fn check_meaning(task: &Task, planned: Result<Planned, Refusal>) -> Option<P
         Answer::Layer(_) => {
             assert!(bound.goal, "{task}");
             assert!(solves(task, &planned.records), "{task}");
-            check_first_moves(task, &planned);
+            check_way_down(task, &planned);
         }
     }
     Some(planned)
@@ -54,33 +55,14 @@ pub fn solves(task: &Task, records: &[(u64, u64)]) -> bool {
     fast
 }
 
-/// The set of first moves is empty exactly at answer layer 0. Each of its moves is usable in layer 0 and
-/// brings about something that layer 1 is the first to have. The moves of the first records, taken at
-/// layer 0, are among them.
-fn check_first_moves(task: &Task, planned: &Planned) {
-    let first = planned.plan.first;
-    walked(&task.table, &planned.memory, planned.plan, |walk| {
-        assert_eq!(walk.records(), planned.records, "{task}");
-        let at_0 = walk.taken.is_empty();
-        assert_eq!(first == 0, at_0, "empty at answer layer 0 only: {task}");
-        for b in (0..64).filter(|b| first >> b & 1 == 1) {
-            let usable = walk.memory.moves.get(b) == Some(&0);
-            assert!(usable, "move {b} is not usable in layer 0: {task}");
-            assert!(brings_something(walk, b), "move {b} brings nothing: {task}");
-        }
-        for (mv, _) in walk.taken.iter().take(1).flatten() {
-            assert!(first >> mv & 1 == 1, "move {mv} is missing: {task}");
-        }
+/// The way down from the layers in memory has these records, and gives exactly this set of helpful moves.
+fn check_way_down(task: &Task, planned: &Planned) {
+    let table = parse_table(&task.table).expect("the task is accepted");
+    walked(&table, &planned.memory, planned.plan.answer, |walk| {
+        assert_eq!(walk.records(), planned.records, "records of {task}");
+        let set = helpful_moves(walk);
+        assert_eq!(planned.plan.first, set, "helpful moves of {task}");
     });
-}
-
-/// Whether a move adds a proposition that layer 1 is the first to have, or has an effect on a variable
-/// that is larger there than in layer 0.
-fn brings_something(walk: &Walk, b: usize) -> bool {
-    let Walk { table, memory, .. } = walk;
-    let risen = |variable| walk.value(variable, 1) > walk.value(variable, 0);
-    table.moves[b].added().any(|p| memory.propositions[p] == 1)
-        || table.moves[b].effects().any(|e| risen(e.variable))
 }
 
 #[cfg(test)]
@@ -90,67 +72,92 @@ mod tests {
     use crate::harness::planned;
     use crate::hex::bytes;
 
-    /// Moves 0 and 2 add p0, move 1 does so where p1 is true, move 3 deletes p1, and move 4 adds p2
-    /// where p0 is true. The goal is p2. The set is changed before it is checked.
-    fn check_changed(change: fn(u64) -> u64) {
-        let table = "4e 03 00 05; 41 2b 00; 41 50 01 2b 00; 41 2b 00; 41 2d 01; 41 50 00 2b 02; \
-                     47 50 02; 45";
-        let [table, state] = [table, "00 00 00"].map(bytes);
+    /// Checks the plan of a task after a change.
+    fn check_changed(table: &str, state: &str, change: impl FnOnce(&mut Planned)) {
+        let [table, state] = [table, state].map(bytes);
         let task = Task { table, state };
         let mut planned = planned(&REFERENCE, &task.table, &task.state).expect("a plan");
-        assert_eq!(planned.plan.first, 0b101);
-        planned.plan.first = change(planned.plan.first);
+        change(&mut planned);
         check_meaning(&task, Ok(planned));
+    }
+
+    /// Moves 0 and 2 add p0, move 1 does so where p1 is true, move 3 deletes p1, move 4 adds p2 where p0
+    /// is true, and move 5 adds p1. The goal is p2. Another set takes the place of 101.
+    fn check_set(set: u64) {
+        let table =
+            "4e 03 00 06; 41 2b 00; 41 50 01 2b 00; 41 2b 00; 41 2d 01; 41 50 00 2b 02; 41 2b 01; \
+                     47 50 02; 45";
+        check_changed(table, "00 00 00", |planned| {
+            assert_eq!(planned.plan.first, 0b101);
+            planned.plan.first = set;
+        });
     }
 
     #[test]
     fn the_set_of_the_reference_passes() {
-        check_changed(|set| set);
+        check_set(0b101);
     }
 
     #[test]
-    #[should_panic(expected = "empty at answer layer 0 only")]
+    #[should_panic(expected = "helpful moves of")]
     fn an_empty_set_is_found() {
-        check_changed(|_| 0);
+        check_set(0);
     }
 
     #[test]
-    #[should_panic(expected = "move 1 is not usable in layer 0")]
-    fn a_move_that_cannot_run_is_found() {
-        check_changed(|set| set | 1 << 1);
-    }
-
-    #[test]
-    #[should_panic(expected = "move 4 is not usable in layer 0")]
-    fn a_move_that_runs_later_is_found() {
-        check_changed(|set| set | 1 << 4);
-    }
-
-    #[test]
-    #[should_panic(expected = "move 5 is not usable in layer 0")]
-    fn a_move_that_the_table_does_not_have_is_found() {
-        check_changed(|set| set | 1 << 5);
-    }
-
-    #[test]
-    #[should_panic(expected = "move 3 brings nothing")]
-    fn a_move_that_brings_nothing_is_found() {
-        check_changed(|set| set | 1 << 3);
-    }
-
-    #[test]
-    #[should_panic(expected = "move 0 is missing")]
+    #[should_panic(expected = "helpful moves of")]
     fn a_missing_move_of_the_plan_is_found() {
-        check_changed(|set| set & !1);
+        check_set(0b100);
     }
 
     #[test]
-    #[should_panic(expected = "empty at answer layer 0 only")]
+    #[should_panic(expected = "helpful moves of")]
+    fn a_missing_move_that_the_plan_does_not_take_is_found() {
+        check_set(0b001);
+    }
+
+    #[test]
+    #[should_panic(expected = "helpful moves of")]
+    fn a_move_that_cannot_run_is_found() {
+        check_set(0b101 | 1 << 1);
+    }
+
+    #[test]
+    #[should_panic(expected = "helpful moves of")]
+    fn a_move_that_brings_nothing_is_found() {
+        check_set(0b101 | 1 << 3);
+    }
+
+    #[test]
+    #[should_panic(expected = "helpful moves of")]
+    fn a_move_that_runs_later_is_found() {
+        check_set(0b101 | 1 << 4);
+    }
+
+    #[test]
+    #[should_panic(expected = "helpful moves of")]
+    fn a_move_that_brings_something_else_is_found() {
+        check_set(0b101 | 1 << 5);
+    }
+
+    #[test]
+    #[should_panic(expected = "helpful moves of")]
+    fn a_move_that_the_table_does_not_have_is_found() {
+        check_set(0b101 | 1 << 63);
+    }
+
+    #[test]
+    #[should_panic(expected = "helpful moves of")]
     fn a_set_at_answer_layer_0_is_found() {
-        let [table, state] = ["4e 01 00 01 41 2b 00 47 50 00 45", "01"].map(bytes);
-        let task = Task { table, state };
-        let mut planned = planned(&REFERENCE, &task.table, &task.state).expect("a plan");
-        planned.plan.first = 1;
-        check_meaning(&task, Ok(planned));
+        let table = "4e 01 00 01 41 2b 00 47 50 00 45";
+        check_changed(table, "01", |planned| planned.plan.first = 1);
+    }
+
+    /// Move 1 does what move 0 does, and so the list still solves the task.
+    #[test]
+    #[should_panic(expected = "records of")]
+    fn a_move_other_than_the_lowest_is_found() {
+        let table = "4e 01 00 02 41 2b 00 41 2b 00 47 50 00 45";
+        check_changed(table, "00", |planned| planned.records = vec![(1, 1)]);
     }
 }

@@ -1,6 +1,6 @@
 //! The entries and layers that a planning call leaves in memory, read as the specification says.
 
-use crate::reference::table::{Block, Condition, Table, Term};
+use crate::reference::table::{Block, Condition, Term};
 
 pub struct Memory<'m> {
     /// For each proposition the first layer that has it.
@@ -11,15 +11,15 @@ pub struct Memory<'m> {
 }
 
 impl<'m> Memory<'m> {
-    /// That of a normal table, up to the number of the last layer.
-    pub fn new(table: &Table, numbers: &'m [i64], last: u64) -> Memory<'m> {
-        let (propositions, rest) = numbers.split_at(table.propositions);
-        let (moves, values) = rest.split_at(table.moves.len());
-        let (n, last) = (table.variables, last as usize);
+    /// That of a normal table with these counts, up to the number of the last layer.
+    pub fn new([p, n, a]: [usize; 3], numbers: &'m [i64], last: u64) -> Memory<'m> {
+        let (propositions, rest) = numbers.split_at(p);
+        let (moves, values) = rest.split_at(a);
+        let layer = |t: usize| &values[n * t..n * (t + 1)];
         Memory {
             propositions,
             moves,
-            layers: (0..=last).map(|t| &values[n * t..n * (t + 1)]).collect(),
+            layers: (0..=last as usize).map(layer).collect(),
         }
     }
 

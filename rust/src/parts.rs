@@ -1,6 +1,8 @@
 //! The parts of a table's goal as they stand in its bytes, and which of them layers in memory meet.
 
 use crate::commands::commands;
+use crate::memory::Memory;
+use crate::room;
 use std::ops::Range;
 
 /// A 50 or a 43 of a goal.
@@ -67,33 +69,25 @@ pub fn goal_parts(table: &[u8]) -> Vec<Part> {
 }
 
 /// The layers of a normal table in the memory that `decide` was lent.
-pub struct Stored<'m> {
-    propositions: &'m [i64],
-    layers: Vec<&'m [i64]>,
-}
+pub struct Stored<'m>(Memory<'m>);
 
 impl<'m> Stored<'m> {
     /// Those up to the number of the last one.
     pub fn new(table: &[u8], memory: &'m [i64], last: u64) -> Stored<'m> {
-        let [p, n, a] = [1, 2, 3].map(|i| usize::from(table[i]));
-        let layer = |t: usize| &memory[p + a + n * t..p + a + n * (t + 1)];
-        Stored {
-            propositions: &memory[..p],
-            layers: (0..=last as usize).map(layer).collect(),
-        }
+        Stored(Memory::new(room::counts(table), memory, last))
     }
 
     /// The number of the last layer.
     pub fn last(&self) -> usize {
-        self.layers.len() - 1
+        self.0.layers.len() - 1
     }
 
     /// Whether a layer meets a part.
     pub fn meets(&self, part: &Part, layer: usize) -> bool {
         match &part.needs {
-            Needs::Proposition(p) => (0..=layer as i64).contains(&self.propositions[*p]),
+            Needs::Proposition(p) => self.0.has(*p, layer),
             Needs::Sum(terms, _, constant) => {
-                let value = |(v, w): &(usize, i64)| i128::from(self.layers[layer][*v] * *w);
+                let value = |(v, w): &(usize, i64)| i128::from(self.0.layers[layer][*v] * *w);
                 self.unbounded(part, layer)
                     || terms.iter().map(value).sum::<i128>() >= i128::from(*constant)
             }
@@ -102,7 +96,7 @@ impl<'m> Stored<'m> {
 
     /// Whether a part is a sum with an unbounded term.
     pub fn unbounded(&self, part: &Part, layer: usize) -> bool {
-        let values = self.layers[layer];
+        let values = self.0.layers[layer];
         part.terms().iter().any(|(v, _)| values[*v] == i64::MAX)
     }
 
@@ -111,7 +105,7 @@ impl<'m> Stored<'m> {
         match &part.needs {
             Needs::Proposition(_) => self.meets(part, layer),
             Needs::Sum(terms, _, constant) => {
-                let value = |(v, w): &(usize, i64)| self.layers[layer][*v].wrapping_mul(*w);
+                let value = |(v, w): &(usize, i64)| self.0.layers[layer][*v].wrapping_mul(*w);
                 terms.iter().map(value).fold(0, i64::wrapping_add) >= *constant
             }
         }

@@ -1,5 +1,10 @@
 //! How much memory always suffices: for a normal table with the counts P, N and A, and for text.
 
+/// P, N and A in the head of a normal table.
+pub fn counts(table: &[u8]) -> [usize; 3] {
+    [1, 2, 3].map(|i| usize::from(table[i]))
+}
+
 /// The most layers that are ever reported: a theorem about the definitions.
 pub fn layer_bound([_, n, a]: [usize; 3]) -> usize {
     (a + n + 1) * (n + 1)

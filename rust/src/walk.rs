@@ -1,9 +1,10 @@
-//! The way down a plan, worked out from a table and from the layers in memory, without the reference:
-//! what is wanted at each layer, and which moves are taken for it.
+//! The way down a plan, worked out from a table and from the layers in memory: what is wanted at each
+//! layer, and which moves are taken for it.
+//!
+//! Without the reference's planner, whose rules stand here a second time: an error in one of the two shows.
 
-use crate::answer::{Answer, Plan};
+use crate::answer::Answer;
 use crate::memory::Memory;
-use crate::reference::parse_table;
 use crate::reference::table::{Block, Change, Effect, Table, Term};
 use std::collections::{BTreeMap, BTreeSet};
 
@@ -36,31 +37,27 @@ pub struct Walk<'w> {
     pub taken: Vec<Taken>,
 }
 
-/// Shows the way down a plan of an accepted normal table, with the layers that it left in memory;
+/// Shows the way down from the answer of a planning call, with the layers that it left in memory;
 /// there is none with "no plan".
 ///
 /// # Panics
-/// If the table is refused, or as `Walk::new`.
+/// If no usable move brings about what a layer has and the one below it does not.
 pub fn walked<R>(
-    table: &[u8],
+    table: &Table,
     numbers: &[i64],
-    plan: Plan,
+    answer: Answer,
     look: impl FnOnce(&Walk) -> R,
 ) -> Option<R> {
-    let Answer::Layer(answer) = plan.answer else {
+    let Answer::Layer(last) = answer else {
         return None;
     };
-    let table = parse_table(table).expect("an accepted table");
-    let memory = Memory::new(&table, numbers, answer);
-    Some(look(&Walk::new(&table, &memory)))
+    let memory = Memory::new(table.counts(), numbers, last);
+    Some(look(&Walk::new(table, &memory)))
 }
 
 impl<'w> Walk<'w> {
     /// Down from the last layer in memory, which meets the goal.
-    ///
-    /// # Panics
-    /// If no usable move brings about what a layer has and the one below it does not.
-    pub fn new(table: &'w Table, memory: &'w Memory<'w>) -> Walk<'w> {
+    fn new(table: &'w Table, memory: &'w Memory<'w>) -> Walk<'w> {
         let answer = memory.layers.len() - 1;
         let mut walk = Walk {
             table,

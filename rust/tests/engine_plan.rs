@@ -62,31 +62,37 @@ fn memories_and_outputs_around_what_is_needed() {
     assert!(found.iter().all(|count| *count > 500), "{found:?}");
 }
 
-/// Answers, and faults in the set by how many calls show them.
+/// Answers, and each fault in the set, by the calls that show them: about 70 % of what is found.
 fn expect_shares(shares: &Shares) {
-    shares.expect_faults(100);
+    shares.expect_faults(85);
     shares.expect(&[
-        ("no plan", 5_000),
+        ("no plan", 4_600),
         ("answer layer 0", 6_000),
-        ("answer layer 1", 7_000),
-        ("a later answer layer", 9_000),
-        ("the moves that the plan takes", 8_000),
-        ("the set has 32 bits", 3_000),
-        ("a move need not be usable", 10_000),
-        ("a move may be usable in a later layer", 5_000),
-        ("a proposition that layer 0 has counts", 2_000),
-        ("a target that layer 0 reaches counts", 2_500),
-        ("a target that layer 0 just reaches counts", 1_000),
-        ("propositions only", 10_000),
-        ("targets only", 9_000),
-        ("effects have their values of layer 1", 3_000),
-        ("+= 0 reaches a target", 1_100),
-        ("every += reaches a target", 4_000),
-        (":= has to exceed its target", 5_000),
-        ("the wants are the goal's", 7_000),
-        ("what is handed down to layer 1 is not wanted there", 3_500),
-        ("a target is the value of layer 1", 550),
-        ("a set at answer layer 0", 1_800),
+        ("answer layer 1", 6_500),
+        ("a later answer layer", 8_100),
+        ("the moves that the plan takes", 6_700),
+        ("the set has 32 bits", 2_600),
+        ("a move need not be usable", 9_700),
+        ("a move may be usable in a later layer", 4_500),
+        ("a proposition that layer 0 has counts", 1_700),
+        ("a target that layer 0 reaches counts", 2_100),
+        ("a target that layer 0 just reaches counts", 870),
+        ("propositions only", 9_800),
+        ("targets only", 7_900),
+        ("effects have their values of layer 1", 2_900),
+        ("effects have values of 32 bits", 85),
+        ("+= 0 reaches a target", 950),
+        ("every += reaches a target", 3_500),
+        ("+= has to give as much as the target", 4_500),
+        (":= has to be above 0 only", 3_100),
+        (":= has to exceed its target", 4_000),
+        ("the wants are the goal's", 6_400),
+        ("what is handed down to layer 1 is not wanted there", 3_000),
+        ("a target is the value of layer 1", 490),
+        ("whatever a move brings counts", 7_100),
+        ("only the first effect of a move counts", 5_800),
+        ("only the first addition of a move counts", 960),
+        ("a set at answer layer 0", 1_500),
     ]);
 }
 
@@ -106,8 +112,8 @@ fn tasks_at_the_edges() {
     }
     tally.expect(15_000, &[0, 13, 14, 15]);
     let shares = tally.planning();
-    shares.expect(&[("a later answer layer", 800), ("the set has 32 bits", 90)]);
-    shares.expect(&[("the moves that the plan takes", 250)]);
+    shares.expect(&[("a later answer layer", 740), ("the set has 32 bits", 78)]);
+    shares.expect(&[("the moves that the plan takes", 220)]);
     let large = counts.iter().filter(|count| **count > 10_000_000_000);
     assert!(large.count() > 20, "large counts are needed");
 }
@@ -168,7 +174,7 @@ fn damaged_tables_and_states() {
     tally.expect(20_000, &[0, 2, 3, 4, 5, 6, 7, 8, 9, 13, 14, 16]);
     tally
         .planning()
-        .expect(&[("the moves that the plan takes", 100)]);
+        .expect(&[("the moves that the plan takes", 110)]);
 }
 
 #[test]

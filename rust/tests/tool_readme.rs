@@ -1,8 +1,8 @@
 //! What the README files show of `lapyndo` is what it prints.
 
 use crate::common::folder::{examples, repository, Folder};
+use crate::common::rows::rows;
 use crate::tool::lapyndo;
-use crate::tool_rewrite::rows;
 use campaign::answer::Answer;
 use campaign::engine::Engine;
 use campaign::harness::campaigned;
@@ -108,10 +108,11 @@ fn an_example_shows_helpful_moves() {
     let page = String::from_utf8(page).expect("text");
     assert_eq!(check_shown(&copy(), &page), ["plan", "step"]);
     let rows = page.lines().filter(|line| line.matches('|').count() == 5);
-    let said: Vec<bool> = rows.skip(2).map(|row| row.contains("| yes")).collect();
+    let rows: Vec<&str> = rows.skip(2).collect();
+    assert_eq!(rows.len(), 8);
+    let said = (0..).zip(rows).filter(|(_, row)| row.contains("| yes"));
     let planned = campaigned(&PROVED, &table, &state).expect("an accepted campaign");
-    let helpful = (0..8).map(|mv| planned.plan.first >> mv & 1 == 1);
-    assert_eq!(said, helpful.collect::<Vec<bool>>());
+    assert!(planned.plan.helpful().eq(said.map(|(mv, _)| mv)));
     for moves in [&[1, 1, 1, 7][..], &[2, 2, 7], &[4, 7]] {
         check_solves(&table, &state, moves);
     }

@@ -1,6 +1,7 @@
 //! `lapyndo rewrite`: what it says and writes of stored tables, and which files it leaves alone.
 
 use crate::common::folder::{Folder, Printed};
+use crate::common::rows::rows;
 use crate::tool::{check_sessions, lapyndo};
 use crate::tool_use::complaint;
 use campaign::generate::{task_of, Rng};
@@ -75,15 +76,6 @@ fn stored(rng: &mut Rng, kind: Kind) -> Stored {
         moves,
         table,
     }
-}
-
-/// The numbers and the text of lines such as `  a12  byte 40: needs p0`, parted by a word.
-pub fn rows<'t>(text: &'t str, part: &'t str) -> impl Iterator<Item = (usize, &'t str)> {
-    let lines = text.lines().filter_map(|line| line.strip_prefix("  a"));
-    lines.filter_map(move |line| {
-        let (number, said) = line.split_once(part)?;
-        Some((number.trim_end().parse().expect("a number"), said))
-    })
 }
 
 /// Checks what is said of each move of the stored table against the bytes of both tables.

@@ -2,6 +2,7 @@
 //! engine as goals of their own.
 
 use crate::common::folder::Folder;
+use crate::common::rows::row;
 use crate::tool::lapyndo;
 use campaign::answer::Answer;
 use campaign::generate::{task_of, Rng, Task};
@@ -101,12 +102,6 @@ impl Moves {
         });
         placed.collect()
     }
-}
-
-/// What follows a label on its line.
-pub fn row<'t>(text: &'t str, label: &str) -> Option<&'t str> {
-    let label = format!("{label:10}");
-    text.lines().find_map(|line| line.strip_prefix(&label))
 }
 
 /// The number at the end of a text.

@@ -34,7 +34,7 @@
 --
 -- Helpful: the set of helpful moves: bit b is set exactly if the sentence of document 02 holds of move b; every move that the plan takes at
 -- layer 0 is in it; it is empty exactly with answer layer 0 and "no plan"; a helpful move's conditions hold in the state, from bytes.
---   Meaning.helpful-means; Taken.taken-helpful; NeverEmpty.helpful-empty; Calls.plan-set, found-set, found-allowed; Cases
+--   Meaning.helpful-means; Taken.taken-helpful; NeverEmpty.helpful-empty; Calls.plan-set, found-set, found-steps; Cases
 --
 -- Blocking: the goal part that blocks: the first part that the last layer does not meet, and where its command stands; the answer, case
 -- by case with that of decide; it is the true reason of "no plan", in the normal table and in the written one, from bytes to the answer.
@@ -57,7 +57,8 @@
 --   Solving.dropped-solves, back-solves, back-again; Accepted.rewrite-right; Refusals.stored-accepts, stored-refuses, never-16;
 --   Refused.first-refused, some-refused, still-accepted, read-refused, written-refused, normal-refused; Sizes.byte-for-byte, rewrite-length,
 --   rewrote-whole, never-13, answers-no-16; Twice.rewrote-twice, same-output; Normal.either-order, never-makes-16, relaxed-forth, relaxed-back;
---   Layers.same-outcome, same-build; Plans.same-records, same-list; Helpful.same-helpful, idle-never; EndToEnd.same-campaign, answers-old; Cases; Instance
+--   Layers.same-outcome, same-build; Plans.same-wants, same-records, same-list; Helpful.same-helpful, helpful-back, idle-never;
+--   EndToEnd.same-campaign, answers-old; Cases; Instance
 -- Assumes nothing.
 pub mod Laws
 pub mod Reading

@@ -17,7 +17,7 @@ pub struct Bench {
 
 impl Bench {
     pub fn new(name: &str, task: Task) -> Bench {
-        let counts = [1, 2, 3].map(|i| usize::from(task.table[i]));
+        let counts = room::counts(&task.table);
         let bytes = 64_000 + room::record_bytes(counts);
         Bench {
             name: name.into(),

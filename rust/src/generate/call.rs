@@ -134,7 +134,7 @@ fn any_task(rng: &mut Rng, kind: Kind) -> Task {
         _ => task(rng, kind),
     };
     if kind == Kind::Normal && rng.chance(1, 2) {
-        task = normalised(task);
+        task = task.in_normal_form();
     }
     if rng.chance(1, 3) {
         task = helpful(rng, &task);
@@ -146,14 +146,6 @@ fn any_task(rng: &mut Rng, kind: Kind) -> Task {
         task.state = wrong_state(rng, &task.state);
     }
     task
-}
-
-/// The task with the normal form of its table, if that is a written one.
-fn normalised(task: Task) -> Task {
-    match parse_table(&task.table) {
-        Ok(table) if table.kind == Kind::Written => task.normal(),
-        _ => task,
-    }
 }
 
 fn spoilt_task(rng: &mut Rng, kind: Kind) -> Task {
@@ -247,7 +239,7 @@ fn planning_call(rng: &mut Rng, task: &Task) -> Call {
 }
 
 fn campaign_of(rng: &mut Rng, task: &Task) -> Call {
-    let (numbers, room) = planning_sizes(rng, &normalised(task.clone()));
+    let (numbers, room) = planning_sizes(rng, &task.in_normal_form());
     task.campaign(around(rng, normal_length(&task.table)), numbers, room)
 }
 

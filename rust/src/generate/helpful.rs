@@ -1,16 +1,15 @@
 //! More moves for a table, which help with what is wanted at layer 1 or nearly do.
 
 use super::rng::Rng;
-use super::task::Task;
-use crate::answer::Answer;
-use crate::memory::Memory;
+use super::task::{in_normal_form, Task};
+use super::tuned::terms_of;
 use crate::reference::table::{
     Block, Change, Comparison, Condition, Effect, Item, Kind, Table, Term, MOVE_LIMIT,
     NUMBER_LIMIT, PROPOSITION_LIMIT, TERM_LIMIT, WEIGHT_LIMIT,
 };
-use crate::reference::{decide, normal_form, parse_table, parse_task, State};
+use crate::reference::{decide, parse_table, parse_task, State};
 use crate::room;
-use crate::walk::Walk;
+use crate::walk::{walked, Walk};
 
 /// The task with such moves anywhere among its own, a few or as many as there is room for, half of the
 /// time with a goal some layers further, and now and then with more variables, of large values. A task
@@ -77,34 +76,32 @@ fn put_moves(rng: &mut Rng, table: &mut Table, moves: Vec<Block>) {
     }
 }
 
-/// As many moves as there is room for, or fewer; none without a plan.
+/// Such moves by the way down the task's plan; none without a plan.
 fn more_moves(rng: &mut Rng, table: &Table, state: &[u8]) -> Option<Vec<Block>> {
+    let normal = in_normal_form(table.clone());
+    let mut numbers = vec![0; room::layer_numbers(normal.counts())];
+    let answer = decide(&normal.encode(), state, &mut numbers).ok()?.answer;
+    walked(&normal, &numbers, answer, |walk| {
+        moves_for(rng, table, walk)
+    })
+}
+
+/// As many moves as there is room for, or fewer.
+fn moves_for(rng: &mut Rng, table: &Table, walk: &Walk) -> Vec<Block> {
     let free = MOVE_LIMIT - table.moves.len();
-    let normal = match table.kind {
-        Kind::Written => normal_form(table),
-        Kind::Normal => table.clone(),
-    };
-    let counts = [normal.propositions, normal.variables, normal.moves.len()];
-    let mut numbers = vec![0; room::layer_numbers(counts)];
-    let decision = decide(&normal.encode(), state, &mut numbers).ok()?;
-    let Answer::Layer(answer) = decision.answer else {
-        return None;
-    };
-    let memory = Memory::new(&normal, &numbers, answer);
-    let walk = Walk::new(&normal, &memory);
     let count = match rng.below(16) {
         0 => free,
         _ => free.min(1 + rng.below(5)),
     };
     let mut blocks: Vec<Block> = (0..count)
-        .map(|_| Helper::new(rng, table.kind, &walk).block(table))
+        .map(|_| Helper::new(rng, table.kind, walk).block(table))
         .filter(|block| !block.is_idle())
         .collect();
     if rng.chance(1, 2) {
-        blocks.splice(..0, late_growth(rng, table.kind, &walk));
+        blocks.splice(..0, late_growth(rng, table.kind, walk));
     }
     blocks.truncate(free);
-    Some(blocks)
+    blocks
 }
 
 /// Moves that set a variable of the goal to several values, and one that lets it grow from layer 1
@@ -283,7 +280,7 @@ impl<'h, 'w> Helper<'h, 'w> {
         let names = self.rng.subset(TERM_LIMIT, self.walk.table.variables / 2);
         let falls = usize::from(self.rng.chance(1, 4));
         let upwards = |i: &usize| usize::from(self.walk.value(2 * i, 0) < 0) ^ falls;
-        let (variable, terms) = match self.kind {
+        let (variable, terms): (usize, Vec<_>) = match self.kind {
             Kind::Normal => {
                 let term = |i: usize| (2 * i + upwards(&i), WEIGHT_LIMIT);
                 (signed, names.into_iter().map(term).collect())
@@ -295,7 +292,7 @@ impl<'h, 'w> Helper<'h, 'w> {
             }
         };
         Item::Effect(Effect {
-            terms: terms_of(terms),
+            terms: terms_of(&terms),
             change,
             variable,
             constant: 0,
@@ -382,9 +379,4 @@ impl<'h, 'w> Helper<'h, 'w> {
             constant,
         }))
     }
-}
-
-fn terms_of(terms: Vec<(usize, i128)>) -> Vec<Term> {
-    let term = |(variable, weight)| Term { variable, weight };
-    terms.into_iter().map(term).collect()
 }

@@ -36,7 +36,7 @@ impl Sizes {
                 records: 0,
             };
         };
-        let [p, n, a] = [table.propositions, table.variables, table.moves.len()];
+        let [p, n, a] = table.counts();
         let mut memory = vec![0; room::layer_numbers([p, n, a])];
         let mut out = vec![0; room::record_bytes([p, n, a])];
         let answer = plan(&task.table, &task.state, &mut memory, &mut out);

@@ -2,6 +2,7 @@
 
 use crate::call::{Call, CallKind};
 use crate::hex::hex;
+use crate::reference::table::{Kind, Table};
 use crate::reference::{normal_form, parse_table};
 use std::fmt;
 
@@ -22,6 +23,14 @@ impl Task {
         Task {
             table: normal_form(&written).encode(),
             state: self.state.clone(),
+        }
+    }
+
+    /// The same if its table is a written one; a task with any other table as it is.
+    pub fn in_normal_form(&self) -> Task {
+        match parse_table(&self.table) {
+            Ok(table) if table.kind == Kind::Written => self.normal(),
+            _ => self.clone(),
         }
     }
 
@@ -85,6 +94,14 @@ impl Task {
             room,
             ..self.call(CallKind::Pddl)
         }
+    }
+}
+
+/// The normal form of a written table; a normal table as it is.
+pub fn in_normal_form(table: Table) -> Table {
+    match table.kind {
+        Kind::Written => normal_form(&table),
+        Kind::Normal => table,
     }
 }
 

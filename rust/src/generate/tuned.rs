@@ -373,7 +373,7 @@ fn effect(change: Change, variable: usize, terms: &[(usize, i128)], constant: i1
     })
 }
 
-fn terms_of(terms: &[(usize, i128)]) -> Vec<Term> {
+pub(super) fn terms_of(terms: &[(usize, i128)]) -> Vec<Term> {
     let term = |&(variable, weight)| Term { variable, weight };
     terms.iter().map(term).collect()
 }

@@ -7,6 +7,7 @@ use crate::commands::commands;
 use crate::engine::{Calls, FindBlocking};
 use crate::parts::{goal_parts, Needs, Part, Stored};
 use crate::reference::{blocking, decide, normal_form, parse_table};
+use crate::room;
 use std::ops::Range;
 
 pub const BLOCKING: [Impostor; 22] = [
@@ -255,7 +256,7 @@ fn mirrored_bytes(table: &[u8]) -> usize {
 /// Where the last layer stands in memory after "no plan".
 fn last_layer(table: &[u8], state: &[u8], layers: &[i64]) -> Option<Range<usize>> {
     let decision = decide(table, state, &mut layers.to_vec()).ok()?;
-    let [p, n, a] = [1, 2, 3].map(|i| usize::from(table[i]));
+    let [p, n, a] = room::counts(table);
     let start = p + a + n * decision.layers as usize;
     (decision.answer == Answer::NoPlan).then_some(start..start + n)
 }

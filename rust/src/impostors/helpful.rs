@@ -1,12 +1,13 @@
 //! Engines with a fault in plan's set of helpful moves.
 
 use super::{Impostor, HONEST};
-use crate::answer::{Answer, Plan, Refusal};
+use crate::answer::{bits, Answer, Plan, Refusal};
 use crate::call::CallKind;
 use crate::engine::Calls;
-use crate::helpful::FAULTS;
+use crate::helpful::{plan_with, FAULTS};
+use crate::memory::Memory;
 use crate::reference::plan;
-use crate::walk::walked;
+use crate::room;
 
 /// The calls that answer the set.
 const KINDS: &[CallKind] = &[CallKind::Plan, CallKind::Campaign];
@@ -70,45 +71,12 @@ fn planned<const FAULT: usize>(
     out: &mut [u8],
 ) -> Result<Plan, Refusal> {
     let plan = plan(table, state, layers, out)?;
-    let first = walked(table, layers, plan, FAULTS[FAULT].set);
-    Ok(Plan {
-        first: first.unwrap_or(0),
-        ..plan
-    })
+    Ok(plan_with(FAULTS[FAULT].set, plan, table, layers))
 }
 
 /// The moves whose entry in memory is 0.
 fn used_in_layer_0(table: &[u8], layers: &[i64]) -> u64 {
-    let [p, a] = [1, 3].map(|i| usize::from(table[i]));
-    let entries = (0..).zip(&layers[p..p + a]);
-    let used = entries.filter(|(_, entry)| **entry == 0);
-    used.fold(0, |set, (b, _): (u32, _)| set | 1 << b)
-}
-
-#[cfg(test)]
-mod tests {
-    use super::*;
-    use crate::engine::REFERENCE;
-    use crate::generate::{campaign_call, plan_call, Rng};
-    use crate::harness::compare;
-    use crate::helpful::helpful_moves;
-
-    /// What the impostors are made of finds what the reference does.
-    #[test]
-    fn an_honest_rule_is_the_references() {
-        let honest = Calls {
-            plan: |table, state, layers, out| {
-                let plan = plan(table, state, layers, out)?;
-                let first = walked(table, layers, plan, helpful_moves).unwrap_or(0);
-                Ok(Plan { first, ..plan })
-            },
-            ..HONEST
-        };
-        let mut rng = Rng::new(722);
-        for _ in 0..1_000 {
-            for call in [plan_call(&mut rng), campaign_call(&mut rng)] {
-                compare(&call, &REFERENCE, &honest).unwrap();
-            }
-        }
-    }
+    let memory = Memory::new(room::counts(table), layers, 0);
+    let entries = (0..).zip(memory.moves);
+    bits(entries.filter(|(_, entry)| **entry == 0).map(|(b, _)| b))
 }

@@ -153,7 +153,7 @@ pub fn decide(table: &[u8], state: &[u8], layers: &mut [i64]) -> Result<u32, Ref
     })
 }
 
-/// Writes the number of records and the set of first moves in an answer only.
+/// Writes the number of records and the set of helpful moves in an answer only.
 pub fn plan(
     table: &[u8],
     state: &[u8],

@@ -199,6 +199,11 @@ pub struct Table {
 }
 
 impl Table {
+    /// P, V or N, and A.
+    pub fn counts(&self) -> [usize; 3] {
+        [self.propositions, self.variables, self.moves.len()]
+    }
+
     /// How many values a state has: one for each written variable.
     pub fn state_values(&self) -> usize {
         match self.kind {

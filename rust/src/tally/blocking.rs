@@ -4,6 +4,7 @@ use super::Shares;
 use crate::call::Call;
 use crate::parts::{goal_parts, Needs, Part, Stored};
 use crate::reference::decide;
+use crate::room;
 
 /// Conditions that block, by their number of terms.
 const TERMS: [&str; 9] = [
@@ -88,6 +89,6 @@ impl Shares {
 
 /// Numbers of memory for the layers up to the last.
 fn needed(call: &Call, last: usize) -> usize {
-    let [p, n, a] = [1, 2, 3].map(|i| usize::from(call.table[i]));
+    let [p, n, a] = room::counts(&call.table);
     p + a + n * (last + 1)
 }

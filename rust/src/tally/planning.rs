@@ -1,12 +1,12 @@
 //! What calls of `plan` and `campaign` have to tell apart, counted.
 
 use super::Shares;
-use crate::call::{Call, CallKind, Outcome};
+use crate::answer::Answer;
+use crate::call::{Call, Outcome};
+use crate::generate::in_normal_form;
 use crate::helpful::FAULTS;
-use crate::memory::Memory;
-use crate::reference::table::Table;
-use crate::reference::{normal_form, parse_table};
-use crate::walk::Walk;
+use crate::reference::parse_table;
+use crate::walk::{walked, Walk};
 
 impl Shares {
     /// Takes note of a call and its outcome.
@@ -16,9 +16,11 @@ impl Shares {
             ["no", "plan", ..] => self.add_one("no plan", true),
             ["plan", "layer", layer, _, _, _, _, "first", set, ..] => {
                 let [layer, set] = [layer, set].map(|word| word.parse().expect("a number"));
-                let table = normal_table(call);
-                let memory = Memory::new(&table, outcome.layers(), layer);
-                self.add_plan(&Walk::new(&table, &memory), set);
+                let table = parse_table(&call.table).expect("an accepted table");
+                let answer = Answer::Layer(layer);
+                walked(&in_normal_form(table), outcome.layers(), answer, |walk| {
+                    self.add_plan(walk, set);
+                });
             }
             _ => {}
         }
@@ -41,14 +43,5 @@ impl Shares {
     /// If there are fewer.
     pub fn expect_faults(&self, least: usize) {
         self.expect(&FAULTS.map(|fault| (fault.trick, least)));
-    }
-}
-
-/// The normal table of an accepted call.
-fn normal_table(call: &Call) -> Table {
-    let table = parse_table(&call.table).expect("an accepted table");
-    match call.kind {
-        CallKind::Campaign => normal_form(&table),
-        _ => table,
     }
 }

@@ -4,5 +4,6 @@ pub mod folder;
 pub mod pddl_reader;
 pub mod refused;
 pub mod rooms;
+pub mod rows;
 pub mod tasks;
 pub mod words;

@@ -1,13 +1,12 @@
 //! Outcomes from before the set held helpful moves: where the set has grown, all else is as it was.
 
 use super::ENGINE;
-use campaign::answer::Plan;
 use campaign::call::{Call, CallKind, GROWN_SETS};
 use campaign::engine::{Calls, Engine, REFERENCE};
 use campaign::harness::{outcomes, run_lines};
-use campaign::helpful::taken_moves;
+use campaign::helpful::{plan_with, taken_moves};
+use campaign::proved;
 use campaign::reference::plan;
-use campaign::walk::walked;
 
 /// An outcome without its set, and the set.
 fn apart(outcome: &str) -> (String, u64) {
@@ -35,14 +34,20 @@ fn sets_have_grown_and_all_else_stays() {
     }
 }
 
-/// An engine whose set holds the moves taken at layer 0 gives every line from before.
+/// With the moves taken at layer 0 as its set, the plan of either engine is that of every line from before.
 #[test]
 fn the_sets_from_before_are_the_moves_taken() {
-    let engine = Calls {
+    let proved = Calls {
+        plan: |table, state, layers, out| {
+            let plan = proved::plan(table, state, layers, out)?;
+            Ok(plan_with(taken_moves, plan, table, layers))
+        },
+        ..Calls::NONE
+    };
+    let reference = Calls {
         plan: |table, state, layers, out| {
             let plan = plan(table, state, layers, out)?;
-            let first = walked(table, layers, plan, taken_moves).unwrap_or(0);
-            Ok(Plan { first, ..plan })
+            Ok(plan_with(taken_moves, plan, table, layers))
         },
         ..Calls::NONE
     };
@@ -51,7 +56,10 @@ fn the_sets_from_before_are_the_moves_taken() {
     let files: Vec<_> = before.chain([GROWN_SETS]).collect();
     assert_eq!(files.iter().map(|(_, lines)| lines).sum::<usize>(), 519);
     for (file, lines) in files {
-        let run = run_lines(&engine, CallKind::Plan, file, &outcomes(file));
-        assert_eq!(run, Ok(lines));
+        let text = outcomes(file);
+        for engine in [&proved, &reference] {
+            let run = run_lines(engine, CallKind::Plan, file, &text);
+            assert_eq!(run, Ok(lines));
+        }
     }
 }

@@ -32,12 +32,8 @@ fn answered(task: &Task) -> Planned {
 /// The helpful moves, and the moves of the records.
 fn moves_of(task: &Task) -> (Vec<u64>, Vec<u64>) {
     let planned = answered(task);
-    let first = planned.plan.first;
     let taken = planned.records.iter().map(|(mv, _)| *mv);
-    (
-        (0..64).filter(|b| first >> b & 1 == 1).collect(),
-        taken.collect(),
-    )
+    (planned.plan.helpful().collect(), taken.collect())
 }
 
 /// The helpful moves of a table in words.
@@ -50,7 +46,7 @@ fn m1_has_one_helpful_move() {
     assert_eq!(moves_of(&m1()), (vec![0], vec![0, 1, 2]));
 }
 
-/// The example of the readings: move 1 needs p1, which is not true at the start, and nothing wants p1.
+/// The example of docs/DECISIONS.md 6.3: move 1 needs p1, which is not true at the start, and nothing wants p1.
 #[test]
 fn a_move_has_to_be_usable_in_layer_0() {
     let moves: [&[Entry]; 3] = [&[adds(0)], &[needs(1), adds(0)], &[adds(1)]];

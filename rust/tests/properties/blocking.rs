@@ -36,7 +36,7 @@ fn blocked_tasks(seed: u64, count: usize) -> impl Iterator<Item = Task> {
 
 /// Numbers of memory for all layers.
 fn enough(task: &Task) -> usize {
-    room::layer_numbers([1, 2, 3].map(|i| usize::from(task.table[i])))
+    room::layer_numbers(room::counts(&task.table))
 }
 
 fn decided(engine: &dyn Engine, task: &Task) -> Result<Decision, Refusal> {

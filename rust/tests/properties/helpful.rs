@@ -1,25 +1,23 @@
 //! Helpful moves: which they are, and how the set changes with the table.
 
+mod probe;
+
 use crate::common::tasks::helpful_tasks;
-use campaign::answer::{Answer, Plan};
+use campaign::answer::{bits, Answer};
 use campaign::engine::{Engine, REFERENCE};
 use campaign::generate::{Rng, Task};
 use campaign::harness::{planned, Planned};
-use campaign::helpful::{helpful_moves, taken_moves};
+use campaign::helpful::taken_moves;
 use campaign::meaning::check_meaning;
+use campaign::memory::Memory;
 use campaign::proved::PROVED;
-use campaign::reference::table::{
-    Block, Change, Condition, Effect, Item, Table, Term, MOVE_LIMIT, NUMBER_LIMIT,
-};
+use campaign::reference::table::{Block, Change, Condition, Effect, Table, Term, MOVE_LIMIT};
 use campaign::reference::{parse_task, State};
-use campaign::walk::walked;
+use campaign::walk::{walked, Walk, Wants};
 
 const ENGINES: [&dyn Engine; 2] = [&REFERENCE, &PROVED];
 
-/// What a variable that grows without bound has in memory.
-const UNBOUNDED: i128 = i64::MAX as i128;
-
-/// Tasks of both kinds with their tables and states.
+/// Tasks with such moves, all with normal tables; these and the states as data.
 fn parsed_tasks(seed: u64, count: usize) -> impl Iterator<Item = (Task, Table, State)> {
     helpful_tasks(seed, count).map(|task| {
         let (table, state) = parse_task(&task.table, &task.state).expect("an accepted task");
@@ -46,28 +44,26 @@ fn has(set: u64, b: usize) -> bool {
     set >> b & 1 == 1
 }
 
-fn bits(moves: impl Iterator<Item = usize>) -> u64 {
-    moves.fold(0, |set, b| set | 1 << b)
+/// The moves of which this is true, with their numbers, as a set.
+fn set_of(moves: &[Block], is_in: impl Fn(usize, &Block) -> bool) -> u64 {
+    let moves = (0..).zip(moves);
+    bits(moves.filter_map(|(b, block)| is_in(b as usize, block).then_some(b)))
 }
 
-/// By the wants of layer 1 on the way down, which the test works out from the layers in memory.
+/// The set is what the way down gives, and the moves that the plan takes at layer 0 are among it.
 #[test]
 fn the_set_is_what_helps_with_the_wants_of_layer_1() {
     let (mut sets, mut larger) = ([0; 2], [0; 2]);
-    for task in helpful_tasks(80, 2_000) {
+    for (task, table, _) in parsed_tasks(80, 2_000) {
         for (i, engine) in ENGINES.into_iter().enumerate() {
             let planned = planned(engine, &task.table, &task.state);
             let Some(Planned { plan, memory, .. }) = check_meaning(&task, planned) else {
                 continue;
             };
-            let look = walked(&task.table, &memory, plan, |walk| {
-                (helpful_moves(walk), taken_moves(walk))
-            });
-            let (helpful, taken) = look.unwrap_or((0, 0));
-            assert_eq!(plan.first, helpful, "{task}");
+            let taken = walked(&table, &memory, plan.answer, taken_moves).unwrap_or(0);
             assert_eq!(plan.first & taken, taken, "{task}");
-            sets[i] += usize::from(helpful != 0);
-            larger[i] += usize::from(helpful != taken);
+            sets[i] += usize::from(plan.first != 0);
+            larger[i] += usize::from(plan.first != taken);
         }
     }
     assert!(sets.iter().all(|n| *n > 1_000), "{sets:?}");
@@ -107,16 +103,21 @@ fn a_copy_of_a_move_is_as_helpful() {
 #[test]
 fn the_order_of_entries_does_not_matter() {
     let mut rng = Rng::new(83);
+    let mut found = 0;
     for (task, mut table, _) in parsed_tasks(84, 1_000) {
         for block in table.blocks_mut() {
             rng.shuffle(&mut block.items);
         }
+        let table = table.encode();
         for engine in ENGINES {
             let was = planned(engine, &task.table, &task.state);
-            let is = planned(engine, &table.encode(), &task.state);
+            let is = planned(engine, &table, &task.state);
             assert_eq!(is, was, "{task}");
+            let has_set = is.is_ok_and(|is| is.plan.first != 0);
+            found += usize::from(has_set && table != task.table);
         }
     }
+    assert!(found > 1_000, "{found}");
 }
 
 /// Where the answer layer is 1 the wants are the goal's, whatever move the plan takes for them.
@@ -135,8 +136,8 @@ fn the_order_of_moves_does_not_matter_at_answer_layer_1() {
             let is = planned_with(engine, &task, &table, &moves).expect("the same layers");
             assert_eq!(is.plan.decision(), was.plan.decision(), "{task} {order:?}");
             if was.plan.answer == Answer::Layer(1) {
-                let places = (0..order.len()).filter(|i| has(was.plan.first, order[*i]));
-                assert_eq!(is.plan.first, bits(places), "{task} {order:?}");
+                let set = set_of(&moves, |i, _| has(was.plan.first, order[i]));
+                assert_eq!(is.plan.first, set, "{task} {order:?}");
                 found += usize::from(is.plan.first != was.plan.first);
             }
         }
@@ -144,35 +145,98 @@ fn the_order_of_moves_does_not_matter_at_answer_layer_1() {
     assert!(found > 500, "{found}");
 }
 
-/// The goal is still met after one layer if there are no other moves.
-#[test]
-fn helpful_moves_alone_are_enough_at_answer_layer_1() {
-    let (mut found, mut fewer) = (0, 0);
-    for (task, table, _) in parsed_tasks(87, 1_500) {
+/// A task whose answer layer is 1 or later, with its plan.
+struct Case<'c> {
+    engine: &'c dyn Engine,
+    task: &'c Task,
+    table: &'c Table,
+    state: &'c State,
+    was: &'c Planned,
+}
+
+/// Looks at each such task of a list, on both engines.
+fn each_case(tasks: impl Iterator<Item = (Task, Table, State)>, mut look: impl FnMut(&Case)) {
+    for (task, table, state) in tasks {
         for engine in ENGINES {
-            let Ok(was) = planned(engine, &task.table, &task.state) else {
-                continue;
-            };
-            if was.plan.answer != Answer::Layer(1) {
-                continue;
+            let was = planned(engine, &task.table, &task.state);
+            match was {
+                Ok(was) if matches!(was.plan.answer, Answer::Layer(1..)) => look(&Case {
+                    engine,
+                    task: &task,
+                    table: &table,
+                    state: &state,
+                    was: &was,
+                }),
+                _ => {}
             }
-            let moves = (0..).zip(&table.moves);
-            let helpful = moves.filter(|(b, _)| has(was.plan.first, *b));
-            let moves: Vec<Block> = helpful.map(|(_, block)| block.clone()).collect();
-            let is = planned_with(engine, &task, &table, &moves).expect("smaller values");
-            assert_eq!(is.plan.answer, Answer::Layer(1), "{task}");
-            found += 1;
-            fewer += usize::from(moves.len() < table.moves.len());
         }
     }
-    assert!(found > 400 && fewer > 300, "{found} {fewer}");
+}
+
+impl Case<'_> {
+    /// What is wanted at layer 1.
+    fn wants(&self) -> Wants {
+        let Planned { plan, memory, .. } = self.was;
+        let wants = |walk: &Walk| walk.wanted[1].clone();
+        walked(self.table, memory, plan.answer, wants).expect("a plan")
+    }
+
+    /// With the moves of a set alone: whether layer 1 has something that is wanted there and that layer 0
+    /// lacks, and the answer; none if a value of a later layer is too large.
+    fn brings(&self, set: u64, wants: &Wants) -> Option<(bool, Answer)> {
+        let moves = self.table.moves.iter().enumerate();
+        let chosen = moves.filter(|(b, _)| has(set, *b));
+        let moves: Vec<Block> = chosen.map(|(_, block)| block.clone()).collect();
+        let Planned { plan, memory, .. } =
+            planned_with(self.engine, self.task, self.table, &moves)?;
+        let [p, n, _] = self.table.counts();
+        let memory = Memory::new([p, n, moves.len()], &memory, plan.layers);
+        let is_new = |p: &usize| memory.propositions[*p] == 1;
+        let rises = |(v, target): (&usize, &i128)| {
+            let reached = [0, 1].map(|t| i128::from(memory.layers[t][*v]) >= *target);
+            reached == [false, true]
+        };
+        let new = wants.propositions.iter().any(is_new);
+        let risen = plan.layers > 0 && wants.targets.iter().any(rises);
+        Some((new || risen, plan.answer))
+    }
+}
+
+/// Without the helpful moves layer 1 has nothing of what is wanted there and lacking, and with one of them
+/// alone it has something. A goal with a proposition that the state lacks is then not met in layer 1.
+#[test]
+fn layer_1_needs_helpful_moves() {
+    let mut rng = Rng::new(90);
+    let (mut without, mut with, mut later) = (0, 0, 0);
+    each_case(parsed_tasks(87, 1_500), |case| {
+        let Case { task, was, .. } = case;
+        let wants = case.wants();
+        let lacks = |p: usize| !case.state.propositions[p];
+        if let Some((brings, answer)) = case.brings(!was.plan.first, &wants) {
+            assert!(!brings, "{task}");
+            without += 1;
+            if was.plan.answer == Answer::Layer(1) && case.table.goal.required().any(lacks) {
+                assert!(!matches!(answer, Answer::Layer(0 | 1)), "{task}");
+                later += 1;
+            }
+        }
+        let helpful: Vec<u64> = was.plan.helpful().collect();
+        let one = *rng.pick(&helpful);
+        if let Some((brings, _)) = case.brings(1 << one, &wants) {
+            assert!(brings, "{task} {one}");
+            with += 1;
+        }
+    });
+    let found = [without, with];
+    assert!(found.iter().all(|n| *n > 1_400), "{found:?}");
+    assert!(later > 280, "{later}");
 }
 
 /// The values that the signed variables have in layer 1, none for unbounded ones, by the usable moves.
 fn values_after_one_step(usable: &[&Block], start: &[i128]) -> Vec<Option<i128>> {
     let mut values: Vec<Option<i128>> = start.iter().copied().map(Some).collect();
     for effect in usable.iter().flat_map(|block| block.effects()) {
-        let given = sum(&effect.terms, start) + effect.constant;
+        let given = given(effect, start);
         let value = &mut values[effect.variable];
         *value = match effect.change {
             Change::Assign => value.map(|value| given.max(value)),
@@ -186,6 +250,19 @@ fn values_after_one_step(usable: &[&Block], start: &[i128]) -> Vec<Option<i128>>
 fn sum(terms: &[Term], values: &[i128]) -> i128 {
     let value = |term: &Term| term.weight * values[term.variable];
     terms.iter().map(value).sum()
+}
+
+/// The value of an effect in layer 0.
+fn given(effect: &Effect, start: &[i128]) -> i128 {
+    sum(&effect.terms, start) + effect.constant
+}
+
+/// Whether an effect reaches a target in layer 0.
+fn passes(effect: &Effect, start: &[i128], target: i128) -> bool {
+    match effect.change {
+        Change::Assign => given(effect, start) >= target,
+        _ => given(effect, start) > 0,
+    }
 }
 
 /// What a condition of the goal asks of its variables where these are their values in layer 1.
@@ -232,17 +309,11 @@ fn set_by_one_layer(table: &Table, state: &State) -> u64 {
     };
     let lacks = |p: usize| !state.propositions[p] && table.goal.required().any(|q| q == p);
     let reaches = |effect: &Effect| {
-        let given = sum(&effect.terms, &start) + effect.constant;
         let lacking = target(effect.variable).filter(|t| *t > start[effect.variable]);
-        lacking.is_some_and(|t| match effect.change {
-            Change::Assign => given >= t,
-            _ => given > 0,
-        })
+        lacking.is_some_and(|t| passes(effect, &start, t))
     };
     let helps = |block: &Block| block.added().any(lacks) || block.effects().any(reaches);
-    let moves = table.moves.iter().enumerate();
-    let helpful = moves.filter(|(_, block)| usable(block) && helps(block));
-    bits(helpful.map(|(b, _)| b))
+    set_of(&table.moves, |_, block| usable(&block) && helps(block))
 }
 
 #[test]
@@ -261,129 +332,4 @@ fn the_set_at_answer_layer_1_follows_from_goal_and_state() {
         }
     }
     assert!(found > 1_000, "{found}");
-}
-
-/// A task with its plan, asked by one more move what is wanted at layer 1.
-struct Probe<'p> {
-    engine: &'p dyn Engine,
-    task: &'p Task,
-    table: &'p Table,
-    was: &'p Planned,
-}
-
-impl Probe<'_> {
-    /// Whether a move with this change alone is helpful behind all others. It brings nothing that
-    /// layer 1 does not have, so all else stays.
-    fn helps(&self, change: Item) -> bool {
-        let mut moves = self.table.moves.clone();
-        let last = moves.len();
-        let items = vec![change];
-        moves.push(Block { items });
-        let is = planned_with(self.engine, self.task, self.table, &moves);
-        let is = is.expect("the same layers");
-        let helps = has(is.plan.first, last);
-        let plan = Plan {
-            first: is.plan.first & !(1 << last),
-            ..is.plan
-        };
-        assert_eq!(plan, self.was.plan, "{}", self.task);
-        assert_eq!(is.records, self.was.records, "{}", self.task);
-        helps
-    }
-
-    fn value_helps(&self, variable: usize, change: Change, constant: i128) -> bool {
-        self.helps(Item::Effect(Effect {
-            terms: Vec::new(),
-            change,
-            variable,
-            constant,
-        }))
-    }
-
-    /// The value of a variable in a layer.
-    fn value(&self, variable: usize, layer: usize) -> i128 {
-        let entries = self.table.propositions + self.table.moves.len();
-        let place = entries + layer * self.table.variables + variable;
-        self.was.memory[place].into()
-    }
-
-    /// The least value that helps, above that of layer 0 and up to that of layer 1; none if none
-    /// does. An error if it cannot be told with a constant in range.
-    fn target(&self, variable: usize) -> Result<Option<i128>, ()> {
-        let [mut below, highest] = [0, 1].map(|layer| self.value(variable, layer));
-        let (unbounded, mut above) = (highest == UNBOUNDED, highest.min(NUMBER_LIMIT));
-        let grows = unbounded && self.value_helps(variable, Change::Increase, 1);
-        if !unbounded && highest > NUMBER_LIMIT {
-            return Err(());
-        }
-        match self.value_helps(variable, Change::Assign, above) {
-            false if grows => return Err(()),
-            false => return Ok(None),
-            true => assert_eq!(grows, unbounded, "{}", self.task),
-        }
-        while above - below > 1 {
-            let middle = below + (above - below) / 2;
-            match self.value_helps(variable, Change::Assign, middle) {
-                true => above = middle,
-                false => below = middle,
-            }
-        }
-        Ok(Some(above))
-    }
-
-    /// The set that follows from what single changes help with.
-    fn set(&self) -> Result<u64, ()> {
-        let entries = self.was.memory.iter().take(self.table.propositions);
-        let wanted: Vec<bool> = (0..)
-            .zip(entries)
-            .map(|(p, entry)| (0..=1).contains(entry) && self.helps(Item::Add(p)))
-            .collect();
-        let targets: Result<Vec<Option<i128>>, ()> =
-            (0..self.table.variables).map(|v| self.target(v)).collect();
-        let targets = targets?;
-        let start: Vec<i128> = (0..targets.len()).map(|v| self.value(v, 0)).collect();
-        let reaches = |effect: &Effect| {
-            let given = sum(&effect.terms, &start) + effect.constant;
-            targets[effect.variable].is_some_and(|target| match effect.change {
-                Change::Assign => given >= target,
-                _ => given > 0,
-            })
-        };
-        let helps =
-            |block: &Block| block.added().any(|p| wanted[p]) || block.effects().any(reaches);
-        let used = &self.was.memory[self.table.propositions..];
-        let moves = self.table.moves.iter().enumerate();
-        let helpful = moves.filter(|(b, block)| used[*b] == 0 && helps(block));
-        Ok(bits(helpful.map(|(b, _)| b)))
-    }
-}
-
-/// One more move shows for each proposition and each value whether it is wanted at layer 1 and lacking.
-/// The set is made up of the moves that bring these.
-#[test]
-fn single_changes_tell_the_set() {
-    let (mut found, mut deep) = (0, 0);
-    let small = |table: &Table| table.moves.len() < 20 && table.variables < 13;
-    for (task, table, _) in parsed_tasks(89, 900).filter(|(_, table, _)| small(table)) {
-        for engine in ENGINES {
-            let Ok(was) = planned(engine, &task.table, &task.state) else {
-                continue;
-            };
-            let Answer::Layer(1..) = was.plan.answer else {
-                continue;
-            };
-            let probe = Probe {
-                engine,
-                task: &task,
-                table: &table,
-                was: &was,
-            };
-            if let Ok(set) = probe.set() {
-                assert_eq!(was.plan.first, set, "{task}");
-                found += 1;
-                deep += usize::from(was.plan.layers > 1);
-            }
-        }
-    }
-    assert!(found > 600 && deep > 300, "{found} {deep}");
 }

@@ -54,7 +54,7 @@ fn check_step(memory: &Memory, table: &Table, layer: usize, next: usize) {
 pub fn check_memory(task: &Task, planned: &Planned) {
     let (table, state) = parse_task(&task.table, &task.state).unwrap();
     let last = planned.plan.layers as usize;
-    let memory = Memory::new(&table, &planned.memory, planned.plan.layers);
+    let memory = Memory::new(table.counts(), &planned.memory, planned.plan.layers);
     let start: Vec<i128> = memory.layers[0].iter().map(|v| i128::from(*v)).collect();
     assert_eq!(start, state.signed_values());
     for (p, truth) in state.propositions.iter().enumerate() {

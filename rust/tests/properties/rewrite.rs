@@ -1,7 +1,7 @@
 //! The rewriter of stored tables: what it writes, and which lists solve it.
 
 use super::{real_list, tasks};
-use campaign::answer::{Answer, Head, Plan, Reason, Refusal};
+use campaign::answer::{bits, Answer, Head, Plan, Reason, Refusal};
 use campaign::engine::{Engine, REFERENCE};
 use campaign::generate::{at_value_limit, stored, Rng, Task};
 use campaign::harness::{normalised, planned, planned_by, rewritten, Planned};
@@ -10,6 +10,7 @@ use campaign::proved::PROVED;
 use campaign::reference::semantics::{real_run, RealRun};
 use campaign::reference::table::{Block, Kind};
 use campaign::reference::{normal_form, parse_stored_table, stored_plan};
+use campaign::room;
 
 const ENGINES: [&dyn Engine; 2] = [&REFERENCE, &PROVED];
 
@@ -227,24 +228,24 @@ fn relaxed_lists_without_such_moves_do_the_same() {
 /// The plan of a stored normal table by the reference, moves that do nothing and all.
 fn stored_planned(task: &Task) -> Result<Planned, Refusal> {
     let Task { table, state } = task;
-    let counts = [1, 2, 3].map(|i| usize::from(table[i]));
-    planned_by(counts, |memory, out| stored_plan(table, state, memory, out))
+    planned_by(room::counts(table), |memory, out| {
+        stored_plan(table, state, memory, out)
+    })
 }
 
 /// The old table's plan as the new one has it: each move renumbered, in the records, whose counts
-/// and order stay, and in the first moves; the memory without the entries of the moves that do
+/// and order stay, and in the helpful moves; the memory without the entries of the moves that do
 /// nothing.
 fn renumbered_plan(old: &Task, was: &Planned) -> Planned {
     let idle = idle_moves(&old.table);
     let number = |mv| renumbered(&idle, mv).expect("no plan takes a move that does nothing");
-    let first = (0..64).filter(|mv| was.plan.first >> mv & 1 == 1);
     let records = was.records.iter();
     let entry = |i: usize| i.checked_sub(usize::from(old.table[1]));
     let is_dropped = |i| entry(i).and_then(|mv| idle.get(mv)) == Some(&true);
     let memory = was.memory.iter().enumerate();
     Planned {
         plan: Plan {
-            first: first.fold(0, |set, mv| set | 1 << number(mv)),
+            first: bits(was.plan.helpful().map(number)),
             ..was.plan
         },
         records: records.map(|(mv, count)| (number(*mv), *count)).collect(),

@@ -38,11 +38,11 @@ The plan has a line for each record: a move, how often it is made, and what it n
 A plan solves the relaxed task, in which nothing is deleted and no signed value (v or -v) falls:
 it guides, and need not be a list that can be carried out as it stands.
 Helpful moves are for a search over real moves, which tries them before all others, and for a
-day when a move of the plan cannot be made. Each is usable in the state, its conditions hold
-there, and it gives something that the plan wants next, in layer 1, and the state lacks: it adds
-a proposition, sets a value to its target or beyond (:=), or moves it towards its target (+=, -=).
-Of the moves that give the same thing the plan takes the one with the lowest number; helpful
-moves that are not in the plan at all have lines of their own.
+day when a first move of the plan cannot be made. Each is usable in the state (its conditions
+hold there) and gives something that the plan wants next, in layer 1, and the state lacks: it
+adds a proposition, sets a value to its target or beyond (:=), or moves it towards its target
+(+=, -=). Of the usable moves that give the same thing the plan takes the one with the lowest
+number; helpful moves that are not in the plan at all have lines of their own.
 \"No plan\" means that no list of moves, of any length, reaches the goal.
 ",
     run: |words| {
@@ -155,20 +155,27 @@ impl Task {
         let planned = |mv: &usize| plan.list(out).any(|(taken, _)| taken == *mv as u64);
         let others: Vec<usize> = helpful.iter().copied().filter(|mv| !planned(mv)).collect();
         let list = words::moves(&helpful);
-        if others.is_empty() {
-            return format!("helpful   {list}\n");
-        }
+        format!(
+            "helpful   {list}: usable in this state, each gives something that the plan wants next\n{}",
+            self.others(&others),
+        )
+    }
+
+    /// A line for each of these moves, which are not in the plan.
+    fn others(&self, moves: &[usize]) -> String {
+        let what = match moves.len() {
+            0 => return String::new(),
+            1 => "what it needs and does",
+            _ => "what each needs and does",
+        };
         let scan = Scan::of(&self.folder.table);
-        let lines = others.iter().map(|mv| {
+        let lines = moves.iter().map(|mv| {
             let (name, items) = (format!("a{mv}"), words::items(&scan, Block::Move(*mv)));
             format!("  {name:3}  {items}\n")
         });
-        format!(
-            "helpful   {list}: usable in this state, each gives something that the plan wants next\n\
-             others    {} not in this plan; what they need and do:\n{}",
-            words::moves(&others),
-            lines.collect::<String>()
-        )
+        let count = words::count(moves.len(), "move");
+        let lines: String = lines.collect();
+        format!("others    {count}, not in this plan: {what}\n{lines}")
     }
 }
 
