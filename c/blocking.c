@@ -8,14 +8,7 @@
  * Exit status: 0 if the campaign was accepted, 1 after a refusal, 2 if a file or an argument is bad, 3 if a number changed
  * that was not lent, or decide answers otherwise.
  */
-#include "common.h"
-
-#include <string.h>
-
-enum { LAYER_NUMBERS = 8192 };
-
-/* What each number of a memory is before a call: no layer, and no value of one. */
-static const int64_t PAINT = INT64_MIN + 0xA5;
+#include "plans.h"
 
 /* One byte more than is ever accepted, so that longer files are refused. */
 static uint8_t table[LAPYNDO_NORMAL_BYTES + 1];
@@ -26,27 +19,8 @@ static int64_t layers[LAYER_NUMBERS];
 
 static size_t table_len, state_len, layers_len = LAYER_NUMBERS;
 
-static void paint(int64_t *memory) {
-    for (size_t i = 0; i < LAYER_NUMBERS; i++) {
-        memory[i] = PAINT;
-    }
-}
-
-/* The table in normal form: itself, or what normalise makes of a written one. */
-static bool normal_table(const uint8_t **bytes, size_t *length) {
-    *bytes = table;
-    *length = table_len;
-    if (table_len == 0 || table[0] != LAPYNDO_WRITTEN) {
-        return true;
-    }
-    uint64_t answer = lapyndo_normalise(table, table_len, normal, sizeof normal);
-    *bytes = normal;
-    *length = lapyndo_length(answer);
-    return !refused("normalise", answer);
-}
-
 /* Shows the offset and the command that stands there; false after a refusal. */
-static bool show(const uint8_t *bytes, uint64_t answer) {
+static bool show_part(const uint8_t *bytes, uint64_t answer) {
     if (refused("blocking", answer)) {
         return false;
     }
@@ -62,7 +36,7 @@ static bool show(const uint8_t *bytes, uint64_t answer) {
 /* Shows the numbers up to the last that changed; false if one behind them changed that was not lent. */
 static bool show_layers(void) {
     size_t used = LAYER_NUMBERS;
-    while (used > 0 && layers[used - 1] == PAINT) {
+    while (used > 0 && layers[used - 1] == unwritten(used - 1)) {
         used--;
     }
     printf("layers:");
@@ -78,14 +52,11 @@ static bool show_layers(void) {
 }
 
 #ifdef PLANNING
-uint64_t lapyndo_decide(const uint8_t *table, size_t table_len, const uint8_t *state, size_t state_len,
-                        int64_t *layers, size_t layers_len);
-
 /* Whether decide refuses the same, says "no plan" exactly where a part blocks, and leaves the same memory. */
 static bool agrees(const uint8_t *bytes, size_t length, uint64_t answer) {
     static int64_t decided[LAYER_NUMBERS];
-    paint(decided);
-    uint64_t decision = lapyndo_decide(bytes, length, state, state_len, decided, layers_len);
+    fill(decided);
+    uint64_t decision = full.decide(bytes, length, state, state_len, decided, layers_len);
     bool same = lapyndo_refusal(answer) != 0
                     ? decision == answer
                     : lapyndo_refusal(decision) == 0 && lapyndo_no_plan(decision) == (lapyndo_offset(answer) != 0);
@@ -109,14 +80,14 @@ int main(int argc, char **argv) {
     if (argc == 4 && !length_of(argv[3], LAYER_NUMBERS, &layers_len)) {
         return 2;
     }
-    const uint8_t *bytes;
-    size_t length;
-    if (!normal_table(&bytes, &length)) {
+    const uint8_t *bytes = table;
+    size_t length = table_len;
+    if (!normal_table(&full, &bytes, &length, normal)) {
         return 1;
     }
-    paint(layers);
+    fill(layers);
     uint64_t answer = lapyndo_blocking(bytes, length, state, state_len, layers, layers_len);
-    bool accepted = show(bytes, answer);
+    bool accepted = show_part(bytes, answer);
     if (!show_layers()) {
         fputs("a number changed that was not lent\n", stderr);
         return 3;

@@ -1,12 +1,13 @@
 /* A small host: reads a table and a state from files, shows the table's head and its normal form, and makes the moves
  * that are given, one after the other. A refused move leaves the state as it is.
  *
- * usage: host TABLE STATE [MOVE..]
+ * usage: host [--rig] TABLE STATE [MOVE..]
+ *
+ * With --rig by the rig's calls, with memories for states of the board's fixed size.
  * Exit status: 0 if all was accepted, 1 after a refusal, 2 if a file or an argument is bad.
  */
+#include "calls.h"
 #include "common.h"
-
-#include <string.h>
 
 /* One byte more than is ever accepted, so that longer files are refused as too long. */
 static uint8_t table[LAPYNDO_NORMAL_BYTES + 1];
@@ -15,9 +16,10 @@ static uint8_t normal[LAPYNDO_NORMAL_BYTES];
 static uint8_t after[LAPYNDO_STATE_BYTES];
 
 static size_t table_len, state_len, propositions;
+static const struct calls *calls;
 
 static bool show_head(void) {
-    uint64_t head = lapyndo_read(table, table_len);
+    uint64_t head = calls->read(table, table_len);
     if (refused("read", head)) {
         return false;
     }
@@ -29,7 +31,7 @@ static bool show_head(void) {
 }
 
 static bool show_normal_form(void) {
-    uint64_t answer = lapyndo_normalise(table, table_len, normal, sizeof normal);
+    uint64_t answer = calls->normalise(table, table_len, normal, sizeof normal);
     if (refused("normalise", answer)) {
         return false;
     }
@@ -61,7 +63,7 @@ static void show_state(uint64_t move) {
 static bool make_move(uint64_t move) {
     char call[40];
     snprintf(call, sizeof call, "move %" PRIu64, move);
-    uint64_t answer = lapyndo_step(table, table_len, state, state_len, move, after, sizeof after);
+    uint64_t answer = calls->step(table, table_len, state, state_len, move, after, calls->state_bytes);
     if (refused(call, answer)) {
         return false;
     }
@@ -71,11 +73,13 @@ static bool make_move(uint64_t move) {
 }
 
 int main(int argc, char **argv) {
+    calls = chosen(&argc, &argv);
     if (argc < 3) {
-        fputs("usage: host TABLE STATE [MOVE..]\n", stderr);
+        fputs("usage: host [--rig] TABLE STATE [MOVE..]\n", stderr);
         return 2;
     }
-    if (!load(argv[1], table, sizeof table, &table_len) || !load(argv[2], state, sizeof state, &state_len)) {
+    if (!load(argv[1], table, sizeof table, &table_len) ||
+        !load(argv[2], state, calls->state_bytes + 1, &state_len)) {
         return 2;
     }
     bool accepted = show_head();

@@ -1,5 +1,5 @@
 /* The campaign planning engine for hosts in C: planning a campaign, finding the part of the goal that blocks, reading,
- * normalising and stepping, writing PDDL for other planners, and rewriting stored tables.
+ * normalising and stepping, writing PDDL for other planners, rewriting stored tables, and the calls for the rig's board.
  *
  * Every call takes any bytes and answers one 64-bit number:
  *
@@ -49,9 +49,11 @@ enum {
     LAPYNDO_NAMED_AGAIN = 5,       /*   named again, not rising, or a ninth term, terms of weight 0 counted; place: the
                                         command's offset */
     LAPYNDO_CIRCLE = 7,            /* the := effects have a circle, terms of weight 0 left out; place 0 */
+    LAPYNDO_BEYOND_RIG = 17,       /* the table has more moves or variables than the rig takes; place 0. The rig's calls
+                                      only */
     LAPYNDO_STATE_LENGTH = 8,      /* the state has the wrong length; place 0 */
     LAPYNDO_STATE_RANGE = 9,       /* a byte or value of the state is out of range; place: its offset */
-    LAPYNDO_NO_SUCH_MOVE = 10,     /* the table has no such move; place 0 */
+    LAPYNDO_NO_SUCH_MOVE = 10,     /* the table has no such move or block; place 0 */
     LAPYNDO_CONDITIONS_FAIL = 11,  /* the move's conditions are not all true; place 0 */
     LAPYNDO_RESULT_RANGE = 12,     /* a result is beyond 1,000,000 or -1,000,000; place 0 */
                                    /* each new layer, in this order: */
@@ -60,7 +62,7 @@ enum {
     LAPYNDO_OUTPUT_SHORT = 13      /* an output is shorter than the result; place 0 */
 };
 
-/* Plans a campaign, from a written table and a state: the call for monitors and for the rig.
+/* Plans a campaign, from a written table and a state: the call for monitors. lapyndo_rig_campaign is the rig's.
  *
  * Writes the normal form, decides from exactly those bytes, and plans. "No plan": no list of moves, of any length,
  * reaches the goal. A plan solves the relaxed task, in which no proposition is deleted and no signed value (v or -v)
@@ -179,23 +181,105 @@ uint64_t lapyndo_pddl(const uint8_t *table, size_t table_len, const uint8_t *sta
  */
 uint64_t lapyndo_rewrite(const uint8_t *table, size_t table_len, uint8_t *out, size_t out_len);
 
+/* The calls for the rig's board: those above that it needs, with the board's limits, and three more, which copy a block,
+ * decide and plan.
+ *
+ * A table with more than LAPYNDO_RIG_MOVES moves or LAPYNDO_RIG_VARIABLES variables (in a normal table, two signed ones for
+ * each) is refused with 17, after all checks of the table itself and before any other. Propositions have no limit of their
+ * own here. Of layer memory no more than the first LAPYNDO_RIG_NUMBERS numbers are used: a longer one is not refused, and the
+ * numbers behind are kept. In all else results, refusals and memories are those of the full call that is lent these numbers,
+ * which refuses with 14 where it needs more.
+ */
+enum {
+    LAPYNDO_RIG_MOVES = 16,
+    LAPYNDO_RIG_VARIABLES = 8,
+    LAPYNDO_RIG_NUMBERS = 2048,     /* with all 2,048 lent, they hold layer 0 to layer L where P + A + N * (L + 1) is
+                                       2,048 at most: layer 118 always, and with at most 4 variables every layer */
+    LAPYNDO_RIG_STATE_BYTES = 152,  /* the longest state: 120 propositions, 8 values of 4 bytes */
+    LAPYNDO_RIG_LAYERS = 225,       /* no answer reports more layers */
+    LAPYNDO_RIG_PLAN_BYTES = 36000  /* room for the records of every plan: 16 a layer at most, of 10 bytes each */
+};
+
+/* Plans a campaign, as lapyndo_campaign does.
+ *
+ * Refusals, in the order of the checks: 1 to 7 and 16; 17; 13, normal is too short; 8 and 9; 15 and 14; 13, out is too short.
+ */
+uint64_t lapyndo_rig_campaign(const uint8_t *table, size_t table_len, const uint8_t *state, size_t state_len,
+                              uint8_t *normal, size_t normal_len, int64_t *layers, size_t layers_len, uint8_t *out,
+                              size_t out_len, uint64_t *decision, uint64_t *records, uint64_t *first);
+
+/* Makes all checks of a table, as lapyndo_read does.
+ *
+ * Refusals: 1 to 7 and 16; 17.
+ */
+uint64_t lapyndo_rig_read(const uint8_t *table, size_t table_len);
+
+/* Copies one block of a written or normal table. Move b is block b, and the goal is the block behind the last move.
+ *
+ * A block runs from its 41 or 47 up to the next 41, 47 or 45, which is left out.
+ *
+ * Result: the length of the block, whether it fits or not; see lapyndo_length.
+ * Refusals, in the order of the checks: 1 to 7 and 16; 17; 10, there is no such block.
+ * out: accepted, the block from the start, as much of it as fits, and the bytes behind it are kept; refused, all bytes are
+ *      kept.
+ */
+uint64_t lapyndo_rig_block(const uint8_t *table, size_t table_len, uint64_t block, uint8_t *out, size_t out_len);
+
+/* Writes the normal form of a written table, as lapyndo_normalise does.
+ *
+ * Refusals, in the order of the checks: 1 to 7 and 16; 17; 13.
+ */
+uint64_t lapyndo_rig_normalise(const uint8_t *table, size_t table_len, uint8_t *out, size_t out_len);
+
+/* Makes one real move of a written table, as lapyndo_step does.
+ *
+ * Refusals, in the order of the checks: 1 to 7 and 16; 17; 8 to 13.
+ */
+uint64_t lapyndo_rig_step(const uint8_t *table, size_t table_len, const uint8_t *state, size_t state_len, uint64_t move,
+                          uint8_t *out, size_t out_len);
+
+/* Decides, from a normal table and a state: the decision of lapyndo_rig_campaign.
+ *
+ * Result: "no plan" or a plan, with the reported layers; see lapyndo_no_plan and lapyndo_layers.
+ * Refusals, in the order of the checks: 1 to 7 and 16; 17; 8 and 9; 15 and 14. A normal table may have 64,000 bytes.
+ *
+ * state, layers: see lapyndo_blocking.
+ */
+uint64_t lapyndo_rig_decide(const uint8_t *table, size_t table_len, const uint8_t *state, size_t state_len,
+                            int64_t *layers, size_t layers_len);
+
+/* Plans, from a normal table and a state: the plan of lapyndo_rig_campaign.
+ *
+ * Result: that of lapyndo_rig_decide.
+ * Refusals: those of lapyndo_rig_decide, and then 13.
+ *
+ * state:               see lapyndo_blocking.
+ * layers:              after 13 what is there after an accepted call; otherwise see lapyndo_blocking.
+ * out, records, first: see lapyndo_campaign.
+ */
+uint64_t lapyndo_rig_plan(const uint8_t *table, size_t table_len, const uint8_t *state, size_t state_len, int64_t *layers,
+                          size_t layers_len, uint8_t *out, size_t out_len, uint64_t *records, uint64_t *first);
+
+/* The functions below take answers apart: those of a call, and of the rig's call of that name. */
+
 /* Of any answer: the number of the refusal, 0 if the call is accepted. */
 static inline uint32_t lapyndo_refusal(uint64_t answer) { return (uint32_t)(answer >> 32); }
 
 /* Of a refusal: its place. */
 static inline uint32_t lapyndo_refusal_place(uint64_t answer) { return (uint32_t)answer; }
 
-/* Of an accepted lapyndo_campaign, or of its decision, if that is no refusal: 1 for "no plan", otherwise 0. */
+/* Of an accepted lapyndo_campaign, of its decision, if that is no refusal, and of an accepted lapyndo_rig_decide or
+ * lapyndo_rig_plan: 1 for "no plan", otherwise 0. */
 static inline int lapyndo_no_plan(uint64_t answer) { return (int)(answer >> 31 & 1); }
 
-/* Of an accepted lapyndo_campaign, or of its decision, if that is no refusal: the reported layers, which are the number of
- * the last layer. */
+/* Of the same: the reported layers, which are the number of the last layer. */
 static inline uint32_t lapyndo_layers(uint64_t answer) { return (uint32_t)answer & 0x7FFFFFFF; }
 
 /* Of an accepted lapyndo_blocking: the offset of the part that blocks, 0 if nothing blocks. */
 static inline size_t lapyndo_offset(uint64_t answer) { return (size_t)(uint32_t)answer; }
 
-/* Of an accepted lapyndo_normalise, lapyndo_step, lapyndo_pddl or lapyndo_rewrite: the number of bytes written. */
+/* Of an accepted lapyndo_normalise, lapyndo_step, lapyndo_pddl or lapyndo_rewrite: the number of bytes written; of an
+ * accepted lapyndo_rig_block: the length of the block. */
 static inline size_t lapyndo_length(uint64_t answer) { return (size_t)(uint32_t)answer; }
 
 /* Of an accepted lapyndo_read: LAPYNDO_WRITTEN or LAPYNDO_NORMAL. */

@@ -3,19 +3,19 @@
  *
  * usage: stack FOLDER..
  *
- * Measured on the campaign of each folder (task.bin, state.bin), on a deep one, and on each of them with a byte cut off its
- * tables. Prints one line a call: its name and the largest number of bytes. With PLANNING the calls that are exported for
- * tests are measured too.
- * Exit status: 0; 1 if the painted stack was too small; 2 if a file is missing, a campaign is refused, or the deep one has
- * too few records.
+ * Measured on the campaign of each folder (task.bin, state.bin), on two deep ones, of which one is within the rig's limits,
+ * and on each of them with a byte cut off its tables. Prints one line a call: its name and the largest number of bytes. With
+ * PLANNING the calls that are exported for tests are measured too.
+ * Exit status: 0; 1 if the painted stack was too small; 2 if a file is missing, a campaign is refused, or a deep one has too
+ * few records.
  */
 #define _XOPEN_SOURCE 700
+#include "calls.h"
 #include "common.h"
 
-#include <string.h>
 #include <ucontext.h>
 
-enum { STACK_BYTES = 1 << 16, PAINT = 0x5A, DEPTH = 64, LAYER_NUMBERS = 8192 };
+enum { STACK_BYTES = 1 << 16, PAINT = 0x5A, DEPTH = 64 };
 
 /* The campaign that is measured. */
 static uint8_t written[LAPYNDO_WRITTEN_BYTES], normal[LAPYNDO_NORMAL_BYTES], state[LAPYNDO_STATE_BYTES];
@@ -25,24 +25,25 @@ static uint8_t spare[LAPYNDO_NORMAL_BYTES], out[LAPYNDO_PDDL_BYTES];
 static int64_t layers[LAYER_NUMBERS];
 static uint64_t decision, records, helpful;
 
-/* Which move or block, and how much of the output is lent. */
+/* Whose call is measured, which move or block it is given, and how much of the output. */
+static const struct calls *calls;
 static uint64_t number;
 static size_t room;
 
 static void nothing(void) {}
 
 static void call_read(void) {
-    lapyndo_read(written, written_len);
-    lapyndo_read(normal, normal_len);
+    calls->read(written, written_len);
+    calls->read(normal, normal_len);
 }
 
-static void call_normalise(void) { lapyndo_normalise(written, written_len, out, room); }
+static void call_normalise(void) { calls->normalise(written, written_len, out, room); }
 
-static void call_step(void) { lapyndo_step(written, written_len, state, state_len, number, out, room); }
+static void call_step(void) { calls->step(written, written_len, state, state_len, number, out, room); }
 
 static void call_campaign(void) {
-    lapyndo_campaign(written, written_len, state, state_len, spare, sizeof spare, layers, LAYER_NUMBERS, out, room,
-                     &decision, &records, &helpful);
+    calls->campaign(written, written_len, state, state_len, spare, sizeof spare, layers, LAYER_NUMBERS, out, room,
+                    &decision, &records, &helpful);
 }
 
 static void call_pddl(void) { lapyndo_pddl(written, written_len, state, state_len, out, room); }
@@ -57,42 +58,42 @@ static void call_rewrite(void) {
     lapyndo_rewrite(idle_first, sizeof idle_first, out, room);
 }
 
-#ifdef PLANNING
-uint64_t lapyndo_block(const uint8_t *table, size_t table_len, uint64_t block, uint8_t *out, size_t out_len);
-uint64_t lapyndo_decide(const uint8_t *table, size_t table_len, const uint8_t *state, size_t state_len,
-                        int64_t *layers, size_t layers_len);
-uint64_t lapyndo_plan(const uint8_t *table, size_t table_len, const uint8_t *state, size_t state_len, int64_t *layers,
-                      size_t layers_len, uint8_t *out, size_t out_len, uint64_t *records, uint64_t *helpful);
+static void call_block(void) { calls->block(normal, normal_len, number, out, room); }
 
-static void call_block(void) { lapyndo_block(normal, normal_len, number, out, room); }
-
-static void call_decide(void) { lapyndo_decide(normal, normal_len, state, state_len, layers, LAYER_NUMBERS); }
+static void call_decide(void) { calls->decide(normal, normal_len, state, state_len, layers, LAYER_NUMBERS); }
 
 static void call_plan(void) {
-    lapyndo_plan(normal, normal_len, state, state_len, layers, LAYER_NUMBERS, out, room, &records, &helpful);
+    calls->plan(normal, normal_len, state, state_len, layers, LAYER_NUMBERS, out, room, &records, &helpful);
 }
-#endif
 
 static struct {
     const char *name;
+    const struct calls *calls;
     void (*run)(void);
     size_t most;
-} calls[] = {
-    {"read", call_read, 0},
-    {"normalise", call_normalise, 0},
-    {"step", call_step, 0},
-    {"campaign", call_campaign, 0},
-    {"pddl", call_pddl, 0},
-    {"blocking", call_blocking, 0},
-    {"rewrite", call_rewrite, 0},
+} all[] = {
+    {"read", &full, call_read, 0},
+    {"normalise", &full, call_normalise, 0},
+    {"step", &full, call_step, 0},
+    {"campaign", &full, call_campaign, 0},
+    {"pddl", &full, call_pddl, 0},
+    {"blocking", &full, call_blocking, 0},
+    {"rewrite", &full, call_rewrite, 0},
 #ifdef PLANNING
-    {"block", call_block, 0},
-    {"decide", call_decide, 0},
-    {"plan", call_plan, 0},
+    {"block", &full, call_block, 0},
+    {"decide", &full, call_decide, 0},
+    {"plan", &full, call_plan, 0},
 #endif
+    {"rig_read", &rig, call_read, 0},
+    {"rig_normalise", &rig, call_normalise, 0},
+    {"rig_step", &rig, call_step, 0},
+    {"rig_campaign", &rig, call_campaign, 0},
+    {"rig_block", &rig, call_block, 0},
+    {"rig_decide", &rig, call_decide, 0},
+    {"rig_plan", &rig, call_plan, 0},
 };
 
-enum { CALLS = sizeof calls / sizeof calls[0] };
+enum { ALL = sizeof all / sizeof all[0] };
 
 static _Alignas(64) uint8_t stack[STACK_BYTES];
 static ucontext_t here, there;
@@ -119,11 +120,12 @@ static size_t used_by(void (*function)(void)) {
 
 /* Measures every call on the campaign, with all that it may be given beside it. */
 static void measure(void) {
-    for (size_t i = 0; i < CALLS; i++) {
+    for (size_t i = 0; i < ALL; i++) {
+        calls = all[i].calls;
         for (number = 0; number <= DEPTH + 1; number++) {
             for (room = 0; room <= sizeof out; room += sizeof out) {
-                size_t used = used_by(calls[i].run);
-                calls[i].most = used > calls[i].most ? used : calls[i].most;
+                size_t used = used_by(all[i].run);
+                all[i].most = used > all[i].most ? used : all[i].most;
             }
         }
     }
@@ -154,37 +156,48 @@ static void put(const uint8_t *bytes, size_t length) {
     written_len += length;
 }
 
-/* DEPTH moves, each of which needs what the one before it adds and raises a variable. The goal wants the last
- * proposition and a value above what one move gives. The first move also sets a variable and hands it on to another,
- * which the goal wants too: it is taken in two layers, so that the plan has more records than moves. */
-static void make_deep(void) {
-    const uint8_t head[] = {LAPYNDO_WRITTEN, DEPTH + 1, 16, DEPTH};
-    const uint8_t handed[] = {0x46, 0, 14, 0, 0, 0, 1, 0x57, 14, 0, 1, 0x46, 0, 15, 0, 0, 0, 0};
-    const uint8_t goal[] = {0x47, 0x50, DEPTH, 0x57, 0, 0, 1, 0x43, 0, 0, 0, 0, 100,
-                            0x57, 15, 0, 1, 0x43, 0, 0, 0, 0, 1, 0x45};
+/* As many moves, each of which needs what the one before it adds and raises a variable. The goal wants the last proposition
+ * and a value above what one move gives. The first move also sets a variable and hands it on to another, which the goal wants
+ * too: it is taken in two layers, so that the plan has more records than moves. */
+static void make_deep(uint8_t moves, uint8_t variables) {
+    const uint8_t set = variables - 2, handed_on = variables - 1;
+    const uint8_t head[] = {LAPYNDO_WRITTEN, moves + 1, variables, moves};
+    const uint8_t handed[] = {0x46, 0, set, 0, 0, 0, 1, 0x57, set, 0, 1, 0x46, 0, handed_on, 0, 0, 0, 0};
+    const uint8_t goal[] = {0x47, 0x50, moves, 0x57, 0, 0, 1, 0x43, 0, 0, 0, 0, 100,
+                            0x57, handed_on, 0, 1, 0x43, 0, 0, 0, 0, 1, 0x45};
     written_len = 0;
     put(head, sizeof head);
-    for (uint8_t i = 0; i < DEPTH; i++) {
-        const uint8_t move[] = {0x41, 0x50, i, 0x2B, i + 1, 0x46, 1, i % 16, 0, 0, 0, 1};
+    for (uint8_t i = 0; i < moves; i++) {
+        const uint8_t move[] = {0x41, 0x50, i, 0x2B, i + 1, 0x46, 1, i % variables, 0, 0, 0, 1};
         put(move, sizeof move);
         if (i == 0) put(handed, sizeof handed);
     }
     put(goal, sizeof goal);
     memset(state, 0, sizeof state);
     state[0] = 1;
-    state_len = DEPTH + 1 + 4 * 16;
+    state_len = moves + 1 + 4 * variables;
+}
+
+/* Measures every call on a deep campaign, which must be within somebody's limits. */
+static bool measure_deep(const struct calls *whose, uint8_t moves, uint8_t variables) {
+    make_deep(moves, variables);
+    calls = whose;
+    room = whose->plan_bytes;
+    records = 0;
+    call_campaign();
+    return records > moves && measure_whole_and_cut();
 }
 
 /* Prints what each call needs beyond a function that does nothing. */
 static int report(void) {
     size_t none = used_by(nothing);
     int status = 0;
-    for (size_t i = 0; i < CALLS; i++) {
-        if (calls[i].most == sizeof stack) {
-            printf("%-9s the painted stack is too small\n", calls[i].name);
+    for (size_t i = 0; i < ALL; i++) {
+        if (all[i].most == sizeof stack) {
+            printf("%-13s the painted stack is too small\n", all[i].name);
             status = 1;
         } else {
-            printf("%-9s %6zu bytes of stack\n", calls[i].name, calls[i].most - none);
+            printf("%-13s %6zu bytes of stack\n", all[i].name, all[i].most - none);
         }
     }
     return status;
@@ -196,7 +209,7 @@ int main(int argc, char **argv) {
         accepted = accepted && load_from(argv[i], "task.bin", written, sizeof written, &written_len) &&
                    load_from(argv[i], "state.bin", state, sizeof state, &state_len) && measure_whole_and_cut();
     }
-    make_deep();
-    accepted = accepted && measure_whole_and_cut() && records > DEPTH;
+    accepted = accepted && measure_deep(&full, DEPTH, 16);
+    accepted = accepted && measure_deep(&rig, LAPYNDO_RIG_MOVES, LAPYNDO_RIG_VARIABLES);
     return accepted ? report() : 2;
 }

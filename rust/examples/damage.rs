@@ -1,5 +1,6 @@
 //! A long comparison of the proved engine with the reference, outside the gate: calls of all
-//! kinds, half of them with a damaged table or state, and memories behind fences.
+//! kinds, a quarter of them with the rig's limits, half of all with a damaged table or state, and
+//! memories behind fences.
 //!
 //! usage: damage SECONDS SEED
 //!
@@ -8,7 +9,7 @@
 use campaign::call::{Call, CallKind};
 use campaign::fenced::Fenced;
 use campaign::generate::{
-    call, damage, full_length, grid, long_goal, long_stored, rewritten_length, Rng, Task,
+    call, damage, full_length, grid, long_goal, long_stored, rewritten_length, rig_calls, Rng, Task,
 };
 use campaign::proved::PROVED;
 use campaign::reference::table::Kind;
@@ -31,17 +32,17 @@ fn main() {
     let engine = Fenced(PROVED);
     let mut tally = Tally::new(&engine, seed);
     while Instant::now() < end {
-        let mut call = if rng.chance(1, 400) {
-            long_call(&mut rng)
-        } else {
-            call(&mut rng)
+        let mut call = match rng.below(400) {
+            0 => long_call(&mut rng),
+            1..=100 => rig_calls(&mut rng, 1).remove(0),
+            _ => call(&mut rng),
         };
         if rng.chance(1, 2) {
             damage(&mut rng, &mut call);
         }
         tally.check(&call);
     }
-    let every_refusal: Vec<usize> = (0..17).collect();
+    let every_refusal: Vec<usize> = (0..18).collect();
     tally.expect(1, &every_refusal);
 }
 

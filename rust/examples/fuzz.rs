@@ -4,7 +4,9 @@
 use campaign::call::{Call, Fill};
 use campaign::engine::REFERENCE;
 use campaign::fenced::Fenced;
-use campaign::generate::{blocked, call, damage, helpful, rewritten_length, stored, Rng, Task};
+use campaign::generate::{
+    blocked, call, damage, helpful, rewritten_length, rig_calls, stored, Rng, Task,
+};
 use campaign::harness::compare_over;
 use campaign::input::{decode, encode};
 use campaign::proved::PROVED;
@@ -60,11 +62,13 @@ pub unsafe extern "C" fn LLVMFuzzerCustomMutator(
 }
 
 /// Now and then another call, the same one with a damaged table or state, a `blocking` of the same task
-/// with a goal that mostly cannot be reached, a `rewrite` of its table with moves that do nothing, or a
-/// `plan` or `campaign` of it with more moves that help at layer 0 or nearly do.
+/// with a goal that mostly cannot be reached, a `rewrite` of its table with moves that do nothing, a
+/// `plan` or `campaign` of it with more moves that help at layer 0 or nearly do, or the same call with
+/// the rig's limits, or without them.
 fn changed(input: &[u8], seed: u32) -> Option<Vec<u8>> {
     let mut rng = Rng::new(u64::from(seed));
     match rng.below(16) {
+        0 if rng.chance(1, 2) => encode(&rig_calls(&mut rng, 1)[0]),
         0 => encode(&call(&mut rng)),
         1..=4 => {
             let mut call = decode(input);
@@ -90,6 +94,11 @@ fn changed(input: &[u8], seed: u32) -> Option<Vec<u8>> {
                 Some(0x54) => task.campaign(1_000, numbers, room),
                 _ => task.plan(numbers, room),
             })
+        }
+        8 => {
+            let call = decode(input);
+            let kind = call.kind.rig().unwrap_or(call.kind.full());
+            encode(&Call { kind, ..call })
         }
         _ => None,
     }

@@ -22,10 +22,12 @@ pub enum Reason {
     MemoryShort = 14,
     ValueRange = 15,
     IdleMove = 16,
+    /// A head beyond the rig's limits.
+    BeyondRig = 17,
 }
 
 impl Reason {
-    pub const ALL: [Reason; 16] = [
+    pub const ALL: [Reason; 17] = [
         Reason::TableTooLong,
         Reason::Cut,
         Reason::Misplaced,
@@ -42,6 +44,7 @@ impl Reason {
         Reason::MemoryShort,
         Reason::ValueRange,
         Reason::IdleMove,
+        Reason::BeyondRig,
     ];
 
     pub fn number(self) -> u8 {
@@ -221,12 +224,12 @@ mod tests {
     use super::*;
 
     #[test]
-    fn reasons_are_numbered_from_1_to_16() {
+    fn reasons_are_numbered_from_1_to_17() {
         let numbers: Vec<u8> = Reason::ALL.iter().map(|r| r.number()).collect();
-        assert_eq!(numbers, (1..=16).collect::<Vec<u8>>());
+        assert_eq!(numbers, (1..=17).collect::<Vec<u8>>());
         assert_eq!(Reason::from_number(14), Some(Reason::MemoryShort));
         assert_eq!(Reason::from_number(0), None);
-        assert_eq!(Reason::from_number(17), None);
+        assert_eq!(Reason::from_number(18), None);
     }
 
     #[test]

@@ -24,6 +24,13 @@ pub enum CallKind {
     Pddl,
     Blocking,
     Rewrite,
+    RigRead,
+    RigBlock,
+    RigNormalise,
+    RigStep,
+    RigDecide,
+    RigPlan,
+    RigCampaign,
     Listing,
 }
 
@@ -39,7 +46,7 @@ pub enum Field {
 }
 
 impl CallKind {
-    pub const ALL: [CallKind; 11] = [
+    pub const ALL: [CallKind; 18] = [
         CallKind::Read,
         CallKind::Block,
         CallKind::Normalise,
@@ -50,23 +57,50 @@ impl CallKind {
         CallKind::Pddl,
         CallKind::Blocking,
         CallKind::Rewrite,
+        CallKind::RigRead,
+        CallKind::RigBlock,
+        CallKind::RigNormalise,
+        CallKind::RigStep,
+        CallKind::RigDecide,
+        CallKind::RigPlan,
+        CallKind::RigCampaign,
         CallKind::Listing,
     ];
 
     /// The calls that the engine exports.
-    pub const EXPORTED: &'static [CallKind] = Self::ALL.split_at(10).0;
+    pub const EXPORTED: &'static [CallKind] = Self::ALL.split_at(17).0;
+
+    /// The calls with the rig's limits, and those that they stand beside.
+    pub const RIG: &'static [CallKind] = Self::EXPORTED.split_at(10).1;
+    const BESIDE_RIG: &'static [CallKind] = Self::ALL.split_at(7).0;
+
+    pub fn is_rig(self) -> bool {
+        Self::RIG.contains(&self)
+    }
+
+    /// The call with the rig's limits beside this one, if there is one.
+    pub fn rig(self) -> Option<CallKind> {
+        let at = Self::BESIDE_RIG.iter().position(|kind| *kind == self);
+        at.map(|at| Self::RIG[at])
+    }
+
+    /// The call that has this one beside it with the rig's limits; any other as it is.
+    pub fn full(self) -> CallKind {
+        let at = Self::RIG.iter().position(|kind| *kind == self);
+        at.map_or(self, |at| Self::BESIDE_RIG[at])
+    }
 
     /// What calls of this kind are given.
     pub fn fields(self) -> &'static [Field] {
         use Field::*;
         match self {
-            CallKind::Read => &[Table],
-            CallKind::Block => &[Table, Index],
-            CallKind::Normalise => &[Table, Room],
-            CallKind::Step => &[Table, State, Index, Room],
-            CallKind::Decide => &[Table, State, Numbers],
-            CallKind::Plan => &[Table, State, Numbers, Room],
-            CallKind::Campaign => &[Table, State, Normal, Numbers, Room],
+            CallKind::Read | CallKind::RigRead => &[Table],
+            CallKind::Block | CallKind::RigBlock => &[Table, Index],
+            CallKind::Normalise | CallKind::RigNormalise => &[Table, Room],
+            CallKind::Step | CallKind::RigStep => &[Table, State, Index, Room],
+            CallKind::Decide | CallKind::RigDecide => &[Table, State, Numbers],
+            CallKind::Plan | CallKind::RigPlan => &[Table, State, Numbers, Room],
+            CallKind::Campaign | CallKind::RigCampaign => &[Table, State, Normal, Numbers, Room],
             CallKind::Pddl => &[Table, State, Room],
             CallKind::Blocking => &[Table, State, Numbers],
             CallKind::Rewrite => &[Table, Room],
@@ -93,7 +127,8 @@ impl CallKind {
 
     /// The call's name.
     pub fn name(self) -> &'static str {
-        let name = self.file().strip_suffix(".txt");
+        let file = self.file().rsplit('/').next();
+        let name = file.and_then(|file| file.strip_suffix(".txt"));
         name.expect("a file of outcomes is a text")
     }
 
@@ -115,6 +150,13 @@ impl CallKind {
             CallKind::Pddl => records::PDDL,
             CallKind::Blocking => records::BLOCKING,
             CallKind::Rewrite => records::REWRITE,
+            CallKind::RigRead => records::RIG_READ,
+            CallKind::RigBlock => records::RIG_BLOCK,
+            CallKind::RigNormalise => records::RIG_NORMALISE,
+            CallKind::RigStep => records::RIG_STEP,
+            CallKind::RigDecide => records::RIG_DECIDE,
+            CallKind::RigPlan => records::RIG_PLAN,
+            CallKind::RigCampaign => records::RIG_CAMPAIGN,
             CallKind::Listing => records::LISTING,
         }
     }

@@ -1,10 +1,10 @@
 //! The calls of an engine, so that one harness serves every implementation.
 
 use crate::answer::{Answer, Blocking, Campaign, Decision, Head, Plan, Refusal};
-use crate::reference;
+use crate::reference::{self, RIG};
 
 /// An implementation of the five calls, the reader, the campaign in one call, the PDDL text, the
-/// goal part that blocks, the rewriter and the listing.
+/// goal part that blocks, the rewriter and the listing; and of the calls with the rig's limits.
 ///
 /// A refusal leaves outputs as they were. Layer memory after a refusal holds what the
 /// specification says of that refusal.
@@ -49,6 +49,9 @@ pub trait Engine {
     fn listing(&self, task: &[u8], state: &[u8]) -> String {
         made_listing(self, task, state)
     }
+
+    /// The engine with the rig's limits: the five calls, the reader and the campaign.
+    fn rig(&self) -> Box<dyn Engine>;
 }
 
 /// The memories that are lent to `campaign`.
@@ -131,6 +134,8 @@ pub struct Calls {
     pub blocking: FindBlocking,
     pub rewrite: Rewrite,
     pub listing: Listing,
+    /// The calls with the rig's limits.
+    pub rig: Option<&'static Calls>,
 }
 
 type Read = fn(&[u8]) -> Result<Head, Refusal>;
@@ -159,6 +164,18 @@ pub const REFERENCE: Calls = Calls {
     blocking: reference::blocking,
     rewrite: reference::rewrite,
     listing: |_, task, state| reference::listing(task, state),
+    rig: Some(&REFERENCE_RIG),
+};
+
+/// The same with the rig's limits.
+pub const REFERENCE_RIG: Calls = Calls {
+    read: |table| RIG.read(table),
+    block: |table, b| RIG.block(table, b),
+    normalise: |table, out| RIG.normalise(table, out),
+    step: |table, state, mv, out| RIG.step(table, state, mv, out),
+    decide: |table, state, layers| RIG.decide(table, state, layers),
+    plan: |table, state, layers, out| RIG.plan(table, state, layers, out),
+    ..Calls::NONE
 };
 
 impl Calls {
@@ -175,7 +192,16 @@ impl Calls {
         blocking: |_, _, _| absent("blocking"),
         rewrite: |_, _| absent("rewrite"),
         listing: made_listing,
+        rig: None,
     };
+
+    /// The calls with the rig's limits.
+    ///
+    /// # Panics
+    /// If there are none.
+    pub fn on_rig(&self) -> Calls {
+        *self.rig.unwrap_or_else(|| absent("of the rig"))
+    }
 }
 
 fn absent(call: &str) -> ! {
@@ -236,5 +262,9 @@ impl Engine for Calls {
 
     fn listing(&self, task: &[u8], state: &[u8]) -> String {
         (self.listing)(self, task, state)
+    }
+
+    fn rig(&self) -> Box<dyn Engine> {
+        Box::new(self.on_rig())
     }
 }

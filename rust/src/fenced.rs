@@ -4,7 +4,7 @@
 #![allow(unsafe_code)]
 
 use crate::answer::{Blocking, Campaign, Decision, Head, Plan, Refusal};
-use crate::engine::{Engine, Lent};
+use crate::engine::{Calls, Engine, Lent};
 use crate::guarded::{Canary, MARGIN};
 use std::ffi::{c_int, c_long, c_void};
 use std::ops::{Deref, DerefMut};
@@ -138,9 +138,9 @@ fn writing<T: Canary, A>(memory: &mut [T], call: impl FnOnce(&mut [T]) -> A) -> 
 }
 
 /// Lends an engine copies behind fences: inputs to read only, outputs to write.
-pub struct Fenced<E>(pub E);
+pub struct Fenced(pub Calls);
 
-impl<E: Engine> Engine for Fenced<E> {
+impl Engine for Fenced {
     fn read(&self, table: &[u8]) -> Result<Head, Refusal> {
         self.0.read(&Fence::reading(table))
     }
@@ -215,12 +215,15 @@ impl<E: Engine> Engine for Fenced<E> {
         let table = Fence::reading(table);
         writing(out, |out| self.0.rewrite(&table, out))
     }
+
+    fn rig(&self) -> Box<dyn Engine> {
+        Box::new(Fenced(self.0.on_rig()))
+    }
 }
 
 #[cfg(test)]
 mod tests {
     use super::*;
-    use crate::engine::Calls;
     use std::env;
     use std::os::unix::process::ExitStatusExt;
     use std::process::Command;

@@ -6,6 +6,7 @@ mod damage;
 mod grid;
 mod helpful;
 mod maker;
+mod rig;
 mod rng;
 mod scale;
 mod sizes;
@@ -13,12 +14,13 @@ mod stored;
 mod task;
 mod text;
 mod tuned;
+mod waves;
 
 pub use crate::hex::hex;
 pub use blocked::{blocked, long_goal};
 pub use call::{
-    blocking_call, call, campaign_call, normal_length, pddl_call, plan_call, rewrite_call,
-    sized_calls,
+    blocking_call, call, calls_within_rig, campaign_call, normal_length, pddl_call, plan_call,
+    rewrite_call, rig_calls, sized_calls,
 };
 pub use damage::{
     command_string, damage, deletions, insertions, random_bytes, single_byte_changes, spoil,
@@ -27,10 +29,12 @@ pub use damage::{
 pub use grid::{grid, long_sum, m1_grid};
 pub use helpful::helpful;
 pub use maker::{task, task_of};
+pub use rig::{deep, near_ceiling};
 pub use rng::Rng;
 pub use scale::state_for;
 pub use sizes::Sizes;
 pub use stored::{long_stored, rewritten_length, stored};
 pub use task::{in_normal_form, Task};
 pub use text::{text_length, wordy};
-pub use tuned::{at_value_limit, dense, full_length, large_values, m1, many_records, steep, waves};
+pub use tuned::{at_value_limit, dense, full_length, large_values, m1, many_records, steep};
+pub use waves::waves;

@@ -7,6 +7,7 @@ mod helpful;
 mod idle_moves;
 mod reading;
 mod rewrite;
+mod rig;
 mod weight_zero;
 
 use self::blocking::BLOCKING;
@@ -20,6 +21,7 @@ use comparisons::COMPARISONS;
 use helpful::HELPFUL;
 use idle_moves::IDLE_MOVES;
 use rewrite::REWRITE;
+use rig::RIGS;
 use weight_zero::WEIGHT_ZERO;
 
 pub use rewrite::LIMITS;
@@ -53,6 +55,7 @@ pub fn check_found(kinds: &[CallKind], found: impl Fn(CallKind, &dyn Engine) -> 
         &IDLE_MOVES,
         &REWRITE,
         &HELPFUL,
+        &RIGS,
     ];
     let mut missed = Vec::new();
     for impostor in IMPOSTORS.iter().chain(others.into_iter().flatten()) {

@@ -15,7 +15,7 @@ use crate::call::{Call, CallKind, Field};
 
 /// Outputs and layer memory are shorter than these.
 pub const ROOM: usize = 8_192;
-const NUMBERS: usize = 1_024;
+const NUMBERS: usize = 4_096;
 
 /// The bytes before the state.
 const START: usize = 9;

@@ -21,6 +21,19 @@ pub const PROVED: Calls = Calls {
     pddl,
     blocking,
     rewrite,
+    rig: Some(&PROVED_RIG),
+    ..Calls::NONE
+};
+
+/// Its calls with the rig's limits.
+pub const PROVED_RIG: Calls = Calls {
+    read: rig::read,
+    block: rig::block,
+    normalise: rig::normalise,
+    step: rig::step,
+    decide: rig::decide,
+    plan: rig::plan,
+    campaign: |_, table, state, lent| rig::campaign(table, state, lent),
     ..Calls::NONE
 };
 
@@ -33,57 +46,62 @@ const UNWRITTEN: [u64; 2] = [0x0123_4567_89AB_CDEF, 0xFEDC_BA98_7654_3210];
 /// What the decision of a campaign holds before it: no call's answer.
 const UNDECIDED: u64 = u64::MAX;
 
-pub fn read(table: &[u8]) -> Result<Head, Refusal> {
-    let [kind, p, v_or_n, a] = raw::read(table)?.to_be_bytes();
-    Ok(Head { kind, p, v_or_n, a })
+/// The calls that the engine has twice, with the limits of document 01 and with the rig's, over the
+/// C functions of a module.
+macro_rules! calls {
+    ($raw:ident) => {
+        pub fn read(table: &[u8]) -> Result<Head, Refusal> {
+            let [kind, p, v_or_n, a] = $raw::read(table)?.to_be_bytes();
+            Ok(Head { kind, p, v_or_n, a })
+        }
+
+        /// # Panics
+        /// As `copied`.
+        pub fn block(table: &[u8], block: u64) -> Result<&[u8], Refusal> {
+            copied(table, |out| $raw::block(table, block, out))
+        }
+
+        pub fn normalise(table: &[u8], out: &mut [u8]) -> Result<usize, Refusal> {
+            $raw::normalise(table, out).map(|length| length as usize)
+        }
+
+        pub fn step(table: &[u8], state: &[u8], mv: u64, out: &mut [u8]) -> Result<usize, Refusal> {
+            $raw::step(table, state, mv, out).map(|length| length as usize)
+        }
+
+        pub fn decide(table: &[u8], state: &[u8], layers: &mut [i64]) -> Result<Decision, Refusal> {
+            $raw::decide(table, state, layers).map(decision)
+        }
+
+        /// # Panics
+        /// If a refusal wrote one of the two further numbers, or a canary beside them changed.
+        pub fn plan(
+            table: &[u8],
+            state: &[u8],
+            layers: &mut [i64],
+            out: &mut [u8],
+        ) -> Result<Plan, Refusal> {
+            planned(|records, first| $raw::plan(table, state, layers, out, records, first))
+        }
+
+        /// # Panics
+        /// As `plan`, for the decision's number too, and if that is not written.
+        pub fn campaign(table: &[u8], state: &[u8], lent: Lent) -> Campaign {
+            both(|numbers| $raw::campaign(table, state, lent, numbers))
+        }
+    };
 }
 
-/// The library copies a block's bytes; the part of the table that has them is handed back.
-///
-/// # Panics
-/// If no part of the table has them, or if a byte of the copy's memory that is to be kept
-/// changed.
-pub fn block(table: &[u8], block: u64) -> Result<&[u8], Refusal> {
-    let mut out = Guarded::filled(table.len() + 1, |i| !(i as u8));
-    let answer = raw::block(table, block, out.lend());
-    out.check("copy of the block")
-        .expect("all canaries are whole");
-    let length = answer.map_or(0, |length| length as usize);
-    let (part, behind) = out.lent().split_at(length);
-    assert!((length..).zip(behind).all(|(i, byte)| *byte == !(i as u8)));
-    answer?;
-    let place = (0..=table.len() - length).find(|at| table[*at..].starts_with(part));
-    let place = place.expect("a block is a part of its table");
-    Ok(&table[place..place + length])
-}
+calls!(raw);
 
-pub fn normalise(table: &[u8], out: &mut [u8]) -> Result<usize, Refusal> {
-    raw::normalise(table, out).map(|length| length as usize)
-}
+/// With the rig's limits.
+pub mod rig {
+    use super::raw::rig;
+    use super::{both, copied, decision, planned};
+    use crate::answer::{Campaign, Decision, Head, Plan, Refusal};
+    use crate::engine::Lent;
 
-pub fn step(table: &[u8], state: &[u8], mv: u64, out: &mut [u8]) -> Result<usize, Refusal> {
-    raw::step(table, state, mv, out).map(|length| length as usize)
-}
-
-pub fn decide(table: &[u8], state: &[u8], layers: &mut [i64]) -> Result<Decision, Refusal> {
-    raw::decide(table, state, layers).map(decision)
-}
-
-/// # Panics
-/// If a refusal wrote one of the two further numbers, or a canary beside them changed.
-pub fn plan(
-    table: &[u8],
-    state: &[u8],
-    layers: &mut [i64],
-    out: &mut [u8],
-) -> Result<Plan, Refusal> {
-    planned(|records, first| raw::plan(table, state, layers, out, records, first))
-}
-
-/// # Panics
-/// As `plan`, for the decision's number too, and if that is not written.
-pub fn campaign(table: &[u8], state: &[u8], lent: Lent) -> Campaign {
-    both(|numbers| raw::campaign(table, state, lent, numbers))
+    calls!(rig);
 }
 
 pub fn pddl(table: &[u8], state: &[u8], out: &mut [u8]) -> Result<usize, Refusal> {
@@ -96,6 +114,28 @@ pub fn blocking(table: &[u8], state: &[u8], layers: &mut [i64]) -> Result<Blocki
 
 pub fn rewrite(table: &[u8], out: &mut [u8]) -> Result<usize, Refusal> {
     raw::rewrite(table, out).map(|length| length as usize)
+}
+
+/// The library copies a block's bytes; the part of the table that has them is handed back.
+///
+/// # Panics
+/// If no part of the table has them, or if a byte of the copy's memory that is to be kept
+/// changed.
+fn copied(
+    table: &[u8],
+    call: impl FnOnce(&mut [u8]) -> Result<u32, Refusal>,
+) -> Result<&[u8], Refusal> {
+    let mut out = Guarded::filled(table.len() + 1, |i| !(i as u8));
+    let answer = call(out.lend());
+    out.check("copy of the block")
+        .expect("all canaries are whole");
+    let length = answer.map_or(0, |length| length as usize);
+    let (part, behind) = out.lent().split_at(length);
+    assert!((length..).zip(behind).all(|(i, byte)| *byte == !(i as u8)));
+    answer?;
+    let place = (0..=table.len() - length).find(|at| table[*at..].starts_with(part));
+    let place = place.expect("a block is a part of its table");
+    Ok(&table[place..place + length])
 }
 
 /// No part stands at offset 0, so 0 is free to say that nothing blocks.

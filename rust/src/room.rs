@@ -1,4 +1,33 @@
-//! How much memory always suffices: for a normal table with the counts P, N and A, and for text.
+//! The counts in a table's head, and how much memory always suffices: for a normal table with the counts
+//! P, N and A, and for text.
+
+use crate::reference::table::Kind;
+
+/// The counts in the head of a table of either kind, as its bytes say.
+#[derive(Clone, Copy)]
+pub struct Counts {
+    pub kind: Kind,
+    pub propositions: usize,
+    /// Written variables, or half of the signed ones.
+    pub values: usize,
+    pub moves: usize,
+}
+
+impl Counts {
+    /// None without a head.
+    pub fn of(table: &[u8]) -> Option<Counts> {
+        let [byte, counts @ ..] = table.first_chunk::<4>()?;
+        let [propositions, variables, moves] = counts.map(usize::from);
+        let kinds = [(Kind::Written, variables), (Kind::Normal, variables / 2)];
+        let known = kinds.into_iter().find(|(kind, _)| kind.byte() == *byte);
+        known.map(|(kind, values)| Counts {
+            kind,
+            propositions,
+            values,
+            moves,
+        })
+    }
+}
 
 /// P, N and A in the head of a normal table.
 pub fn counts(table: &[u8]) -> [usize; 3] {

@@ -3,6 +3,7 @@
 mod blocking;
 mod planning;
 mod rewriting;
+mod rig;
 mod shares;
 
 pub use shares::Shares;
@@ -14,17 +15,21 @@ use crate::engine::{Engine, REFERENCE};
 use crate::generate::Rng;
 use crate::harness::compare_over;
 
+/// Every reason to turn back, and 0 for none.
+const REASONS: usize = Reason::ALL.len() + 1;
+
 /// An engine compared with the reference, and how its calls went.
 pub struct Tally<'e> {
     engine: &'e dyn Engine,
     rng: Rng,
     /// Calls by the number of their refusal; 0 for accepted ones.
-    counts: [usize; 17],
+    counts: [usize; REASONS],
     /// Calls of a written table with a term of weight 0.
     zeros: usize,
     blocking: Shares,
     planning: Shares,
     rewriting: Shares,
+    rig: Shares,
 }
 
 impl<'e> Tally<'e> {
@@ -32,11 +37,12 @@ impl<'e> Tally<'e> {
         Tally {
             engine,
             rng: Rng::new(seed),
-            counts: [0; 17],
+            counts: [0; REASONS],
             zeros: 0,
             blocking: Shares::default(),
             planning: Shares::default(),
             rewriting: Shares::default(),
+            rig: Shares::default(),
         }
     }
 
@@ -56,12 +62,13 @@ impl<'e> Tally<'e> {
             CallKind::Blocking => self.blocking.add_blocking(call, &outcome.answer),
             CallKind::Plan | CallKind::Campaign => self.planning.add_planning(call, &outcome),
             CallKind::Rewrite => self.rewriting.add_rewriting(call),
+            kind if kind.is_rig() => self.rig.add_rig(call, &outcome.answer),
             _ => {}
         }
     }
 
     /// Calls by the number of their refusal; 0 for accepted ones.
-    pub fn counts(&self) -> &[usize; 17] {
+    pub fn counts(&self) -> &[usize; REASONS] {
         &self.counts
     }
 
@@ -96,6 +103,11 @@ impl<'e> Tally<'e> {
     /// What calls of `rewrite` had to tell apart.
     pub fn rewriting(&self) -> &Shares {
         &self.rewriting
+    }
+
+    /// What calls with the rig's limits had to tell apart.
+    pub fn rig(&self) -> &Shares {
+        &self.rig
     }
 
     /// Fails unless at least so many calls were refused for a move that does nothing.

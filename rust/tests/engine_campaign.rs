@@ -84,7 +84,7 @@ fn memories_around_what_is_needed() {
     }
     tally.expect(25_000, &[0, 13, 14, 15]);
     tally.expect_zero_terms(8_000);
-    tally.planning().expect_faults(22);
+    tally.planning().expect_faults(34);
     let shares = [("the moves that the plan takes", 1_000)];
     tally.planning().expect(&shares);
     assert!(

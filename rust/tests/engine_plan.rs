@@ -64,7 +64,7 @@ fn memories_and_outputs_around_what_is_needed() {
 
 /// Answers, and each fault in the set, by the calls that show them: about 70 % of what is found.
 fn expect_shares(shares: &Shares) {
-    shares.expect_faults(85);
+    shares.expect_faults(420);
     shares.expect(&[
         ("no plan", 4_600),
         ("answer layer 0", 6_000),
@@ -76,11 +76,11 @@ fn expect_shares(shares: &Shares) {
         ("a move may be usable in a later layer", 4_500),
         ("a proposition that layer 0 has counts", 1_700),
         ("a target that layer 0 reaches counts", 2_100),
-        ("a target that layer 0 just reaches counts", 870),
+        ("a target that layer 0 just reaches counts", 750),
         ("propositions only", 9_800),
         ("targets only", 7_900),
         ("effects have their values of layer 1", 2_900),
-        ("effects have values of 32 bits", 85),
+        ("effects have values of 32 bits", 620),
         ("+= 0 reaches a target", 950),
         ("every += reaches a target", 3_500),
         ("+= has to give as much as the target", 4_500),
@@ -88,7 +88,7 @@ fn expect_shares(shares: &Shares) {
         (":= has to exceed its target", 4_000),
         ("the wants are the goal's", 6_400),
         ("what is handed down to layer 1 is not wanted there", 3_000),
-        ("a target is the value of layer 1", 490),
+        ("a target is the value of layer 1", 420),
         ("whatever a move brings counts", 7_100),
         ("only the first effect of a move counts", 5_800),
         ("only the first addition of a move counts", 960),

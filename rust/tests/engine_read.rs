@@ -1,7 +1,8 @@
 //! The proved engine's read and block reader, over their C functions.
 
+use campaign::answer::Refusal;
 use campaign::call::{Call, CallKind};
-use campaign::engine::{Calls, Engine, REFERENCE};
+use campaign::engine::{Calls, Engine, REFERENCE, REFERENCE_RIG};
 use campaign::generate::{
     command_string, deletions, dense, full_length, grid, insertions, long_sum, m1, m1_grid,
     random_bytes, single_byte_changes, spoil, task, task_of, truncations, Rng, Task,
@@ -198,15 +199,18 @@ fn check_damaged_somewhere(tally: &mut Tally, rng: &mut Rng, table: &[u8]) {
     }
 }
 
+/// The C function of a block reader, and the reference's reader.
+type Copying = (fn(&[u8], u64, &mut [u8]) -> Result<u32, Refusal>, Calls);
+
 /// As much of a block as fits is copied; all other bytes of the output are kept.
-fn check_copy(rng: &mut Rng, table: &[u8], block: u64, room: usize) {
-    let before: Vec<u8> = (0..room).map(|_| rng.byte()).collect();
-    let mut out = Guarded::holding(&before);
+fn check_copy((copy, reference): Copying, table: &[u8], block: u64, before: &[u8]) {
+    let mut out = Guarded::holding(before);
     let lent = Guarded::holding(table);
-    let answer = raw::block(lent.lent(), block, out.lend());
+    let answer = copy(lent.lent(), block, out.lend());
     lent.check_unchanged("table", table).unwrap();
     out.check("copy").unwrap();
-    let expected = REFERENCE.block(table, block);
+    let expected = reference.block(table, block);
+    let room = before.len();
     let task = block_call(table, block);
     assert_eq!(
         answer,
@@ -219,6 +223,13 @@ fn check_copy(rng: &mut Rng, table: &[u8], block: u64, room: usize) {
     assert_eq!(out.lent()[copied..], before[copied..], "{task} into {room}");
 }
 
+/// The same with the limits of document 01 and with the rig's.
+fn check_copies(rng: &mut Rng, table: &[u8], block: u64, room: usize) {
+    let before: Vec<u8> = (0..room).map(|_| rng.byte()).collect();
+    check_copy((raw::block, REFERENCE), table, block, &before);
+    check_copy((raw::rig::block, REFERENCE_RIG), table, block, &before);
+}
+
 #[test]
 fn copies_of_blocks_fill_what_there_is() {
     let mut rng = Rng::new(111);
@@ -228,10 +239,10 @@ fn copies_of_blocks_fill_what_there_is() {
             for block in 0..=u64::from(table[3]) + 1 {
                 let length = REFERENCE.block(&table, block).map_or(3, <[u8]>::len);
                 for room in (length.saturating_sub(3)..length + 4).chain([0, 1]) {
-                    check_copy(&mut rng, &table, block, room);
+                    check_copies(&mut rng, &table, block, room);
                 }
             }
-            check_copy(&mut rng, &table[..table.len() - 1], 0, 20);
+            check_copies(&mut rng, &table[..table.len() - 1], 0, 20);
         }
     }
 }

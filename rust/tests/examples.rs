@@ -1,12 +1,12 @@
 //! The example campaigns: each commented listing is its binary table, each prints what is expected,
 //! the files for other planners are what the engine writes, and stored tables are rewritten.
 
-use crate::common::folder::{examples, pddl_parts, PDDL};
-use campaign::answer::Reason;
+use crate::common::folder::{examples, pddl_parts, repository, PDDL};
+use campaign::answer::{Head, Reason};
 use campaign::engine::{Engine, REFERENCE};
 use campaign::generate::Task;
 use campaign::harness::{rewritten, texted};
-use campaign::proved::PROVED;
+use campaign::proved::{rig, PROVED};
 use campaign::reference;
 use std::fs;
 use std::path::{Path, PathBuf};
@@ -43,6 +43,19 @@ fn each_listing_is_its_table() {
     for example in examples() {
         listed_table(&example, "task");
     }
+}
+
+/// The campaign at the rig's ceiling is taken by the rig's calls, and the one beside it, which has one
+/// more variable, by the full ones alone.
+#[test]
+fn the_rig_takes_one_table_and_not_the_other() {
+    let example = repository().join("examples/load_rig");
+    let counts = |head: Head| (head.v_or_n, head.a);
+    let table = listed_table(&example, "task");
+    assert_eq!(rig::read(&table).map(counts), Ok((8, 16)));
+    let beyond = listed_table(&example.join("ninth_variable"), "task");
+    assert_eq!(rig::read(&beyond), Err(Reason::BeyondRig.at(0)));
+    assert_eq!(PROVED.read(&beyond).map(counts), Ok((9, 16)));
 }
 
 /// A stored table is refused for a move without an effect, and its campaign is what the rewriter

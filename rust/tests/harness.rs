@@ -3,7 +3,7 @@
 use campaign::call::{Call, CallKind};
 use campaign::engine::{Calls, Engine, REFERENCE};
 use campaign::fenced::Fenced;
-use campaign::generate::{call, long_stored, m1, random_bytes, Rng, Task};
+use campaign::generate::{call, long_stored, m1, random_bytes, rig_calls, Rng, Task};
 use campaign::harness::compare;
 use campaign::hex::bytes;
 use campaign::impostors::{check_found, HONEST, LIMITS};
@@ -11,12 +11,18 @@ use campaign::input::{decode, encode, ROOM};
 use campaign::reference::table::Kind;
 use campaign::tally::Tally;
 
+/// Generated calls, and as many with the rig's limits.
+fn calls(rng: &mut Rng, count: usize) -> Vec<Call> {
+    let mut calls: Vec<Call> = (0..count).map(|_| call(rng)).collect();
+    calls.extend((0..count / 4).flat_map(|_| rig_calls(rng, 4)));
+    calls
+}
+
 #[test]
 fn calls_are_encoded_and_decoded() {
     let mut rng = Rng::new(501);
     let mut encoded = [0; CallKind::ALL.len()];
-    for _ in 0..3_000 {
-        let call = call(&mut rng);
+    for call in calls(&mut rng, 3_000) {
         if let Some(input) = encode(&call) {
             assert_eq!(decode(&input), call);
             encoded[call.kind as usize] += 1;
@@ -80,7 +86,7 @@ fn blocks_are_parts_of_the_callers_table() {
 #[test]
 fn generated_calls_find_impostors() {
     let mut rng = Rng::new(504);
-    let calls: Vec<Call> = (0..30_000).map(|_| call(&mut rng)).collect();
+    let calls = calls(&mut rng, 30_000);
     check_found(&CallKind::ALL, |kind, engine| {
         let mut calls = calls.iter().filter(|call| call.kind == kind);
         calls.any(|call| compare(call, &REFERENCE, engine).is_err())
@@ -225,6 +231,54 @@ fn shares_of_rewriting_are_counted() {
         ("enough, and shorter than the table", 1),
     ] {
         assert_eq!(tally.rewriting().count(name), count, "{name}");
+    }
+}
+
+#[test]
+#[should_panic(expected = "17 before 8: 0 only")]
+fn a_missing_share_of_the_rig_is_found() {
+    let tally = Tally::new(&REFERENCE, 1);
+    tally.rig().expect(&[("17 before 8", 1)]);
+}
+
+/// A ninth variable with a state of the wrong length, with one that fits and in the wrong kind of table,
+/// a seventeenth move of a table with a circle, and counts at the limits.
+#[test]
+fn shares_of_the_rig_are_counted() {
+    let mut tally = Tally::new(&REFERENCE, 1);
+    let nine = bytes("54 00 09 01 41 46 01 00 00000000 47 45");
+    for state in [vec![], vec![0; 36]] {
+        let table = nine.clone();
+        let task = Task { table, state };
+        tally.check(&task.call(CallKind::RigStep));
+        tally.check(&task.call(CallKind::RigDecide));
+    }
+    let moves = |count| "41 57 00 0001 46 00 01 00000000".repeat(count);
+    for table in [
+        format!(
+            "54 00 02 11 41 57 01 0001 46 00 00 00000000 {} 47 45",
+            moves(16)
+        ),
+        format!("4e 78 10 10 {} 47 45", moves(16)),
+    ] {
+        let (table, state) = (bytes(&table), Vec::new());
+        tally.check(&Task { table, state }.call(CallKind::RigRead));
+    }
+    for (name, count) in [
+        ("rig_step", 2),
+        ("rig_read", 2),
+        ("rig_decide", 2),
+        ("the wrong head before 17", 2),
+        ("17 before 8", 1),
+        ("17 before 13", 1),
+        ("9 variables alone", 2),
+        ("17 moves alone", 0),
+        ("7 before 17", 1),
+        ("16 moves", 1),
+        ("8 variables", 1),
+        ("120 propositions", 1),
+    ] {
+        assert_eq!(tally.rig().count(name), count, "{name}");
     }
 }
 

@@ -60,6 +60,13 @@ fn listing() {
     check_lines(&REFERENCE, CallKind::Listing);
 }
 
+#[test]
+fn calls_with_the_rigs_limits() {
+    for kind in CallKind::RIG {
+        check_lines(&REFERENCE, *kind);
+    }
+}
+
 /// The listing made of `campaign` prints the same.
 #[test]
 fn listing_of_other_calls() {

@@ -112,7 +112,7 @@ fn answers_that_no_example_has() {
     assert!(check_sessions(ANSWERS) >= 53);
 }
 
-/// 13 and 14 never come up, and 1 needs a long table.
+/// 13 and, without --rig, 14 never come up, and 1 needs a long table.
 #[test]
 fn refusals_are_explained() {
     assert!(check_sessions(REFUSALS) >= 99);
@@ -218,7 +218,7 @@ fn check_printed(task: &Task, folder: &Folder) -> usize {
 }
 
 /// A refusal is printed, with its status; otherwise there is an answer.
-fn check_answer(task: &Task, printed: &Printed, refusal: Option<Refusal>) {
+pub fn check_answer(task: &Task, printed: &Printed, refusal: Option<Refusal>) {
     assert_eq!(printed.error, "", "{task}");
     let status = i32::from(refusal.is_some());
     assert_eq!(printed.status, status, "{task}\n{}", printed.out);

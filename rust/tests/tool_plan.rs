@@ -49,9 +49,12 @@ fn expected(folder: &Folder, helpful: &[u64], others: &[u64]) -> Vec<String> {
     }
     let name = |mv: &u64| format!("a{mv}");
     let names: Vec<String> = helpful.iter().map(name).collect();
+    let (names, gives) = match &*names {
+        [name] => (name.clone(), "and gives"),
+        _ => (names.join(", "), "each gives"),
+    };
     let mut lines = vec![format!(
-        "helpful   {}: usable in this state, each gives something that the plan wants next",
-        names.join(", ")
+        "helpful   {names}: usable in this state, {gives} something that the plan wants next"
     )];
     let heading = match others.len() {
         0 => return lines,

@@ -21,12 +21,22 @@ fn copy() -> Folder {
         let name = example.file_name().expect("a name");
         let folder = copy.0.join("examples").join(name);
         fs::create_dir_all(&folder).expect("a folder");
-        let files = ["task.bin", "state.bin", "stored.bin"].iter();
-        for file in files.filter(|file| example.join(file).is_file()) {
-            fs::copy(example.join(file), folder.join(file)).expect("a file");
+        copy_files(&example, &folder);
+        let beside = Path::new("ninth_variable");
+        if example.join(beside).is_dir() {
+            fs::create_dir(folder.join(beside)).expect("a folder");
+            copy_files(&example.join(beside), &folder.join(beside));
         }
     }
     copy
+}
+
+/// Copies tables and states.
+fn copy_files(from: &Path, to: &Path) {
+    let files = ["task.bin", "state.bin", "stored.bin"].iter();
+    for file in files.filter(|file| from.join(file).is_file()) {
+        fs::copy(from.join(file), to.join(file)).expect("a file");
+    }
 }
 
 /// Indented lines, without their indent.
@@ -53,12 +63,12 @@ fn sessions(page: &str) -> Vec<(&str, String)> {
     sessions
 }
 
-/// Runs the sessions of a page in a folder and answers their commands.
-fn check_shown<'p>(folder: &Folder, page: &'p str) -> Vec<&'p str> {
+/// Runs the sessions of a page in a folder and answers their commands, with --rig in front of those that have it.
+fn check_shown(folder: &Folder, page: &str) -> Vec<String> {
     let checked = sessions(page).into_iter().map(|(line, expected)| {
         let words: Vec<&str> = line.split(' ').collect();
         assert_eq!(lapyndo(&folder.0, &words).out, expected, "{words:?}");
-        words[0]
+        words[..1 + usize::from(words[0] == "--rig")].join(" ")
     });
     checked.collect()
 }
@@ -67,7 +77,11 @@ fn check_shown<'p>(folder: &Folder, page: &'p str) -> Vec<&'p str> {
 fn the_readme_shows_what_is_printed() {
     let readme = text(&repository().join("README.md"));
     let commands = check_shown(&copy(), &readme);
-    assert_eq!(commands, ["plan", "step", "why", "pddl", "rewrite"]);
+    let rig = "--rig decide";
+    assert_eq!(
+        commands,
+        ["plan", "step", "why", "pddl", rig, rig, "rewrite"]
+    );
 }
 
 /// An example's README shows lines of what `why` prints.
@@ -118,6 +132,25 @@ fn an_example_shows_helpful_moves() {
     }
 }
 
+/// The campaign at the rig's ceiling, and a list that carries it out.
+#[test]
+fn an_example_shows_the_rigs_ceiling() {
+    let [page, table, state] = files("load_rig", ["README.md", "task.bin", "state.bin"]);
+    let page = String::from_utf8(page).expect("text");
+    let shown = check_shown(&copy(), &page);
+    assert_eq!(shown, ["--rig plan", "--rig decide", "decide"]);
+    check_solves(&table, &state, &list(&page, "moves "));
+}
+
+/// The list of moves that a page shows behind a name.
+fn list(page: &str, name: &str) -> Vec<u64> {
+    let list = indented(page).find_map(|line| line.strip_prefix(name));
+    let numbers = list.expect("a list").split_whitespace();
+    numbers
+        .map(|number| number.parse().expect("a number"))
+        .collect()
+}
+
 /// The page, the stored and the rewritten table and the state of the example of the rewriter.
 fn unfinished_rows() -> (String, [Vec<u8>; 3]) {
     let names = ["README.md", "stored.bin", "task.bin", "state.bin"];
@@ -142,21 +175,14 @@ fn an_example_shows_how_a_stored_table_is_rewritten() {
 #[test]
 fn an_example_shows_a_list_with_new_numbers() {
     let (page, [_, table, state]) = unfinished_rows();
-    let list = |name| -> Vec<u64> {
-        let list = indented(&page).find_map(|line| line.strip_prefix(name));
-        let numbers = list.expect("a list").split_whitespace();
-        numbers
-            .map(|number| number.parse().expect("a number"))
-            .collect()
-    };
     let (_, printed) = sessions(&page).swap_remove(0);
     let numbers: Vec<(u64, u64)> = rows(&printed, " -> a")
         .map(|(old, new)| (old as u64, new.parse().expect("a number")))
         .collect();
     let new = |old: &u64| numbers.iter().find(|(number, _)| number == old);
-    let renumbered = list("stored ");
+    let renumbered = list(&page, "stored ");
     let renumbered = renumbered.iter().filter_map(new).map(|(_, new)| *new);
     let renumbered: Vec<u64> = renumbered.collect();
-    assert_eq!(renumbered, list("now "));
+    assert_eq!(renumbered, list(&page, "now "));
     check_solves(&table, &state, &renumbered);
 }

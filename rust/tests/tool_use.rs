@@ -10,14 +10,15 @@ use std::io;
 use std::os::unix::fs::symlink;
 use std::process::{Command, Stdio};
 
+/// The commands, and how each is given.
 const COMMANDS: [(&str, &str); 7] = [
-    ("show", "FILE"),
-    ("decide", "FOLDER"),
-    ("plan", "FOLDER"),
-    ("why", "FOLDER"),
-    ("step", "FOLDER MOVE"),
-    ("pddl", "FOLDER"),
-    ("rewrite", "FILE OUT"),
+    ("show", "[--rig] show FILE"),
+    ("decide", "[--rig] decide FOLDER"),
+    ("plan", "[--rig] plan FOLDER"),
+    ("why", "why FOLDER"),
+    ("step", "[--rig] step FOLDER MOVE"),
+    ("pddl", "pddl FOLDER"),
+    ("rewrite", "rewrite FILE OUT"),
 ];
 
 fn here() -> Folder {
@@ -47,11 +48,8 @@ pub fn complaint(printed: Printed) -> String {
 #[test]
 fn help_of_all() {
     let help = answer(&["--help"]);
-    for (name, arguments) in COMMANDS {
-        assert!(
-            help.contains(&format!("lapyndo {name} {arguments} ")),
-            "{help}"
-        );
+    for (_, usage) in COMMANDS {
+        assert!(help.contains(&format!("lapyndo {usage} ")), "{help}");
     }
     for said in [
         "Exit status: 0",
@@ -67,12 +65,10 @@ fn help_of_all() {
 
 #[test]
 fn help_of_each() {
-    for (name, arguments) in COMMANDS {
+    for (name, usage) in COMMANDS {
         let help = answer(&[name, "--help"]);
-        assert!(
-            help.starts_with(&format!("usage: lapyndo {name} {arguments}\n")),
-            "{help}"
-        );
+        let usage = format!("usage: lapyndo {usage}\n");
+        assert!(help.starts_with(&usage), "{help}");
         assert!(help.contains("Exit status: 0"), "{help}");
         assert!(help.lines().all(|line| line.len() <= 100), "{help}");
         for words in [
@@ -91,7 +87,7 @@ fn no_command_at_all() {
     assert_eq!((printed.status, &*printed.out), (2, ""));
     assert!(printed.error.starts_with("lapyndo: a command is missing\n"));
     assert!(
-        printed.error.contains("lapyndo plan FOLDER "),
+        printed.error.contains("lapyndo [--rig] plan FOLDER "),
         "{}",
         printed.error
     );
@@ -105,15 +101,18 @@ fn wrong_words() {
         ("pan .", "there is no command 'pan'; see lapyndo --help"),
         ("help pan", "there is no command 'pan'; see lapyndo --help"),
         ("help plan .", "usage: lapyndo help [COMMAND]"),
-        ("plan", "0 arguments given; usage: lapyndo plan FOLDER"),
+        (
+            "plan",
+            "0 arguments given; usage: lapyndo [--rig] plan FOLDER",
+        ),
         ("why . x", "2 arguments given; usage: lapyndo why FOLDER"),
         (
             "show task.bin x",
-            "2 arguments given; usage: lapyndo show FILE",
+            "2 arguments given; usage: lapyndo [--rig] show FILE",
         ),
         (
             "step .",
-            "1 argument given; usage: lapyndo step FOLDER MOVE",
+            "1 argument given; usage: lapyndo [--rig] step FOLDER MOVE",
         ),
         (
             "rewrite task.bin",

@@ -7,6 +7,8 @@ ghost use Rattle.model.specs.Blocking.{blockingAnswer, blockingMemory};
 ghost use Rattle.model.specs.Pddl.{pddlAnswer, pddlOut};
 ghost use Rattle.model.specs.Rewrite.{rewriteAnswer, rewriteOut};
 ghost use Rattle.model.specs.Theorems.Campaigns.OneCall.{Promise};
+ghost use Rattle.ceiling.specs.Ceiling.{rig, readAnswerUnder, blockPartUnder, blockRefusalUnder, normaliseAnswerUnder, normaliseOutUnder, stepAnswerUnder, stepOutUnder, decideAnswerUnder, decideMemoryUnder, planAnswerUnder, planMemoryUnder, planOutUnder, campaignDecisionUnder, campaignPlanUnder, campaignMemoryUnder, campaignOutUnder};
+ghost use Rattle.ceiling.specs.Theorems.EndToEnd.{PromiseUnder};
 
 #[no_mangle]
 pub extern "C" fn lapyndo_read(table: &[u8]) -> u64
@@ -131,6 +133,103 @@ pub extern "C" fn lapyndo_campaign(
     let answers = campaign::campaign(table, state, normal, layers, out);
     let decided = answers.decision;
     *decision = codes::decide_code(decided);
+    let planned = answers.plan;
+    codes::plan_code(planned, records, first)
+}
+
+// ---- The rig's calls: the same under its ceiling, "16 moves, 8 written variables and 2,048 numbers of layer memory". A block's copy, the
+// number of records and the helpful moves are written as in the full calls; `lapyndo_rig_campaign` has demand 3 of what is answered.
+
+#[no_mangle]
+pub extern "C" fn lapyndo_rig_read(table: &[u8]) -> u64
+    ensures { λ c. ⌜ c ≡ readCode (readAnswerUnder rig paper (now (table .entry))) ⌝ }
+{
+    codes::read_code(rig::read(ceiling::board(), table))
+}
+
+#[no_mangle]
+pub extern "C" fn lapyndo_rig_block(table: &[u8], block: u64, out: &mut [u8]) -> u64
+    ensures { λ c. ⌜ (c ≡ writeCode (blockAnswer (blockPartUnder rig paper (now (table .entry)) block) (blockRefusalUnder rig paper (now (table .entry)) block)))
+        × (now (out .exit) ≡ blockCopy (blockPartUnder rig paper (now (table .entry)) block) (now (out .entry))) ⌝ }
+{
+    let mut number: u64 = 0;
+    let mut place: u64 = 0;
+    let part = rig::block_at(ceiling::board(), table, block, &mut number, &mut place);
+    integer::copy(part, out);
+    codes::part_code(part.len() as u64, number, place)
+}
+
+#[no_mangle]
+pub extern "C" fn lapyndo_rig_normalise(table: &[u8], out: &mut [u8]) -> u64
+    ensures { λ c. ⌜ (c ≡ writeCode (normaliseAnswerUnder rig paper (now (table .entry)) (now (out .entry))))
+        × (now (out .exit) ≡ normaliseOutUnder rig paper (now (table .entry)) (now (out .entry))) ⌝ }
+{
+    codes::write_code(rig::normalise(ceiling::board(), table, out))
+}
+
+#[no_mangle]
+pub extern "C" fn lapyndo_rig_step(table: &[u8], state: &[u8], chosen: u64, out: &mut [u8]) -> u64
+    ensures { λ c. ⌜ (c ≡ writeCode (stepAnswerUnder rig paper (now (table .entry)) (now (state .entry)) chosen (now (out .entry))))
+        × (now (out .exit) ≡ stepOutUnder rig paper (now (table .entry)) (now (state .entry)) chosen (now (out .entry))) ⌝ }
+{
+    codes::write_code(rig::step(ceiling::board(), table, state, chosen, out))
+}
+
+#[no_mangle]
+pub extern "C" fn lapyndo_rig_decide(table: &[u8], state: &[u8], layers: &mut [i64]) -> u64
+    ensures { λ c. ⌜ (c ≡ decideCode (decideAnswerUnder rig paper (now (table .entry)) (now (state .entry)) (now (layers .entry))))
+        × (now (layers .exit) ≡ decideMemoryUnder rig paper (now (table .entry)) (now (state .entry)) (now (layers .entry))) ⌝ }
+{
+    codes::decide_code(rig::decide(ceiling::board(), table, state, layers))
+}
+
+#[no_mangle]
+pub extern "C" fn lapyndo_rig_plan(
+    table: &[u8],
+    state: &[u8],
+    layers: &mut [i64],
+    out: &mut [u8],
+    records: &mut u64,
+    first: &mut u64,
+) -> u64
+    ensures { λ c. ⌜ (c ≡ planCode (planAnswerUnder rig paper (now (table .entry)) (now (state .entry)) (now (layers .entry)) (now (out .entry))))
+        × (now (layers .exit) ≡ planMemoryUnder rig paper (now (table .entry)) (now (state .entry)) (now (layers .entry)))
+        × (now (out .exit) ≡ planOutUnder rig paper (now (table .entry)) (now (state .entry)) (now (layers .entry)) (now (out .entry)))
+        × (now (records .exit) ≡ planRecordCount (planAnswerUnder rig paper (now (table .entry)) (now (state .entry)) (now (layers .entry)) (now (out .entry))) (now (records .entry)))
+        × (now (first .exit) ≡ planFirstMoves (planAnswerUnder rig paper (now (table .entry)) (now (state .entry)) (now (layers .entry)) (now (out .entry))) (now (first .entry))) ⌝ }
+{
+    codes::plan_code(
+        rig::plan(ceiling::board(), table, state, layers, out),
+        records,
+        first,
+    )
+}
+
+#[no_mangle]
+pub extern "C" fn lapyndo_rig_campaign(
+    table: &[u8],
+    state: &[u8],
+    normal: &mut [u8],
+    layers: &mut [i64],
+    out: &mut [u8],
+    decision: &mut u64,
+    records: &mut u64,
+    first: &mut u64,
+) -> u64
+    ensures { λ c. ⌜ (c ≡ planCode (campaignPlanUnder rig paper (now (table .entry)) (now (state .entry)) (now (normal .entry)) (now (layers .entry)) (now (out .entry))))
+        × (now (decision .exit) ≡ decideCode (campaignDecisionUnder rig paper (now (table .entry)) (now (state .entry)) (now (normal .entry)) (now (layers .entry))))
+        × (now (records .exit) ≡ planRecordCount (campaignPlanUnder rig paper (now (table .entry)) (now (state .entry)) (now (normal .entry)) (now (layers .entry)) (now (out .entry))) (now (records .entry)))
+        × (now (first .exit) ≡ planFirstMoves (campaignPlanUnder rig paper (now (table .entry)) (now (state .entry)) (now (normal .entry)) (now (layers .entry)) (now (out .entry))) (now (first .entry)))
+        × (now (normal .exit) ≡ normaliseOutUnder rig paper (now (table .entry)) (now (normal .entry)))
+        × (now (layers .exit) ≡ campaignMemoryUnder rig paper (now (table .entry)) (now (state .entry)) (now (normal .entry)) (now (layers .entry)))
+        × (now (out .exit) ≡ campaignOutUnder rig paper (now (table .entry)) (now (state .entry)) (now (normal .entry)) (now (layers .entry)) (now (out .entry)))
+        × PromiseUnder rig (now (table .entry)) (now (state .entry)) (now (normal .entry)) (now (layers .entry)) (now (out .entry))
+        (campaignDecisionUnder rig paper (now (table .entry)) (now (state .entry)) (now (normal .entry)) (now (layers .entry)))
+        (campaignPlanUnder rig paper (now (table .entry)) (now (state .entry)) (now (normal .entry)) (now (layers .entry)) (now (out .entry))) (now (out .exit)) ⌝ }
+{
+    let answers = rig::rig_campaign(ceiling::board(), table, state, normal, layers, out);
+    let answer = answers.decision;
+    *decision = codes::decide_code(answer);
     let planned = answers.plan;
     codes::plan_code(planned, records, first)
 }

@@ -1,16 +1,17 @@
 //! A task with the memories for all calls, and each call timed on both engines.
 
+use crate::engines::PROVED;
 use crate::timing::{compare, Times};
-use campaign::engine::{Engine, Lent, REFERENCE};
+use campaign::engine::{Calls, Engine, Lent, REFERENCE};
 use campaign::generate::{rewritten_length, text_length, Task};
-use campaign::proved::raw;
 use campaign::reference;
 use campaign::room;
 
-/// A written or normal task with the memories for all calls.
+/// A written or normal task with the memories for all calls, and the engines that are timed.
 pub struct Bench {
     pub name: String,
     pub task: Task,
+    engines: [Calls; 2],
     layers: Vec<i64>,
     out: Vec<u8>,
 }
@@ -21,6 +22,7 @@ impl Bench {
         let bytes = 64_000 + room::record_bytes(counts);
         Bench {
             name: name.into(),
+            engines: [PROVED, REFERENCE],
             layers: vec![0; room::layer_numbers(counts)],
             out: vec![0; bytes.max(room::text_bytes(task.table.len()))],
             task,
@@ -32,12 +34,14 @@ impl Bench {
         Bench::new(&format!("{}, normal", self.name), self.task.normal())
     }
 
+    /// The same for other engines: the first is timed in the engine's place.
+    pub fn of(self, engines: [Calls; 2]) -> Bench {
+        Bench { engines, ..self }
+    }
+
     pub fn read(&mut self) -> Times {
-        let table = &self.task.table;
-        compare(
-            || raw::read(table).is_ok(),
-            || REFERENCE.read(table).is_ok(),
-        )
+        let (table, [one, other]) = (&self.task.table, &self.engines);
+        compare(|| one.read(table).is_ok(), || other.read(table).is_ok())
     }
 
     pub fn normalise(&mut self) -> Times {
@@ -50,11 +54,11 @@ impl Bench {
     }
 
     fn normalised(&mut self, room: usize) -> Times {
-        let table = &self.task.table;
+        let (table, [one, other]) = (&self.task.table, &self.engines);
         let mut others = self.out.clone();
         compare(
-            || raw::normalise(table, &mut self.out[..room]).is_ok(),
-            || REFERENCE.normalise(table, &mut others[..room]).is_ok(),
+            || one.normalise(table, &mut self.out[..room]).is_ok(),
+            || other.normalise(table, &mut others[..room]).is_ok(),
         )
     }
 
@@ -69,63 +73,56 @@ impl Bench {
 
     pub fn step(&mut self) -> Times {
         let mv = self.usable_move();
-        let Task { table, state } = &self.task;
+        let (Task { table, state }, [one, other]) = (&self.task, &self.engines);
         let mut others = self.out.clone();
         compare(
-            || raw::step(table, state, mv, &mut self.out).is_ok(),
-            || REFERENCE.step(table, state, mv, &mut others).is_ok(),
+            || one.step(table, state, mv, &mut self.out).is_ok(),
+            || other.step(table, state, mv, &mut others).is_ok(),
         )
     }
 
     pub fn decide(&mut self) -> Times {
-        let Task { table, state } = &self.task;
+        let (Task { table, state }, [one, other]) = (&self.task, &self.engines);
         let mut others = self.layers.clone();
         compare(
-            || raw::decide(table, state, &mut self.layers).is_ok(),
-            || REFERENCE.decide(table, state, &mut others).is_ok(),
+            || one.decide(table, state, &mut self.layers).is_ok(),
+            || other.decide(table, state, &mut others).is_ok(),
         )
     }
 
     pub fn blocking(&mut self) -> Times {
-        let Task { table, state } = &self.task;
+        let (Task { table, state }, [one, other]) = (&self.task, &self.engines);
         let mut others = self.layers.clone();
         compare(
-            || raw::blocking(table, state, &mut self.layers).is_ok(),
-            || REFERENCE.blocking(table, state, &mut others).is_ok(),
+            || one.blocking(table, state, &mut self.layers).is_ok(),
+            || other.blocking(table, state, &mut others).is_ok(),
         )
     }
 
     pub fn plan(&mut self) -> Times {
-        let Task { table, state } = &self.task;
-        let (mut records, mut first) = (0, 0);
+        let (Task { table, state }, [one, other]) = (&self.task, &self.engines);
         let (mut layers, mut out) = (self.layers.clone(), self.out.clone());
         compare(
             || {
-                let lent = (&mut self.layers, &mut self.out);
-                raw::plan(table, state, lent.0, lent.1, &mut records, &mut first).is_ok()
+                let (layers, out) = (&mut self.layers, &mut self.out);
+                one.plan(table, state, layers, out).is_ok()
             },
-            || REFERENCE.plan(table, state, &mut layers, &mut out).is_ok(),
+            || other.plan(table, state, &mut layers, &mut out).is_ok(),
         )
     }
 
     pub fn campaign(&mut self) -> Times {
-        let Task { table, state } = &self.task;
+        let (Task { table, state }, [one, other]) = (&self.task, &self.engines);
         let mut others = self.out.clone();
-        let [mut lent, mut other] = [self.normal(), self.normal()];
-        let (mut decision, mut records, mut first_moves) = (0, 0, 0);
+        let [mut ones_lent, mut others_lent] = [self.normal(), self.normal()];
         compare(
             || {
-                let numbers = raw::Numbers {
-                    decision: &mut decision,
-                    records: &mut records,
-                    first_moves: &mut first_moves,
-                };
-                let lent = lent.lend(&mut self.out);
-                raw::campaign(table, state, lent, numbers).is_ok()
+                let lent = ones_lent.lend(&mut self.out);
+                one.campaign(table, state, lent).plan.is_ok()
             },
             || {
-                let lent = other.lend(&mut others);
-                REFERENCE.campaign(table, state, lent).plan.is_ok()
+                let lent = others_lent.lend(&mut others);
+                other.campaign(table, state, lent).plan.is_ok()
             },
         )
     }
@@ -140,11 +137,11 @@ impl Bench {
     }
 
     fn texted(&mut self, room: usize) -> Times {
-        let Task { table, state } = &self.task;
+        let (Task { table, state }, [one, other]) = (&self.task, &self.engines);
         let mut others = self.out.clone();
         compare(
-            || raw::pddl(table, state, &mut self.out[..room]).is_ok(),
-            || REFERENCE.pddl(table, state, &mut others[..room]).is_ok(),
+            || one.pddl(table, state, &mut self.out[..room]).is_ok(),
+            || other.pddl(table, state, &mut others[..room]).is_ok(),
         )
     }
 
@@ -158,11 +155,11 @@ impl Bench {
     }
 
     fn rewritten_into(&mut self, room: usize) -> Times {
-        let table = &self.task.table;
+        let (table, [one, other]) = (&self.task.table, &self.engines);
         let mut others = self.out.clone();
         compare(
-            || raw::rewrite(table, &mut self.out[..room]).is_ok(),
-            || REFERENCE.rewrite(table, &mut others[..room]).is_ok(),
+            || one.rewrite(table, &mut self.out[..room]).is_ok(),
+            || other.rewrite(table, &mut others[..room]).is_ok(),
         )
     }
 

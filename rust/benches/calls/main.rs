@@ -6,8 +6,10 @@
 mod bench;
 mod blocking;
 mod comparisons;
+mod engines;
 mod helpful;
 mod rewrite;
+mod rig;
 mod timing;
 
 use bench::Bench;
@@ -26,19 +28,25 @@ fn main() {
     blocking::parts_table();
     blocking::layers_table();
     rewrite::bytes_table();
+    rig::table();
 }
 
 /// The first generated task with 30 moves, 8 variables and a plan of some depth; no weight is 0.
 fn mid_size() -> Task {
-    let mut rng = Rng::new(30);
+    without_weight_0(&deep_enough(&mut Rng::new(30), [12, 8, 30]))
+}
+
+/// The first generated task with these counts and a plan of some depth.
+fn deep_enough(rng: &mut Rng, counts: [usize; 3]) -> Task {
     let deep = |task: &Task| Bench::new("", task.clone()).normal().reported_layers() >= 5;
-    let Task { table, state } = (0..)
-        .map(|_| task_of(&mut rng, Kind::Written, [12, 8, 30]))
-        .find(deep)
-        .expect("such a task comes up");
+    let mut tasks = (0..).map(|_| task_of(rng, Kind::Written, counts));
+    tasks.find(deep).expect("such a task comes up")
+}
+
+fn without_weight_0(task: &Task) -> Task {
     Task {
-        table: without_zero_terms(&table),
-        state,
+        table: without_zero_terms(&task.table),
+        state: task.state.clone(),
     }
 }
 

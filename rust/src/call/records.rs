@@ -1,6 +1,7 @@
 //! The files of recorded outcomes under `tests/data/`, and how many outcomes each has: the newest of
-//! a call, those of the calls of document 01, those from before plan's set held helpful moves, and
-//! those by hand on comparisons, on weight 0, on moves that do nothing and on helpful moves.
+//! a call, those of the calls of document 01, those from before plan's set held helpful moves, those by
+//! hand on comparisons, on weight 0, on moves that do nothing and on helpful moves, and of calls by hand
+//! on the rig's limits, recorded from the reference.
 
 pub type Records = &'static [(&'static str, usize)];
 
@@ -18,6 +19,7 @@ pub const BLOCK: Records = &[
     ("before-helpful/base/block.txt", 200),
     ("comparisons/block.txt", 4),
     ("idle-moves/block.txt", 16),
+    ("rig-by-hand/block.txt", 2),
 ];
 
 pub const NORMALISE: Records = &[
@@ -41,6 +43,7 @@ pub const DECIDE: Records = &[
     ("base/decide.txt", 319),
     ("before-helpful/decide.txt", 70),
     ("before-helpful/base/decide.txt", 340),
+    ("rig-by-hand/decide.txt", 1),
 ];
 
 pub const PLAN: Records = &[
@@ -49,6 +52,7 @@ pub const PLAN: Records = &[
     ("before-helpful/plan.txt", 51),
     ("before-helpful/base/plan.txt", 447),
     ("helpful/plan.txt", 39),
+    ("rig-by-hand/plan.txt", 1),
 ];
 
 /// Plans whose set has grown since: it holds the moves taken at layer 0 only. All else still holds.
@@ -59,6 +63,7 @@ pub const CAMPAIGN: Records = &[
     ("comparisons/campaign.txt", 4),
     ("helpful/campaign.txt", 39),
     ("idle-moves/campaign.txt", 4),
+    ("rig-by-hand/campaign.txt", 1),
 ];
 
 pub const PDDL: Records = &[
@@ -74,6 +79,26 @@ pub const REWRITE: Records = &[
     ("comparisons/rewrite.txt", 4),
     ("idle-moves/rewrite.txt", 9),
 ];
+
+pub const RIG_READ: Records = &[("rig/rig_read.txt", 160), ("rig-by-hand/rig_read.txt", 28)];
+
+pub const RIG_BLOCK: Records = &[("rig-by-hand/rig_block.txt", 30)];
+
+pub const RIG_NORMALISE: Records = &[
+    ("rig/rig_normalise.txt", 72),
+    ("rig-by-hand/rig_normalise.txt", 16),
+];
+
+pub const RIG_STEP: Records = &[("rig/rig_step.txt", 160), ("rig-by-hand/rig_step.txt", 21)];
+
+pub const RIG_DECIDE: Records = &[
+    ("rig/rig_decide.txt", 103),
+    ("rig-by-hand/rig_decide.txt", 22),
+];
+
+pub const RIG_PLAN: Records = &[("rig/rig_plan.txt", 89), ("rig-by-hand/rig_plan.txt", 23)];
+
+pub const RIG_CAMPAIGN: Records = &[("rig-by-hand/rig_campaign.txt", 21)];
 
 pub const LISTING: Records = &[
     ("listing.txt", 125),

@@ -1,7 +1,7 @@
 //! A call run on an engine, with the whole of every output in its outcome.
 
 use super::{Call, CallKind, Field};
-use crate::answer::Refusal;
+use crate::answer::{Campaign, Refusal};
 use crate::engine::{Engine, Lent};
 use crate::generate::Rng;
 use crate::guarded::{Canary, Guarded};
@@ -53,7 +53,10 @@ impl Call {
     /// Runs the call on its buffers. A broken canary, a changed input or a block outside the
     /// table is an error.
     pub fn run_over(&self, engine: &dyn Engine, mut buffers: Buffers) -> Result<Outcome, String> {
-        let answer = buffers.answer(engine, self)?;
+        let answer = match self.kind.is_rig() {
+            true => buffers.answer(&*engine.rig(), self),
+            false => buffers.answer(engine, self),
+        }?;
         buffers.check(self)?;
         Ok(Outcome { answer, buffers })
     }
@@ -69,7 +72,14 @@ pub struct Outcome {
 impl Outcome {
     /// What the layer memory holds.
     pub fn layers(&self) -> &[i64] {
-        self.buffers.layers.as_ref().map_or(&[], Guarded::lent)
+        self.buffers.layers()
+    }
+
+    /// The same with the first of its numbers of layer memory only.
+    pub fn with_numbers(mut self, numbers: usize) -> Outcome {
+        let layers = self.buffers.layers.iter_mut();
+        layers.for_each(|layers| *layers = Guarded::holding(&layers.lent()[..numbers]));
+        self
     }
 }
 
@@ -115,6 +125,11 @@ impl Buffers {
         }
     }
 
+    /// What the layer memory holds.
+    pub fn layers(&self) -> &[i64] {
+        self.layers.as_ref().map_or(&[], Guarded::lent)
+    }
+
     /// Makes the call and prints its answer.
     fn answer(&mut self, engine: &dyn Engine, call: &Call) -> Result<String, String> {
         let table = self.table.lent();
@@ -122,30 +137,30 @@ impl Buffers {
         let [normal, out] = [&mut self.normal, &mut self.out].map(lend);
         let layers = lend(&mut self.layers);
         Ok(match call.kind {
-            CallKind::Read => accepted(
+            CallKind::Read | CallKind::RigRead => accepted(
                 engine
                     .read(table)
                     .map(|head| format!("{:02x} {} {} {}", head.kind, head.p, head.v_or_n, head.a)),
             ),
-            CallKind::Block => match engine.block(table, call.index) {
+            CallKind::Block | CallKind::RigBlock => match engine.block(table, call.index) {
                 Ok(part) if !is_part(part, table) => {
                     return Err("the block is no part of the lent table".into())
                 }
                 answer => accepted(answer.map(hex)),
             },
-            CallKind::Normalise => accepted(engine.normalise(table, out)),
-            CallKind::Step => accepted(engine.step(table, state, call.index, out)),
-            CallKind::Decide => shown(engine.decide(table, state, layers)),
-            CallKind::Plan => shown(engine.plan(table, state, layers, out)),
-            CallKind::Campaign => {
+            CallKind::Normalise | CallKind::RigNormalise => accepted(engine.normalise(table, out)),
+            CallKind::Step | CallKind::RigStep => {
+                accepted(engine.step(table, state, call.index, out))
+            }
+            CallKind::Decide | CallKind::RigDecide => shown(engine.decide(table, state, layers)),
+            CallKind::Plan | CallKind::RigPlan => shown(engine.plan(table, state, layers, out)),
+            CallKind::Campaign | CallKind::RigCampaign => {
                 let lent = Lent {
                     normal,
                     layers,
                     out,
                 };
-                let campaign = engine.campaign(table, state, lent);
-                let [plan, decision] = [shown(campaign.plan), shown(campaign.decision)];
-                format!("{plan} decision {decision}")
+                both(engine.campaign(table, state, lent))
             }
             CallKind::Pddl => accepted(engine.pddl(table, state, out)),
             CallKind::Blocking => shown(engine.blocking(table, state, layers)),
@@ -186,6 +201,12 @@ fn accepted<A: Display>(answer: Result<A, Refusal>) -> String {
 
 fn shown<A: Display>(answer: Result<A, Refusal>) -> String {
     answer.map_or_else(|refusal| refusal.to_string(), |answer| answer.to_string())
+}
+
+/// Plan's answer, then decide's.
+fn both(campaign: Campaign) -> String {
+    let [plan, decision] = [shown(campaign.plan), shown(campaign.decision)];
+    format!("{plan} decision {decision}")
 }
 
 /// Numbers with blanks between them, `-` for none.

@@ -213,7 +213,7 @@ pub fn spoil(rng: &mut Rng, table: &mut Table) {
     let chosen = rng.below(blocks);
     let block = table.moves.get_mut(chosen).unwrap_or(&mut table.goal);
     let weight = neutral_weight(rng, kind);
-    if variables > 0 && rng.chance(1, 4) {
+    if variables > 0 && rng.chance(2, 5) {
         return close_circle(rng, block, variables, weight);
     }
     if block.items.is_empty() {
@@ -253,16 +253,18 @@ fn neutral_weight(rng: &mut Rng, kind: Kind) -> i128 {
     }
 }
 
-/// Adds a `:=` that reads its own variable or another one.
+/// Adds a `:=` that reads its own variable or any one.
 fn close_circle(rng: &mut Rng, block: &mut Block, variables: usize, weight: i128) {
+    let [any, variable] = [0, 1].map(|_| rng.below(variables));
+    let read = *rng.pick(&[any, variable]);
     let term = Term {
-        variable: rng.below(variables),
+        variable: read,
         weight,
     };
     block.items.push(Item::Effect(Effect {
         terms: vec![term],
         change: Change::Assign,
-        variable: rng.below(variables),
+        variable,
         constant: 0,
     }));
 }
@@ -281,10 +283,11 @@ fn spoil_item(rng: &mut Rng, kind: Kind, weight: i128, item: &mut Item) {
         return;
     }
     let at = rng.below(terms.len());
-    match rng.below(4) {
-        0 => terms[at].weight = *rng.pick(&[0, -1, WEIGHT_LIMIT + 1, -WEIGHT_LIMIT - 1]),
-        1 => terms[at].variable += 1 + rng.below(kind.variable_limit()),
-        2 => {
+    match rng.below(5) {
+        0 => terms[at].weight = 0,
+        1 => terms[at].weight = *rng.pick(&[0, -1, WEIGHT_LIMIT + 1, -WEIGHT_LIMIT - 1]),
+        2 => terms[at].variable += 1 + rng.below(kind.variable_limit()),
+        3 => {
             let variable = terms[at].variable;
             terms.insert(at + rng.below(2), Term { variable, weight });
         }

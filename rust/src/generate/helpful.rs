@@ -12,8 +12,8 @@ use crate::room;
 use crate::walk::{walked, Walk};
 
 /// The task with such moves anywhere among its own, a few or as many as there is room for, half of the
-/// time with a goal some layers further, and now and then with more variables, of large values. A task
-/// without a plan, or one that would be refused so, comes back as it is.
+/// time with a goal some layers further, and half of the time with more variables, of large values. A
+/// task without a plan, or one that would be refused so, comes back as it is.
 pub fn helpful(rng: &mut Rng, task: &Task) -> Task {
     let Ok((mut table, mut state)) = parse_task(&task.table, &task.state) else {
         return task.clone();
@@ -21,7 +21,7 @@ pub fn helpful(rng: &mut Rng, task: &Task) -> Task {
     if rng.chance(1, 2) {
         put_ladder(rng, &mut table, &mut state);
     }
-    if rng.chance(1, 4) {
+    if rng.chance(1, 2) {
         put_large_values(rng, &mut table, &mut state);
     }
     let state = state.encode();
@@ -100,6 +100,7 @@ fn moves_for(rng: &mut Rng, table: &Table, walk: &Walk) -> Vec<Block> {
     if rng.chance(1, 2) {
         blocks.splice(..0, late_growth(rng, table.kind, walk));
     }
+    blocks.splice(..0, Helper::new(rng, table.kind, walk).large_block());
     blocks.truncate(free);
     blocks
 }
@@ -269,6 +270,20 @@ impl<'h, 'w> Helper<'h, 'w> {
     fn has_large_values(&self) -> bool {
         let last = self.walk.table.variables - 1;
         self.walk.value(last, 0).abs() == NUMBER_LIMIT
+    }
+
+    /// A move with a large effect on a variable that is to be larger, if there are large values.
+    fn large_block(mut self) -> Option<Block> {
+        let wants = self.walk.wanted.get(1)?;
+        let missed = |(v, target): &(&usize, &i128)| self.walk.value(**v, 0) < **target;
+        let missed = wants.targets.iter().filter(missed);
+        let missed: Vec<usize> = missed.map(|(v, _)| *v).collect();
+        if missed.is_empty() || !self.has_large_values() {
+            return None;
+        }
+        let signed = *self.rng.pick(&missed);
+        let items = vec![self.large_effect(signed)];
+        Some(Block { items })
     }
 
     /// An effect on a signed variable with a value in layer 0 that is as far above 0 as can be, or

@@ -25,16 +25,19 @@ pub struct Sizes {
 }
 
 impl Sizes {
-    /// By the reference; for a refused task as if it had one layer and no plan.
+    /// As if a task had one layer and no plan.
+    const REFUSED: Sizes = Sizes {
+        entries: 3,
+        layer: 2,
+        plan: None,
+        stored: 1,
+        records: 0,
+    };
+
+    /// By the reference; for a refused task as said above.
     pub fn of(task: &Task) -> Sizes {
         let Ok(table) = parse_table(&task.table) else {
-            return Sizes {
-                entries: 3,
-                layer: 2,
-                plan: None,
-                stored: 1,
-                records: 0,
-            };
+            return Sizes::REFUSED;
         };
         let [p, n, a] = table.counts();
         let mut memory = vec![0; room::layer_numbers([p, n, a])];

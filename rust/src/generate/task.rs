@@ -1,6 +1,6 @@
 //! A table with a state, and calls of it.
 
-use crate::call::{Call, CallKind};
+use crate::call::{Call, CallKind, Field};
 use crate::hex::hex;
 use crate::reference::table::{Kind, Table};
 use crate::reference::{normal_form, parse_table};
@@ -35,10 +35,14 @@ impl Task {
     }
 
     /// A call of this task that is lent nothing.
-    fn call(&self, kind: CallKind) -> Call {
+    pub fn call(&self, kind: CallKind) -> Call {
+        let state: &[u8] = match kind.has(Field::State) {
+            true => &self.state,
+            false => &[],
+        };
         Call {
             table: self.table.clone(),
-            state: self.state.clone(),
+            state: state.to_vec(),
             ..kind.call()
         }
     }
@@ -82,9 +86,8 @@ impl Task {
     /// `rewrite` of this task's table with so many bytes of output.
     pub fn rewrite(&self, room: usize) -> Call {
         Call {
-            table: self.table.clone(),
             room,
-            ..CallKind::Rewrite.call()
+            ..self.call(CallKind::Rewrite)
         }
     }
 

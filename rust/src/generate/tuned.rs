@@ -1,4 +1,4 @@
-//! Tasks at the edges: many layers, many records, large values, full length; and M1.
+//! Tasks at the edges: many records, large values, full length; and M1.
 
 use super::rng::Rng;
 use super::task::Task;
@@ -20,35 +20,6 @@ pub fn m1() -> Task {
         table,
         state: vec![0; 9],
     }
-}
-
-/// Chains of `:=` run in waves, with hundreds of layers.
-///
-/// A chain hands a value from its first variable to its last, one variable a layer. The
-/// last one opens the next of the `gates`, which starts the following wave. The task has
-/// a plan half of the time.
-pub fn waves(rng: &mut Rng, kind: Kind, variables: usize, gates: usize) -> Task {
-    let mut names: Vec<usize> = (0..variables).collect();
-    rng.shuffle(&mut names);
-    let (first, last) = (names[0], names[variables - 1]);
-    let mut moves: Vec<Block> = chain_moves(rng, &names, MOVE_LIMIT - gates);
-    for gate in 0..gates as i128 {
-        moves.push(Block {
-            items: vec![at_least(last, gate), assign(first, &[], gate + 1)],
-        });
-    }
-    rng.shuffle(&mut moves);
-    let missing = i128::from(rng.chance(1, 2));
-    let table = Table {
-        kind,
-        propositions: 0,
-        variables,
-        moves,
-        goal: Block {
-            items: vec![at_least(last, gates as i128 + missing)],
-        },
-    };
-    task_at(table, &[])
 }
 
 /// A normal table whose plan has `adders` + 2 × `twice` records.
@@ -85,25 +56,6 @@ pub fn many_records(adders: usize, twice: usize) -> Task {
         table: table.encode(),
         state: state.encode(),
     }
-}
-
-/// The links of a chain, spread over at most `limit` moves, each with one at least.
-fn chain_moves(rng: &mut Rng, names: &[usize], limit: usize) -> Vec<Block> {
-    let mut links: Vec<Item> = names
-        .windows(2)
-        .map(|pair| assign(pair[1], &[(pair[0], 1)], 0))
-        .collect();
-    if links.is_empty() {
-        return Vec::new();
-    }
-    rng.shuffle(&mut links);
-    let count = 1 + rng.below(limit.min(links.len()));
-    let mut moves = vec![Block::default(); count];
-    for (i, link) in links.into_iter().enumerate() {
-        let chosen = if i < count { i } else { rng.below(count) };
-        moves[chosen].items.push(link);
-    }
-    moves
 }
 
 /// A chain of two `:=` whose last value is 10^12 or next to it.
@@ -344,7 +296,7 @@ fn true_condition(comparison: Comparison, terms: &[(usize, i128)]) -> Item {
     })
 }
 
-fn at_least(variable: usize, constant: i128) -> Item {
+pub(super) fn at_least(variable: usize, constant: i128) -> Item {
     sum_at_least(vec![(variable, 1)], constant)
 }
 
@@ -356,11 +308,11 @@ fn sum_at_least(terms: Vec<(usize, i128)>, constant: i128) -> Item {
     })
 }
 
-fn assign(variable: usize, terms: &[(usize, i128)], constant: i128) -> Item {
+pub(super) fn assign(variable: usize, terms: &[(usize, i128)], constant: i128) -> Item {
     effect(Change::Assign, variable, terms, constant)
 }
 
-fn increase(variable: usize, terms: &[(usize, i128)], constant: i128) -> Item {
+pub(super) fn increase(variable: usize, terms: &[(usize, i128)], constant: i128) -> Item {
     effect(Change::Increase, variable, terms, constant)
 }
 
@@ -379,7 +331,7 @@ pub(super) fn terms_of(terms: &[(usize, i128)]) -> Vec<Term> {
 }
 
 /// The task that starts with all propositions true and these values, then 0.
-fn task_at(table: Table, values: &[i128]) -> Task {
+pub(super) fn task_at(table: Table, values: &[i128]) -> Task {
     let mut state = State {
         propositions: vec![true; table.propositions],
         values: vec![0; table.state_values()],

@@ -6,67 +6,226 @@
 use crate::answer::{Reason, Refusal};
 use crate::engine::Lent;
 
+/// The result in an answer's number, or the refusal.
+///
+/// # Panics
+/// If the refusal's number is unknown.
+pub fn answered(number: u64) -> Result<u32, Refusal> {
+    let [reason, low] = [number >> 32, number & 0xFFFF_FFFF];
+    if reason == 0 {
+        return Ok(low as u32);
+    }
+    let known = u8::try_from(reason).ok().and_then(Reason::from_number);
+    let reason = known.unwrap_or_else(|| panic!("refusal {reason} is unknown"));
+    Err(Refusal { reason, place: low })
+}
+
+/// The three numbers that `campaign` writes: decide's whole answer always, plan's two further
+/// numbers in an answer only.
+pub struct Numbers<'n> {
+    pub decision: &'n mut u64,
+    pub records: &'n mut u64,
+    pub first_moves: &'n mut u64,
+}
+
+// Every pointer below comes from a reference and is passed with the length of its slice.
+// The functions keep no pointer, and references to mutable memory do not overlap others.
+
+/// The calls that the engine exports twice, with the limits of document 01 and with the rig's: the
+/// C functions of these names, over slices.
+macro_rules! calls {
+    ($read:ident, $block:ident, $normalise:ident, $step:ident, $decide:ident, $plan:ident, $campaign:ident) => {
+        extern "C" {
+            fn $read(table: *const u8, table_len: usize) -> u64;
+
+            fn $block(
+                table: *const u8,
+                table_len: usize,
+                block: u64,
+                out: *mut u8,
+                out_len: usize,
+            ) -> u64;
+
+            fn $normalise(table: *const u8, table_len: usize, out: *mut u8, out_len: usize) -> u64;
+
+            fn $step(
+                table: *const u8,
+                table_len: usize,
+                state: *const u8,
+                state_len: usize,
+                mv: u64,
+                out: *mut u8,
+                out_len: usize,
+            ) -> u64;
+
+            fn $decide(
+                table: *const u8,
+                table_len: usize,
+                state: *const u8,
+                state_len: usize,
+                layers: *mut i64,
+                layers_len: usize,
+            ) -> u64;
+
+            fn $plan(
+                table: *const u8,
+                table_len: usize,
+                state: *const u8,
+                state_len: usize,
+                layers: *mut i64,
+                layers_len: usize,
+                out: *mut u8,
+                out_len: usize,
+                records: *mut u64,
+                first_moves: *mut u64,
+            ) -> u64;
+
+            fn $campaign(
+                table: *const u8,
+                table_len: usize,
+                state: *const u8,
+                state_len: usize,
+                normal: *mut u8,
+                normal_len: usize,
+                layers: *mut i64,
+                layers_len: usize,
+                out: *mut u8,
+                out_len: usize,
+                decision: *mut u64,
+                records: *mut u64,
+                first_moves: *mut u64,
+            ) -> u64;
+        }
+
+        pub fn read(table: &[u8]) -> Result<u32, Refusal> {
+            answered(unsafe { $read(table.as_ptr(), table.len()) })
+        }
+
+        /// Copies as much of the block's part as fits.
+        pub fn block(table: &[u8], block: u64, out: &mut [u8]) -> Result<u32, Refusal> {
+            answered(unsafe {
+                $block(
+                    table.as_ptr(),
+                    table.len(),
+                    block,
+                    out.as_mut_ptr(),
+                    out.len(),
+                )
+            })
+        }
+
+        pub fn normalise(table: &[u8], out: &mut [u8]) -> Result<u32, Refusal> {
+            answered(unsafe {
+                $normalise(table.as_ptr(), table.len(), out.as_mut_ptr(), out.len())
+            })
+        }
+
+        pub fn step(table: &[u8], state: &[u8], mv: u64, out: &mut [u8]) -> Result<u32, Refusal> {
+            answered(unsafe {
+                $step(
+                    table.as_ptr(),
+                    table.len(),
+                    state.as_ptr(),
+                    state.len(),
+                    mv,
+                    out.as_mut_ptr(),
+                    out.len(),
+                )
+            })
+        }
+
+        pub fn decide(table: &[u8], state: &[u8], layers: &mut [i64]) -> Result<u32, Refusal> {
+            answered(unsafe {
+                $decide(
+                    table.as_ptr(),
+                    table.len(),
+                    state.as_ptr(),
+                    state.len(),
+                    layers.as_mut_ptr(),
+                    layers.len(),
+                )
+            })
+        }
+
+        /// Writes the number of records and the set of helpful moves in an answer only.
+        pub fn plan(
+            table: &[u8],
+            state: &[u8],
+            layers: &mut [i64],
+            out: &mut [u8],
+            records: &mut u64,
+            first_moves: &mut u64,
+        ) -> Result<u32, Refusal> {
+            answered(unsafe {
+                $plan(
+                    table.as_ptr(),
+                    table.len(),
+                    state.as_ptr(),
+                    state.len(),
+                    layers.as_mut_ptr(),
+                    layers.len(),
+                    out.as_mut_ptr(),
+                    out.len(),
+                    records,
+                    first_moves,
+                )
+            })
+        }
+
+        /// Answers what plan does.
+        pub fn campaign(
+            table: &[u8],
+            state: &[u8],
+            lent: Lent,
+            numbers: Numbers,
+        ) -> Result<u32, Refusal> {
+            answered(unsafe {
+                $campaign(
+                    table.as_ptr(),
+                    table.len(),
+                    state.as_ptr(),
+                    state.len(),
+                    lent.normal.as_mut_ptr(),
+                    lent.normal.len(),
+                    lent.layers.as_mut_ptr(),
+                    lent.layers.len(),
+                    lent.out.as_mut_ptr(),
+                    lent.out.len(),
+                    numbers.decision,
+                    numbers.records,
+                    numbers.first_moves,
+                )
+            })
+        }
+    };
+}
+
+calls!(
+    lapyndo_read,
+    lapyndo_block,
+    lapyndo_normalise,
+    lapyndo_step,
+    lapyndo_decide,
+    lapyndo_plan,
+    lapyndo_campaign
+);
+
+/// With the rig's limits.
+pub mod rig {
+    use super::{answered, Lent, Numbers, Refusal};
+
+    calls!(
+        lapyndo_rig_read,
+        lapyndo_rig_block,
+        lapyndo_rig_normalise,
+        lapyndo_rig_step,
+        lapyndo_rig_decide,
+        lapyndo_rig_plan,
+        lapyndo_rig_campaign
+    );
+}
+
 extern "C" {
-    fn lapyndo_read(table: *const u8, table_len: usize) -> u64;
-
-    fn lapyndo_block(
-        table: *const u8,
-        table_len: usize,
-        block: u64,
-        out: *mut u8,
-        out_len: usize,
-    ) -> u64;
-
-    fn lapyndo_normalise(table: *const u8, table_len: usize, out: *mut u8, out_len: usize) -> u64;
-
-    fn lapyndo_step(
-        table: *const u8,
-        table_len: usize,
-        state: *const u8,
-        state_len: usize,
-        mv: u64,
-        out: *mut u8,
-        out_len: usize,
-    ) -> u64;
-
-    fn lapyndo_decide(
-        table: *const u8,
-        table_len: usize,
-        state: *const u8,
-        state_len: usize,
-        layers: *mut i64,
-        layers_len: usize,
-    ) -> u64;
-
-    fn lapyndo_plan(
-        table: *const u8,
-        table_len: usize,
-        state: *const u8,
-        state_len: usize,
-        layers: *mut i64,
-        layers_len: usize,
-        out: *mut u8,
-        out_len: usize,
-        records: *mut u64,
-        first_moves: *mut u64,
-    ) -> u64;
-
-    fn lapyndo_campaign(
-        table: *const u8,
-        table_len: usize,
-        state: *const u8,
-        state_len: usize,
-        normal: *mut u8,
-        normal_len: usize,
-        layers: *mut i64,
-        layers_len: usize,
-        out: *mut u8,
-        out_len: usize,
-        decision: *mut u64,
-        records: *mut u64,
-        first_moves: *mut u64,
-    ) -> u64;
-
     fn lapyndo_pddl(
         table: *const u8,
         table_len: usize,
@@ -86,125 +245,6 @@ extern "C" {
     ) -> u64;
 
     fn lapyndo_rewrite(table: *const u8, table_len: usize, out: *mut u8, out_len: usize) -> u64;
-}
-
-/// The result in an answer's number, or the refusal.
-///
-/// # Panics
-/// If the refusal's number is unknown.
-pub fn answered(number: u64) -> Result<u32, Refusal> {
-    let [reason, low] = [number >> 32, number & 0xFFFF_FFFF];
-    if reason == 0 {
-        return Ok(low as u32);
-    }
-    let known = u8::try_from(reason).ok().and_then(Reason::from_number);
-    let reason = known.unwrap_or_else(|| panic!("refusal {reason} is unknown"));
-    Err(Refusal { reason, place: low })
-}
-
-// Every pointer below comes from a reference and is passed with the length of its slice.
-// The functions keep no pointer, and references to mutable memory do not overlap others.
-
-pub fn read(table: &[u8]) -> Result<u32, Refusal> {
-    answered(unsafe { lapyndo_read(table.as_ptr(), table.len()) })
-}
-
-/// Copies as much of the block's part as fits.
-pub fn block(table: &[u8], block: u64, out: &mut [u8]) -> Result<u32, Refusal> {
-    answered(unsafe {
-        lapyndo_block(
-            table.as_ptr(),
-            table.len(),
-            block,
-            out.as_mut_ptr(),
-            out.len(),
-        )
-    })
-}
-
-pub fn normalise(table: &[u8], out: &mut [u8]) -> Result<u32, Refusal> {
-    answered(unsafe { lapyndo_normalise(table.as_ptr(), table.len(), out.as_mut_ptr(), out.len()) })
-}
-
-pub fn step(table: &[u8], state: &[u8], mv: u64, out: &mut [u8]) -> Result<u32, Refusal> {
-    answered(unsafe {
-        lapyndo_step(
-            table.as_ptr(),
-            table.len(),
-            state.as_ptr(),
-            state.len(),
-            mv,
-            out.as_mut_ptr(),
-            out.len(),
-        )
-    })
-}
-
-pub fn decide(table: &[u8], state: &[u8], layers: &mut [i64]) -> Result<u32, Refusal> {
-    answered(unsafe {
-        lapyndo_decide(
-            table.as_ptr(),
-            table.len(),
-            state.as_ptr(),
-            state.len(),
-            layers.as_mut_ptr(),
-            layers.len(),
-        )
-    })
-}
-
-/// Writes the number of records and the set of helpful moves in an answer only.
-pub fn plan(
-    table: &[u8],
-    state: &[u8],
-    layers: &mut [i64],
-    out: &mut [u8],
-    records: &mut u64,
-    first_moves: &mut u64,
-) -> Result<u32, Refusal> {
-    answered(unsafe {
-        lapyndo_plan(
-            table.as_ptr(),
-            table.len(),
-            state.as_ptr(),
-            state.len(),
-            layers.as_mut_ptr(),
-            layers.len(),
-            out.as_mut_ptr(),
-            out.len(),
-            records,
-            first_moves,
-        )
-    })
-}
-
-/// The three numbers that `campaign` writes: decide's whole answer always, plan's two further
-/// numbers in an answer only.
-pub struct Numbers<'n> {
-    pub decision: &'n mut u64,
-    pub records: &'n mut u64,
-    pub first_moves: &'n mut u64,
-}
-
-/// Answers what plan does.
-pub fn campaign(table: &[u8], state: &[u8], lent: Lent, numbers: Numbers) -> Result<u32, Refusal> {
-    answered(unsafe {
-        lapyndo_campaign(
-            table.as_ptr(),
-            table.len(),
-            state.as_ptr(),
-            state.len(),
-            lent.normal.as_mut_ptr(),
-            lent.normal.len(),
-            lent.layers.as_mut_ptr(),
-            lent.layers.len(),
-            lent.out.as_mut_ptr(),
-            lent.out.len(),
-            numbers.decision,
-            numbers.records,
-            numbers.first_moves,
-        )
-    })
 }
 
 pub fn pddl(table: &[u8], state: &[u8], out: &mut [u8]) -> Result<u32, Refusal> {
@@ -249,8 +289,8 @@ mod tests {
     }
 
     #[test]
-    #[should_panic(expected = "refusal 17 is unknown")]
+    #[should_panic(expected = "refusal 18 is unknown")]
     fn an_unknown_refusal_is_found() {
-        let _ = answered(17 << 32);
+        let _ = answered(18 << 32);
     }
 }

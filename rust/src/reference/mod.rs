@@ -6,6 +6,7 @@
 #![forbid(unsafe_code)]
 
 mod blocking;
+mod ceiling;
 mod circle;
 mod layers;
 mod listing;
@@ -19,6 +20,7 @@ mod state;
 mod step;
 pub mod table;
 
+pub use ceiling::{Ceiling, FULL, RIG};
 pub use listing::{listing, record_line, MEMORY_ROOM, NORMAL_ROOM, PLAN_ROOM};
 pub use normal::{normal_conditions, normal_form};
 pub use plan::Record;
@@ -32,44 +34,22 @@ use table::{Kind, Table};
 
 /// Checks a table of either kind and answers its head.
 pub fn read(table: &[u8]) -> Result<Head, Refusal> {
-    parse(table, Wanted::Either)?;
-    Ok(Head {
-        kind: table[0],
-        p: table[1],
-        v_or_n: table[2],
-        a: table[3],
-    })
+    FULL.read(table)
 }
 
 /// The bytes of block b of a table of either kind.
 pub fn block(table: &[u8], b: u64) -> Result<&[u8], Refusal> {
-    let parsed = parse(table, Wanted::Either)?;
-    let range = usize::try_from(b)
-        .ok()
-        .and_then(|b| parsed.ranges.get(b))
-        .ok_or(Reason::NoSuchBlock.at(0))?;
-    Ok(&table[range.clone()])
+    FULL.block(table, b)
 }
 
 /// Writes the normal form of a written table and answers its length.
 pub fn normalise(table: &[u8], out: &mut [u8]) -> Result<usize, Refusal> {
-    let written = parse(table, Wanted::Only(Kind::Written))?.table;
-    deliver(&normal_form(&written).encode(), out)
+    FULL.normalise(table, out)
 }
 
 /// Writes the state after one real move of a written table and answers its length.
 pub fn step(table: &[u8], state: &[u8], mv: u64, out: &mut [u8]) -> Result<usize, Refusal> {
-    let written = parse(table, Wanted::Only(Kind::Written))?.table;
-    let before = State::parse(&written, state)?;
-    let block = usize::try_from(mv)
-        .ok()
-        .and_then(|mv| written.moves.get(mv))
-        .ok_or(Reason::NoSuchBlock.at(0))?;
-    if !step::holds(block, &before) {
-        return Err(Reason::ConditionsFail.at(0));
-    }
-    let after = step::result(block, &before).ok_or(Reason::ResultRange.at(0))?;
-    deliver(&after.encode(), out)
+    FULL.step(table, state, mv, out)
 }
 
 /// Writes a written table and a state as PDDL 2.1 text and answers its length.
@@ -87,13 +67,16 @@ pub fn pddl_text(table: &[u8], state: &[u8]) -> Result<Vec<u8>, Refusal> {
 
 /// Decides the relaxed task of a normal table.
 pub fn decide(table: &[u8], state: &[u8], layers: &mut [i64]) -> Result<Decision, Refusal> {
-    let (_, built) = build_layers(table, state, layers)?;
-    built.decision()
+    FULL.decide(table, state, layers)
 }
 
 /// Tells which part of a normal table's goal blocks where there is no plan.
 pub fn blocking(table: &[u8], state: &[u8], layers: &mut [i64]) -> Result<Blocking, Refusal> {
-    let (Parsed { ranges, .. }, built) = build_layers(table, state, layers)?;
+    let Parsed {
+        ranges,
+        table: parsed,
+    } = parse(table, Wanted::Only(Kind::Normal))?;
+    let built = layers_of(&parsed, state, layers)?;
     if built.decision()?.answer != Answer::NoPlan {
         return Ok(Blocking::Nothing);
     }
@@ -112,8 +95,7 @@ pub fn plan(
     layers: &mut [i64],
     out: &mut [u8],
 ) -> Result<Plan, Refusal> {
-    let table = parse(table, Wanted::Only(Kind::Normal))?.table;
-    plan_of(&table, state, layers, out)
+    FULL.plan(table, state, layers, out)
 }
 
 /// The same for a stored normal table, which may have moves that do nothing.
@@ -153,17 +135,6 @@ pub fn rewrite(table: &[u8], out: &mut [u8]) -> Result<usize, Refusal> {
 pub fn rewritten(table: &[u8]) -> Result<Vec<u8>, Refusal> {
     let stored = parse_stored(table, Wanted::Either)?;
     Ok(rewrite::without_idle_moves(table, &stored))
-}
-
-/// Checks a normal table, builds its layers and writes them into the layer memory.
-fn build_layers(
-    table: &[u8],
-    state: &[u8],
-    memory: &mut [i64],
-) -> Result<(Parsed, Layers), Refusal> {
-    let parsed = parse(table, Wanted::Only(Kind::Normal))?;
-    let built = layers_of(&parsed.table, state, memory)?;
-    Ok((parsed, built))
 }
 
 /// Builds the layers of a normal table and writes them into the layer memory.

@@ -1,6 +1,7 @@
 //! Calls of a table with room for every result, and the whole outcome of a refused one.
 
 use campaign::call::{Call, CallKind, Field};
+use campaign::hex::hex;
 
 /// The calls that take a written table, and those that take a normal one.
 pub const WRITTEN: [CallKind; 7] = [
@@ -36,16 +37,20 @@ pub fn roomy(kind: CallKind, table: &[u8], state: usize) -> Call {
 /// The outcome of such a call where the table is refused: every memory is as it was.
 pub fn refused(call: &Call, number: u8, place: usize) -> String {
     let refusal = format!("refusal {number} place {place}");
-    let answer = match call.kind {
+    let answer = match call.kind.full() {
         CallKind::Campaign => format!("{refusal} decision {refusal}"),
         CallKind::Listing => format!("{refusal}\\n"),
         _ => refusal,
     };
     let numbers = (0..call.numbers).map(|i| format!(" {}", -1_000 - i as i64));
+    let numbers = match call.numbers {
+        0 => " -".into(),
+        _ => numbers.collect(),
+    };
     let lent = [
-        (Field::Normal, " normal ", "a5".repeat(call.normal)),
-        (Field::Room, " out ", "a5".repeat(call.room)),
-        (Field::Numbers, " memory", numbers.collect()),
+        (Field::Normal, " normal ", hex(&vec![0xA5; call.normal])),
+        (Field::Room, " out ", hex(&vec![0xA5; call.room])),
+        (Field::Numbers, " memory", numbers),
     ];
     let lent = lent.into_iter().filter(|(field, ..)| call.kind.has(*field));
     let lent: String = lent

@@ -1,5 +1,6 @@
 -- `lapyndo_block` meets its contract. Assumes nothing.
 use mathlib.Core.Path.{_∙_}
+use Rattle.model.specs.Theorems.Sizes.Answers.{block-refused}
 use Rattle.codes.specs.Parts.{block-fits, block-answer, block-copied}
 use borrow.Author.Needs.{needs}
 use Rattle.engine.proofs.lapyndo_block.Statement.{statement}
@@ -13,7 +14,7 @@ copy-requires c κs = search needs
 
 part-code-requires : tie.Need-part-code-requires
 part-code-requires c κs =
-    block-fits _ _ _ _ (c .before .before .before .before .block-at .ensures .1)
+    block-fits _ (block-refused _ _) (c .before .before .before .before .block-at .ensures .1)
     (c .before .before .before .before .block-at .ensures .2)
 
 same-length : tie.Need-same-length
@@ -22,9 +23,9 @@ same-length c = search needs
 returns : tie.Need-returns
 returns c = (
   c .part-code .ensures
-      ∙ block-answer _ _ _ _ (c .before .before .before .before .before .block-at .ensures .1)
+      ∙ block-answer _ (block-refused _ _) (c .before .before .before .before .before .block-at .ensures .1)
       (c .before .before .before .before .before .block-at .ensures .2) _ (c .before .before .before .before .before .block-at .ensures .0),
-  block-copied _ _ _ (c .before .before .before .before .before .block-at .ensures .0) (c .before .before .before .copy .ensures),
+  block-copied _ _ (c .before .before .before .before .before .block-at .ensures .0) (c .before .before .before .copy .ensures),
 )
 
 pub lapyndo-block-spec : {M : Type 1} → statement M

@@ -1,5 +1,6 @@
 //! The commands, and help. A new command is a module with its `COMMAND`, and a line in `ALL`.
 
+use crate::engine::{Engine, FULL, RIG, RIG_MOVES, RIG_NUMBERS, RIG_VARIABLES};
 use crate::outcome::{Done, Misuse, Outcome};
 use crate::{pddl, planning, rewrite, show, step, why, words};
 use std::ffi::OsString;
@@ -12,9 +13,19 @@ pub struct Command {
     pub summary: &'static str,
     /// What its own help says further.
     pub help: &'static str,
-    /// Is given as many arguments as have names.
-    pub run: fn(&[OsString]) -> Done,
+    pub run: Run,
 }
+
+/// What runs a command. It is given as many arguments as have names.
+pub enum Run {
+    /// By the full engine's calls or by the rig's.
+    Either(fn(&'static Engine, &[OsString]) -> Done),
+    /// The rig has no such call.
+    Full(fn(&[OsString]) -> Done),
+}
+
+/// Stands before a command that is to ask the rig's calls.
+const ON_RIG: &str = "--rig";
 
 const ALL: &[Command] = &[
     show::SHOW,
@@ -43,6 +54,10 @@ A refusal is explained: its number, its place, and the command and bytes that st
 
 /// Runs what the words of the command line say.
 pub fn run(line: &[OsString]) -> Done {
+    let (engine, line) = match line.split_first() {
+        Some((first, rest)) if first == ON_RIG => (&RIG, rest),
+        _ => (&FULL, line),
+    };
     let Some((first, rest)) = line.split_first() else {
         return Err(Misuse(format!("a command is missing\n\n{}", list())));
     };
@@ -53,11 +68,34 @@ pub fn run(line: &[OsString]) -> Done {
     if rest.iter().any(is_help) {
         return Ok(Outcome::Answer(help_of(command)));
     }
-    if rest.len() != command.arguments.len() {
-        let (usage, given) = (usage(command), words::count(rest.len(), "argument"));
+    match command.run {
+        Run::Either(run) => run(engine, arguments(command, rest)?),
+        Run::Full(_) if engine.is_rig || names_rig(rest) => Err(Misuse(format!(
+            "the rig has no such call as {}; {ON_RIG} goes with {}",
+            command.name,
+            on_rig()
+        ))),
+        Run::Full(run) => run(arguments(command, rest)?),
+    }
+}
+
+/// The words behind a command, if they are as many as its arguments.
+fn arguments<'w>(command: &Command, words: &'w [OsString]) -> Result<&'w [OsString], Misuse> {
+    let usage = usage(command);
+    if names_rig(words) {
+        return Err(Misuse(format!(
+            "{ON_RIG} stands before the command; usage: {usage}"
+        )));
+    }
+    if words.len() != command.arguments.len() {
+        let given = words::count(words.len(), "argument");
         return Err(Misuse(format!("{given} given; usage: {usage}")));
     }
-    (command.run)(rest)
+    Ok(words)
+}
+
+fn names_rig(words: &[OsString]) -> bool {
+    words.iter().any(|word| word == ON_RIG)
 }
 
 fn is_help(word: &OsString) -> bool {
@@ -76,22 +114,58 @@ fn named(word: &OsString) -> Result<&'static Command, Misuse> {
 fn help(rest: &[OsString]) -> Done {
     match rest {
         [] => Ok(Outcome::Answer(format!(
-            "{INTRODUCTION}\n{}\n{STATUS}",
-            list()
+            "{INTRODUCTION}\n{}\n{}\n{STATUS}",
+            list(),
+            rig_help()
         ))),
         [word] => Ok(Outcome::Answer(help_of(named(word)?))),
         _ => Err(Misuse("usage: lapyndo help [COMMAND]".into())),
     }
 }
 
+/// How a command is given, with --rig where it may stand.
 fn usage(command: &Command) -> String {
-    let words = [&["lapyndo", command.name], command.arguments].concat();
-    words.join(" ")
+    let rig: &[&str] = match command.run {
+        Run::Either(_) => &["[--rig]"],
+        Run::Full(_) => &[],
+    };
+    [&["lapyndo"], rig, &[command.name], command.arguments]
+        .concat()
+        .join(" ")
 }
 
 fn help_of(command: &Command) -> String {
     let Command { summary, help, .. } = command;
-    format!("usage: {}\n\n{summary}\n\n{help}\n{STATUS}", usage(command))
+    let rig = match command.run {
+        Run::Either(_) => rig_help(),
+        Run::Full(_) => format!(
+            "The rig has no such call: {ON_RIG} goes with {}.\n",
+            on_rig()
+        ),
+    };
+    let usage = usage(command);
+    format!("usage: {usage}\n\n{summary}\n\n{help}\n{rig}\n{STATUS}")
+}
+
+/// What is to be known of the rig's calls.
+fn rig_help() -> String {
+    format!(
+        "\
+With --rig, {} ask the calls of the rig's board. These refuse a table
+with more than {RIG_VARIABLES} variables or {RIG_MOVES} moves (17), and have {RIG_NUMBERS} numbers of memory for layers and
+no more (14): show says which layers of a table fit, decide and plan how many numbers were used.
+",
+        on_rig()
+    )
+}
+
+/// The commands that the rig has calls for.
+fn on_rig() -> String {
+    let both = ALL
+        .iter()
+        .filter(|command| matches!(command.run, Run::Either(_)));
+    let names: Vec<&str> = both.map(|command| command.name).collect();
+    words::list(&names)
 }
 
 /// A line for each command.

@@ -1,5 +1,6 @@
 //! A refusal in words: its number, what it means, where it stands and why it stands there.
 
+use crate::engine::numbers_to;
 use crate::evaluate::{effects, Standing};
 use crate::files::{STATE, TASK};
 use crate::layer::Layer;
@@ -31,10 +32,13 @@ impl Case<'_> {
         let number = refusal.reason.number();
         let place = usize::try_from(refusal.place).unwrap_or(usize::MAX);
         let rows = match number {
-            1..=7 | 16 => refused::rows(&self.file(), &Scan::of(self.table), refusal.reason, place),
+            1..=7 | 16..=17 => {
+                refused::rows(&self.file(), &Scan::of(self.table), refusal.reason, place)
+            }
             8..=9 => self.state_rows(refusal.reason, place),
             10..=12 => self.step_rows(refusal.reason),
-            14..=15 => self.layer_rows(place),
+            14 => self.memory_rows(place),
+            15 => self.layer_rows(place),
             _ => Rows::new(),
         };
         let mut text = format!("{refusal}: {}\n", meaning(refusal.reason));
@@ -108,12 +112,26 @@ impl Case<'_> {
         rows
     }
 
-    /// Of a layer that could not be made: what the layer before it would give.
+    /// Of a layer that did not fit: the numbers up to it.
+    fn memory_rows(&self, layer: usize) -> Rows {
+        let counts = Scan::of(self.normal).counts();
+        let ([p, n, a], layers) = (counts, layer + 1);
+        let (wanted, lent) = (numbers_to(counts, layer), self.layers.len());
+        vec![
+            ("where", made(layer)),
+            (
+                "needs",
+                format!("{wanted} numbers: {p} for propositions, {a} for moves, {n} for each of {layers} layers"),
+            ),
+            ("why", format!("the rig has {lent} numbers")),
+            ("remedy", REMEDY.into()),
+        ]
+    }
+
+    /// Of a layer with a value that is too large: what the layer before it would give.
     fn layer_rows(&self, layer: usize) -> Rows {
-        let Some(before) = layer.checked_sub(1) else {
-            return vec![("where", "layer 0".into())];
-        };
-        let mut rows = vec![("where", format!("layer {layer}, made from layer {before}"))];
+        let mut rows = vec![("where", made(layer))];
+        let before = layer.saturating_sub(1);
         let scan = Scan::of(self.normal);
         let counts = scan.counts();
         Layer::of(counts, self.layers, before).standing(|standing| {
@@ -124,6 +142,18 @@ impl Case<'_> {
             }
         });
         rows
+    }
+}
+
+/// What can be done about a layer that the rig has no memory for.
+const REMEDY: &str = "on the rig fewer variables leave room for more layers; \
+    without --rig there is room for every layer";
+
+/// A layer, and the one before it.
+fn made(layer: usize) -> String {
+    match layer.checked_sub(1) {
+        None => "layer 0".into(),
+        Some(before) => format!("layer {layer}, made from layer {before}"),
     }
 }
 
@@ -178,7 +208,7 @@ fn stands(scan: &Scan, line: &Line) -> String {
     format!("byte {}: {text}", line.at)
 }
 
-/// What the numbers of document 01 mean.
+/// What the numbers of documents 01 and 02 mean.
 fn meaning(reason: Reason) -> &'static str {
     match reason {
         Reason::TableTooLong => "the table is too long",
@@ -189,6 +219,7 @@ fn meaning(reason: Reason) -> &'static str {
         Reason::MoveCount => "there are more or fewer moves than the head says",
         Reason::IdleMove => "a move has no effect: nearly always an unfinished row",
         Reason::Circle => "a variable is set (:=) from itself, in one effect or through others",
+        Reason::BeyondRig => "the table is beyond the rig's limits",
         Reason::StateLength => "the state has the wrong length",
         Reason::StateRange => "a byte or a value of the state is out of range",
         Reason::NoSuchBlock => "there is no such move",

@@ -1,5 +1,5 @@
 //! `lapyndo COMMAND ..`: a campaign's table, plan and steps in words, for people, and as files for
-//! other planners; and stored tables rewritten.
+//! other planners; and stored tables rewritten. With `--rig` in front, by the rig's calls.
 //!
 //! Every answer comes from the proved engine. This program reads and writes files, calls it, and
 //! puts answers and refusals into words.
@@ -8,6 +8,7 @@
 
 mod circle;
 mod commands;
+mod engine;
 mod evaluate;
 mod explain;
 mod files;

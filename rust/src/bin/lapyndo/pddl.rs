@@ -1,6 +1,6 @@
 //! `pddl FOLDER`: a campaign as files for other planners.
 
-use crate::commands::Command;
+use crate::commands::{Command, Run};
 use crate::explain::Case;
 use crate::files::{self, Folder};
 use crate::outcome::{Done, Misuse, Outcome};
@@ -22,7 +22,7 @@ moves solves the table from the state. PDDL sets no limit to values; step refuse
 takes one beyond 1000000 or -1000000.
 A refusal writes no file.
 ",
-    run,
+    run: Run::Full(run),
 };
 
 fn run(words: &[OsString]) -> Done {

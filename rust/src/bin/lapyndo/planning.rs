@@ -1,13 +1,14 @@
 //! `decide FOLDER` and `plan FOLDER`.
 
-use crate::commands::Command;
+use crate::commands::{Command, Run};
+use crate::engine::Engine;
 use crate::explain::Case;
 use crate::files::Folder;
 use crate::outcome::{Done, Outcome};
 use crate::scan::{Block, Scan, NORMAL};
 use crate::words;
 use campaign::answer::{Answer, Decision, Plan, Refusal};
-use campaign::{proved, room};
+use campaign::room;
 use std::ffi::OsString;
 
 pub const DECIDE: Command = Command {
@@ -20,12 +21,12 @@ A written table is brought into normal form first; a normal one is taken as it i
 Otherwise the goal is met in a layer of the relaxed task, in which nothing is deleted and no
 signed value (v or -v) falls. That does not promise a list that can be carried out.
 ",
-    run: |words| {
-        planned(words, &|task, layers| {
-            let decision = proved::decide(&task.normal, &task.folder.state, layers)?;
-            Ok(decided(decision))
+    run: Run::Either(|engine, words| {
+        planned(engine, words, &|task, layers| {
+            let decision = (engine.calls.decide)(&task.normal, &task.folder.state, layers)?;
+            Ok(decided(decision) + &engine.used(task.counts(), decision.layers))
         })
-    },
+    }),
 };
 
 pub const PLAN: Command = Command {
@@ -45,13 +46,14 @@ adds a proposition, sets a value to its target or beyond (:=), or moves it towar
 number; helpful moves that are not in the plan at all have lines of their own.
 \"No plan\" means that no list of moves, of any length, reaches the goal.
 ",
-    run: |words| {
-        planned(words, &|task, layers| {
+    run: Run::Either(|engine, words| {
+        planned(engine, words, &|task, layers| {
             let mut out = vec![0; room::record_bytes(task.counts())];
-            let plan = proved::plan(&task.normal, &task.folder.state, layers, &mut out)?;
-            Ok(decided(plan.decision()) + &task.plan(plan, &out))
+            let plan = (engine.calls.plan)(&task.normal, &task.folder.state, layers, &mut out)?;
+            let used = engine.used(task.counts(), plan.layers);
+            Ok(decided(plan.decision()) + &used + &task.plan(plan, &out))
         })
-    },
+    }),
 };
 
 /// The longest normal form.
@@ -66,16 +68,17 @@ pub struct Task {
 /// A call that answers text, lent layer memory.
 pub type Call<'c> = &'c dyn Fn(&Task, &mut [i64]) -> Result<String, Refusal>;
 
-pub fn planned(words: &[OsString], call: Call) -> Done {
+pub fn planned(engine: &Engine, words: &[OsString], call: Call) -> Done {
     let folder = Folder::read(&words[0])?;
-    let normal = match normal_table(&folder.table) {
+    let normal = match normal_table(engine, &folder.table) {
         Ok(normal) => normal,
         Err(refusal) => return Ok(refused(&folder, &[], &[], refusal)),
     };
     let task = Task { folder, normal };
     // No more than (A + N + 1)(N + 1) layers are ever reported, which is proved. There is room for
-    // all of them and for their records, so that refusals 13 and 14 never come up here.
-    let mut layers = vec![0; room::layer_numbers(task.counts())];
+    // the records of all of them, so that refusal 13 never comes up here, and for all of them in the
+    // full engine's memory, so that it never refuses with 14.
+    let mut layers = vec![0; engine.numbers(task.counts())];
     Ok(match call(&task, &mut layers) {
         Ok(text) => Outcome::Answer(task.heading() + &text),
         Err(refusal) => refused(&task.folder, &task.normal, &layers, refusal),
@@ -94,14 +97,14 @@ fn refused(folder: &Folder, normal: &[u8], layers: &[i64], refusal: Refusal) -> 
 }
 
 /// The table itself if it is a normal one, or its normal form.
-fn normal_table(table: &[u8]) -> Result<Vec<u8>, Refusal> {
+fn normal_table(engine: &Engine, table: &[u8]) -> Result<Vec<u8>, Refusal> {
     if table.first() == Some(&NORMAL) {
         // Its counts set the size of the memories, and so it is checked first.
-        proved::read(table)?;
+        (engine.calls.read)(table)?;
         return Ok(table.to_vec());
     }
     let mut normal = vec![0; NORMAL_ROOM];
-    let length = proved::normalise(table, &mut normal)?;
+    let length = (engine.calls.normalise)(table, &mut normal)?;
     normal.truncate(length);
     Ok(normal)
 }
@@ -155,8 +158,12 @@ impl Task {
         let planned = |mv: &usize| plan.list(out).any(|(taken, _)| taken == *mv as u64);
         let others: Vec<usize> = helpful.iter().copied().filter(|mv| !planned(mv)).collect();
         let list = words::moves(&helpful);
+        let gives = match helpful.len() {
+            1 => "and gives",
+            _ => "each gives",
+        };
         format!(
-            "helpful   {list}: usable in this state, each gives something that the plan wants next\n{}",
+            "helpful   {list}: usable in this state, {gives} something that the plan wants next\n{}",
             self.others(&others),
         )
     }

@@ -1,6 +1,7 @@
 //! Why a table is refused: what stands at the place, and what should.
 
 use crate::circle;
+use crate::engine::{RIG_MOVES, RIG_VARIABLES};
 use crate::explain::Rows;
 use crate::scan::{Block, Code, Form, Line, Scan, NORMAL};
 use crate::words::{self, CHANGES, COMPARISONS};
@@ -16,6 +17,11 @@ pub fn rows(file: &str, scan: &Scan, reason: Reason, place: usize) -> Rows {
     let fault = Fault { scan, place };
     let mut rows = vec![("where", fault.position(file))];
     rows.extend(fault.command().map(|text| ("command", text)));
+    if reason == Reason::BeyondRig {
+        rows.extend(beyond_rig(scan).map(|text| ("why", text)));
+        rows.push(("remedy", without_rig(scan)));
+        return rows;
+    }
     let why = match reason {
         Reason::Cut => fault.cut(),
         Reason::Misplaced => fault.misplaced(),
@@ -37,6 +43,35 @@ pub fn rows(file: &str, scan: &Scan, reason: Reason, place: usize) -> Rows {
 /// What can be done about a move without an effect.
 const REMEDY: &str =
     "finish the row; of a stored table, lapyndo rewrite FILE OUT drops all such moves";
+
+/// The counts of a head that the rig does not take, each with its offset.
+fn beyond_rig(scan: &Scan) -> impl Iterator<Item = String> {
+    let [_, variables, moves] = scan.counts();
+    let (variable, most) = match scan.is_normal() {
+        false => ("variable", RIG_VARIABLES),
+        true => ("signed variable", 2 * RIG_VARIABLES),
+    };
+    let counts = [
+        (2, variables, variable, most),
+        (3, moves, "move", RIG_MOVES),
+    ];
+    let beyond = counts
+        .into_iter()
+        .filter(|(_, count, _, most)| count > most);
+    beyond.map(|(at, count, what, most)| {
+        let count = words::count(count, what);
+        format!("byte {at}: there are {count}, and the rig takes {most} at most")
+    })
+}
+
+/// What can be done about a head that the rig does not take.
+fn without_rig(scan: &Scan) -> String {
+    let variables = match scan.is_normal() {
+        false => "16 variables",
+        true => "32 signed variables",
+    };
+    format!("without --rig a table may have {variables} and 64 moves")
+}
 
 /// Of a refusal of the table as a whole.
 fn whole_rows(file: &str, scan: &Scan, reason: Reason) -> Rows {

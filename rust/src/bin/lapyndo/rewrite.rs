@@ -1,6 +1,6 @@
 //! `rewrite FILE OUT`: a stored table without its moves that do nothing.
 
-use crate::commands::Command;
+use crate::commands::{Command, Run};
 use crate::explain::Case;
 use crate::files;
 use crate::outcome::{Done, Outcome};
@@ -24,7 +24,7 @@ its old and its new number.
 FILE is only read, and may not be OUT: what the dropped rows need stands nowhere else. An OUT that
 is there is replaced as a whole, and stays as it is where something fails. A refusal writes no file.
 ",
-    run,
+    run: Run::Full(run),
 };
 
 fn run(words: &[OsString]) -> Done {

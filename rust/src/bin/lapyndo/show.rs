@@ -1,13 +1,14 @@
 //! `show FILE`: a table in words.
 
-use crate::commands::Command;
+use crate::commands::{Command, Run};
+use crate::engine::Engine;
 use crate::explain::Case;
 use crate::files;
 use crate::outcome::{Done, Outcome};
 use crate::scan::{Code, Line, Scan};
+use crate::state::value_count;
 use crate::words;
 use campaign::answer::{Reason, Refusal};
-use campaign::proved;
 use std::ffi::OsString;
 use std::path::Path;
 
@@ -20,17 +21,19 @@ FILE is a written or a normal table. Each line has a command's offset and says w
 The terms of a sum have lines of their own; the condition or effect that closes them, on the
 line behind them, has the whole sum. A term of weight 0 is an unused cell of a written table:
 it contributes nothing, and only its own line shows it.
-Of a refused table the commands before the refused one are shown, then why it is refused.
+Of a refused table the commands before the refused one are shown, or all of them where the
+table is refused as a whole (7, 17), then why it is refused.
 ",
-    run,
+    run: Run::Either(run),
 };
 
-fn run(words: &[OsString]) -> Done {
+fn run(engine: &'static Engine, words: &[OsString]) -> Done {
     let file = Path::new(&words[0]);
     let table = files::table(file)?;
     let scan = Scan::of(&table);
-    let Err(refusal) = proved::read(&table) else {
-        return Ok(Outcome::Answer(listing(&scan, &scan.lines)));
+    let Err(refusal) = (engine.calls.read)(&table) else {
+        let text = listing(&scan, &scan.lines);
+        return Ok(Outcome::Answer(text + &held(engine, &scan)));
     };
     let case = Case {
         file: Some(file.display().to_string()),
@@ -44,10 +47,19 @@ fn run(words: &[OsString]) -> Done {
     Ok(Outcome::Refused(text + &case.explain(refusal)))
 }
 
+/// Which layers the rig's memory holds, where its calls are asked.
+fn held(engine: &Engine, scan: &Scan) -> String {
+    let [p, _, a] = scan.counts();
+    match engine.holds([p, 2 * value_count(scan), a]) {
+        said if said.is_empty() => said,
+        said => format!("\n{said}"),
+    }
+}
+
 /// The commands that were found good before a refusal.
 fn readable<'s, 't>(scan: &'s Scan<'t>, refusal: Refusal) -> &'s [Line<'t>] {
     let good = |line: &&Line| match refusal.reason {
-        Reason::Circle => true,
+        Reason::Circle | Reason::BeyondRig => true,
         _ => line.end() as u64 <= refusal.place,
     };
     let count = scan.lines.iter().take_while(good).count();

@@ -1,13 +1,13 @@
 //! `step FOLDER MOVE`: the state after one real move.
 
-use crate::commands::Command;
+use crate::commands::{Command, Run};
+use crate::engine::Engine;
 use crate::explain::Case;
 use crate::files::Folder;
 use crate::outcome::{Done, Misuse, Outcome};
 use crate::scan::{Block, Scan};
 use crate::state::State;
 use crate::words;
-use campaign::proved;
 use std::ffi::{OsStr, OsString};
 use std::fmt::Display;
 
@@ -21,14 +21,14 @@ Every variable is shown, and of the propositions those that changed and those th
 Where the move changes something, the line has what was before and what is now.
 No file is changed.
 ",
-    run,
+    run: Run::Either(run),
 };
 
-fn run(words: &[OsString]) -> Done {
+fn run(engine: &'static Engine, words: &[OsString]) -> Done {
     let mv = number(&words[1])?;
     let Folder { table, state } = Folder::read(&words[0])?;
     let mut after = vec![0; state.len()];
-    if let Err(refusal) = proved::step(&table, &state, mv, &mut after) {
+    if let Err(refusal) = (engine.calls.step)(&table, &state, mv, &mut after) {
         let case = Case {
             table: &table,
             state: &state,

@@ -1,6 +1,7 @@
 //! `why FOLDER`: the part of the goal that blocks.
 
-use crate::commands::Command;
+use crate::commands::{Command, Run};
+use crate::engine::FULL;
 use crate::evaluate::Value;
 use crate::layer::Layer;
 use crate::parts::{self, Part, Share};
@@ -24,7 +25,7 @@ No list of moves, of any length, reaches that part, even alone: while it stays i
 giving up other parts does not help. Conditions behind it that the last layer does not meet
 either have a line also: they have to be given up too.
 ",
-    run: |words| planning::planned(words, &why),
+    run: Run::Full(|words| planning::planned(&FULL, words, &why)),
 };
 
 fn why(task: &Task, layers: &mut [i64]) -> Result<String, Refusal> {

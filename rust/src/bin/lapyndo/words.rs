@@ -60,6 +60,14 @@ fn add(text: &mut String, weight: i64, name: &str) {
     text.push_str(&product);
 }
 
+/// Names in a row: `a, b and c`.
+pub fn list(names: &[&str]) -> String {
+    match names {
+        [before @ .., last] if !before.is_empty() => format!("{} and {last}", before.join(", ")),
+        _ => names.concat(),
+    }
+}
+
 /// A count and the word for what is counted.
 pub fn count(number: usize, one: &str) -> String {
     match number {

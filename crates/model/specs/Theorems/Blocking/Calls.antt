@@ -6,7 +6,6 @@ use mathlib.Core.Path.{_≡_, refl, sym, ap, ap₂, _∙_, subst, subst₂}
 use mathlib.Core.Logic.{_↔_, _⊎_}
 use mathlib.Core.List.{List}
 use mathlib.Core.Option.{none}
-use native.Mathlib.Omega.{arith}
 use lib.IntN.{ℤ}
 use lib.ListN.{length, getD}
 use Rattle.integer.specs.BigEndian.{AllBytes}
@@ -24,6 +23,7 @@ use Rattle.model.specs.StateTable.{stateRefusal}
 use Rattle.model.specs.Memory.{Built, answered, stopped, build}
 use Rattle.model.specs.Calls.{Ready, decided, decideOf, decideAnswer, decideMemory}
 use Rattle.model.specs.Blocking.{partOffset, unmetAnswer, blocked, blockingOf, blockingAnswer, blockingMemory}
+use Rattle.model.specs.Theorems.Laws.Booleans.{clash}
 use Rattle.model.specs.Theorems.Reading.Accepted.{reading-length, reading-canonical, reading-form, reading-task}
 use Rattle.model.specs.Theorems.Layers.Answer.{outcome-exhausted}
 use Rattle.model.specs.Theorems.Layers.Building.{built-outcome}
@@ -74,10 +74,6 @@ module _ {t bs : List ℕ} {d : DecideAnswer} where
         rw (a .offset, same) (part-code (a .table .task) (a .part) (a .first .inside) (reading-task paper normal t (a .read) .goalItems))
 
 -- ---- case by case with decide
-
--- two answers of different kinds
-clash : {X : Type 0} → _≡_ {A = ℕ} 0 1 → X
-clash e = absurd (omega arith)
 
 module _ (t bs : List ℕ) (mem : List ℤ) where
   -- the answers of decide and of blocking are one of three pairs: what holds of each pair holds of theirs

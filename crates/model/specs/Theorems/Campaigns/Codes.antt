@@ -52,7 +52,7 @@ module _ {A : Type 0} (result : ℕ → A) (back : Refusal → A) where
 
 -- ---- each kind of answer
 
-read-back : (a : ReadAnswer) → ReadSmall a → readApart (readCode a) ≡ a
+pub read-back : (a : ReadAnswer) → ReadSmall a → readApart (readCode a) ≡ a
 unfolding readApart readCode
 read-back (read.Refused r) s = refusal-apart _ _ r s
 read-back (read.Head kind props vars moves) s =
@@ -63,12 +63,12 @@ read-back (read.Head kind props vars moves) s =
     let m : n % 2 ^ 8 ≡ moves = omega arith in
     result-apart _ _ n (omega arith) ∙ rw (k, p, v, m) refl
 
-write-back : (a : WriteAnswer) → WriteSmall resultLimit a → writeApart (writeCode a) ≡ a
+pub write-back : (a : WriteAnswer) → WriteSmall resultLimit a → writeApart (writeCode a) ≡ a
 unfolding writeApart writeCode
 write-back (write.Refused r) s = refusal-apart _ _ r s
 write-back (write.Written n) s = result-apart _ _ n (omega arith)
 
-decide-back : (a : DecideAnswer) → DecideSmall a → decideApart (decideCode a) ≡ a
+pub decide-back : (a : DecideAnswer) → DecideSmall a → decideApart (decideCode a) ≡ a
 unfolding decideApart decideCode
 decide-back (decide.Refused r) s = refusal-apart _ _ r s
 decide-back (decide.Plan layer layers) s =
@@ -80,7 +80,7 @@ decide-back (decide.NoPlan layers) s =
     let below : code - 2 ^ 31 ≡ layers = omega arith in
     result-apart _ _ code (omega arith) ∙ rw (le-leb (2 ^ 31) code bit, below) refl
 
-plan-back : (a : PlanAnswer) → PlanSmall a → (x y : ℕ) → planApart (planCode a) (planRecordCount a x) (planFirstMoves a y) ≡ a
+pub plan-back : (a : PlanAnswer) → PlanSmall a → (x y : ℕ) → planApart (planCode a) (planRecordCount a x) (planFirstMoves a y) ≡ a
 unfolding planApart planCode planRecordCount planFirstMoves
 plan-back (plan.Refused r) s x y = refusal-apart _ _ r s
 plan-back (plan.Plan layer layers records moves) s x y =
@@ -102,7 +102,7 @@ blocking-back blocking.Nothing s = result-apart _ _ 0 (omega arith)
 -- ---- the exported calls: each code taken apart is the answer, and the same code is the same answer
 
 module _ {A : Type 0} (back : ℕ → A) where
-  one-answer : {a b : A} {c d : ℕ} → back c ≡ a → back d ≡ b → c ≡ d → a ≡ b
+  pub one-answer : {a b : A} {c d : ℕ} → back c ≡ a → back d ≡ b → c ≡ d → a ≡ b
   one-answer p q e = sym p ∙ ap back e ∙ q
 
 pub read-apart : (t : List ℕ) → readApart (readCode (readAnswer paper t)) ≡ readAnswer paper t

@@ -19,7 +19,8 @@ use Rattle.model.specs.StateTable.{stateOf, stateRefusal}
 use Rattle.model.specs.Memory.{Built, room, wrong15, answered, build, overwrite}
 use Rattle.model.specs.Plan.{Record, records, helpfulMoves, moveAndCount, planList}
 use Rattle.integer.specs.BigEndian.{AllBytes}
-use Rattle.model.specs.Calls.{Ready, Output, writes, fitted, outputAfter, ready, readyWith, readyOf, prepared, normalBytes, normaliseAnswer, decideAnswer, planAnswer, planOut, planRecords, recordBytes, recordsRead, decided, decideOf, planned, planOf, planFitted, planOutOf}
+use Rattle.model.specs.Calls.{Ready, Output, writes, fitted, outputAfter, ready, readyWith, readyOf, prepared, normalBytes, decideAnswer, planAnswer, planOut, planRecords, recordBytes, recordsRead, decided, decideOf, planned, planOf, planFitted, planOutOf}
+use Rattle.model.specs.declared.WriteAnswer.{WriteAnswer}
 use Rattle.model.specs.declared.WriteAnswer.the-variants as write
 use Rattle.model.specs.declared.DecideAnswer.{DecideAnswer}
 use Rattle.model.specs.declared.DecideAnswer.the-variants as decide
@@ -107,10 +108,12 @@ pub record Found (w : Table) (bs : List ℕ) (d : DecideAnswer) (p : PlanAnswer)
   -- and the list of what is read back solves the relaxed task
   pub solves : Solves relaxed (relaxedTask w) (layerZero w bs) (planList (map moveAndCount (recordsOf w bs layer)))
 
+-- What demand 3 says of a table, a state and the answers of normalise (a, with the bytes nb that it leaves), decide (d) and plan (p, with
+-- its output before and after), of whatever calls these are: the full ones, or those under a ceiling.
 pub record Answers
-    (w : Table) (t bs normalOut : List ℕ) (layers : List ℤ) (out nb : List ℕ) (d : DecideAnswer) (p : PlanAnswer) : Type 0 where
-  -- decide and plan run on exactly the bytes that normalise wrote
-  pub normalise : normaliseAnswer paper t normalOut ≡ write.Written (length (normalBytes (w .task)))
+    (w : Table) (bs : List ℕ) (a : WriteAnswer) (nb : List ℕ) (d : DecideAnswer) (p : PlanAnswer) (before after : List ℕ) : Type 0 where
+  -- normalise writes the normal form; nb, which decide and plan are given, is it
+  pub normalise : a ≡ write.Written (length (normalBytes (w .task)))
   pub normalForm : nb ≡ normalBytes (w .task)
   -- "no plan" exactly when no list of any length solves the relaxed task
   pub decideNoPlan : DecideNoPlan d ↔ ((list : List ℕ) → Solves relaxed (relaxedTask w) (layerZero w bs) list → ⊥)
@@ -121,9 +124,9 @@ pub record Answers
   pub decideReports : decideLayers d ≡ some (reported (endOf w bs))
   pub planReports : planLayers p ≡ some (reported (endOf w bs))
   -- with "no plan" these are the first layer whose next one equals it
-  pub notFound : DecideNoPlan d → NotFound w bs d p out (planOut paper nb bs layers out)
+  pub notFound : DecideNoPlan d → NotFound w bs d p before after
   -- otherwise the answer layer and the records, whose list solves the relaxed task
-  pub found : (DecideNoPlan d → ⊥) → Found w bs d p out (planOut paper nb bs layers out)
+  pub found : (DecideNoPlan d → ⊥) → Found w bs d p before after
 
 -- ---- the steps from the bytes to the answers
 

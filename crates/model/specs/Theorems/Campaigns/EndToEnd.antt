@@ -18,7 +18,7 @@ use Rattle.model.specs.Layer.{Outcome, reached, exhausted, reported, bou
 use Rattle.model.specs.Reading.{Table, accepted, refused, Verdict, only, reading}
 use Rattle.model.specs.Memory.{Built, answered, stopped, wrong15, build, overwrite}
 use Rattle.model.specs.Plan.{Record, helpfulMoves, moveAndCount, planList}
-use Rattle.model.specs.Calls.{Ready, ready, unready, readyWith, readyOf, prepared, decideOf, planOf, planFitted, normalBytes, decided, planned, planRecords, decideAnswer, planAnswer, planOut, recordBytes, recordsRead}
+use Rattle.model.specs.Calls.{Ready, ready, unready, readyWith, readyOf, prepared, decideOf, planOf, planFitted, normalBytes, normaliseAnswer, decided, planned, planRecords, decideAnswer, planAnswer, planOut, recordBytes, recordsRead}
 use Rattle.model.specs.declared.DecideAnswer.the-variants as decide
 use Rattle.model.specs.declared.PlanAnswer.{PlanAnswer}
 use Rattle.model.specs.declared.PlanAnswer.the-variants as plan
@@ -65,7 +65,8 @@ module _ (t bs normalOut : List ℕ) (layers : List ℤ) (out : List ℕ) (g : G
 
   abbrev Goal : List ℕ → Type 0
   Goal nb =
-      Answers (g .table) t bs normalOut layers out nb (decideAnswer paper nb bs layers) (planAnswer paper nb bs layers out)
+      Answers (g .table) bs (normaliseAnswer paper t normalOut) nb (decideAnswer paper nb bs layers) (planAnswer paper nb bs layers out)
+      out (planOut paper nb bs layers out)
 
   decides-as : (o : Outcome) → endOf (g .table) bs ≡ o → decideAnswer paper (normalBytes (g .table .task)) bs layers ≡ decided (answered o)
   decides-as o e = decide-answers (g .table) n bs layers out ready-is built ∙ ap (λ (x : Outcome). decided (answered x)) e
@@ -178,9 +179,9 @@ module _ (t bs normalOut : List ℕ) (layers : List ℤ) (out : List ℕ) (g : G
 -- reported layers.
 pub demand3 :
     (t bs normalOut : List ℕ) (layers : List ℤ) (out : List ℕ) (g : Given t bs normalOut layers out)
-    → Answers (g .table) t bs normalOut layers out (normalPart t normalOut (length (normalBytes (g .table .task))))
-    (decideAnswer paper (normalPart t normalOut (length (normalBytes (g .table .task)))) bs layers)
-    (planAnswer paper (normalPart t normalOut (length (normalBytes (g .table .task)))) bs layers out)
+    → let nb = normalPart t normalOut (length (normalBytes (g .table .task))) in
+    Answers (g .table) bs (normaliseAnswer paper t normalOut) nb (decideAnswer paper nb bs layers) (planAnswer paper nb bs layers out)
+    out (planOut paper nb bs layers out)
 unfolding normalTable
 demand3 t bs normalOut layers out g =
     whole t bs normalOut layers out g (reading-task paper written t (g .read)) (normalTable (g .table .task))

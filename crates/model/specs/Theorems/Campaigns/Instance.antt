@@ -15,7 +15,7 @@ use Rattle.model.specs.Seen.{nothingSeen}
 use Rattle.model.specs.Reading.{Table, Verdict, accepted, refused, tableOf, only, reading}
 use Rattle.model.specs.Layer.{reported}
 use Rattle.model.specs.Memory.{wrong15}
-use Rattle.model.specs.Calls.{normalBytes, decideAnswer, planAnswer, planOut, recordsRead}
+use Rattle.model.specs.Calls.{normalBytes, normaliseAnswer, decideAnswer, planAnswer, planOut, recordsRead}
 use Rattle.model.specs.Theorems.Campaigns.Tables.{zeros, m1}
 use Rattle.model.specs.Theorems.Campaigns.Computing.{computing}
 use Rattle.model.specs.Theorems.Campaigns.Demand2.{normalPart, SameSolutions, demand2}
@@ -30,14 +30,14 @@ tableIn (refused r) = tableOf nothingSeen
 unfoldable pub m1Table : Table
 m1Table = tableIn (reading paper (only written) m1)
 
-m1-small : (u : ℕ) → u ≤ reported (endOf m1Table (zeros 9)) → wrong15 paper (relaxedTask m1Table) (layerZero m1Table (zeros 9)) u ≡ false
+pub m1-small : (u : ℕ) → u ≤ reported (endOf m1Table (zeros 9)) → wrong15 paper (relaxedTask m1Table) (layerZero m1Table (zeros 9)) u ≡ false
 unfolding computing m1 m1Table tableIn
 m1-small zero h = refl
 m1-small (suc zero) h = refl
 m1-small (suc (suc zero)) h = refl
 m1-small (suc (suc (suc u))) h = absurd (omega arith)
 
-pub m1-given : Given m1 (zeros 9) (zeros 85) (replicate 16 (pos 7)) (zeros 30)
+unfoldable pub m1-given : Given m1 (zeros 9) (zeros 85) (replicate 16 (pos 7)) (zeros 30)
 unfolding computing m1 m1Table tableIn
 m1-given =
     record {
@@ -56,10 +56,9 @@ m1-demand2 = demand2 m1 (zeros 85) (m1-given .table) (m1-given .read) (m1-given 
 
 -- what demand 3 says of M1
 pub m1-demand3 :
-    let n = length (normalBytes (m1-given .table .task)) in
-    Answers (m1-given .table) m1 (zeros 9) (zeros 85) (replicate 16 (pos 7)) (zeros 30) (normalPart m1 (zeros 85) n)
-    (decideAnswer paper (normalPart m1 (zeros 85) n) (zeros 9) (replicate 16 (pos 7)))
-    (planAnswer paper (normalPart m1 (zeros 85) n) (zeros 9) (replicate 16 (pos 7)) (zeros 30))
+    let nb = normalPart m1 (zeros 85) (length (normalBytes (m1-given .table .task))) in
+    Answers (m1-given .table) (zeros 9) (normaliseAnswer paper m1 (zeros 85)) nb (decideAnswer paper nb (zeros 9) (replicate 16 (pos 7)))
+    (planAnswer paper nb (zeros 9) (replicate 16 (pos 7)) (zeros 30)) (zeros 30) (planOut paper nb (zeros 9) (replicate 16 (pos 7)) (zeros 30))
 m1-demand3 = demand3 m1 (zeros 9) (zeros 85) (replicate 16 (pos 7)) (zeros 30) m1-given
 
 -- "0 2", "1 4", "2 1": its records, read back from the output
@@ -106,10 +105,9 @@ pub grid-demand2 : SameSolutions gridGoal (zeros 39) (grid-given .table)
 grid-demand2 = demand2 gridGoal (zeros 39) (grid-given .table) (grid-given .read) (grid-given .normalRoom)
 
 pub grid-demand3 :
-    let n = length (normalBytes (grid-given .table .task)) in
-    Answers (grid-given .table) gridGoal gridState (zeros 39) (replicate 9 (pos 7)) (zeros 10) (normalPart gridGoal (zeros 39) n)
-    (decideAnswer paper (normalPart gridGoal (zeros 39) n) gridState (replicate 9 (pos 7)))
-    (planAnswer paper (normalPart gridGoal (zeros 39) n) gridState (replicate 9 (pos 7)) (zeros 10))
+    let nb = normalPart gridGoal (zeros 39) (length (normalBytes (grid-given .table .task))) in
+    Answers (grid-given .table) gridState (normaliseAnswer paper gridGoal (zeros 39)) nb (decideAnswer paper nb gridState (replicate 9 (pos 7)))
+    (planAnswer paper nb gridState (replicate 9 (pos 7)) (zeros 10)) (zeros 10) (planOut paper nb gridState (replicate 9 (pos 7)) (zeros 10))
 grid-demand3 = demand3 gridGoal gridState (zeros 39) (replicate 9 (pos 7)) (zeros 10) grid-given
 
 -- its one record: move 0 once

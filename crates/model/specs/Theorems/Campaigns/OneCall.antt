@@ -8,7 +8,7 @@ use lib.ListN.{length}
 use Rattle.model.specs.declared.DecideAnswer.{DecideAnswer}
 use Rattle.model.specs.declared.PlanAnswer.{PlanAnswer}
 use Rattle.model.specs.Limits.{paper}
-use Rattle.model.specs.Calls.{Output, writes, turns, normalBytes, normalised, decideAnswer, planAnswer, planMemory, planOut, onOutput, campaignDecision, campaignPlan, campaignMemory, campaignOut}
+use Rattle.model.specs.Calls.{Output, writes, turns, normalBytes, normalised, normaliseAnswer, decideAnswer, planAnswer, planMemory, planOut, onOutput, campaignDecision, campaignPlan, campaignMemory, campaignOut}
 use Rattle.model.specs.Theorems.Campaigns.Demand2.{normalPart, normalise-writes, normalise-leaves}
 use Rattle.model.specs.Theorems.Campaigns.Demand3.{Given, Answers, decideLayers, planLayers}
 use Rattle.model.specs.Theorems.Campaigns.EndToEnd.{demand3, LayersWithin, decide-within, plan-within}
@@ -23,8 +23,7 @@ Bounded (turns r) d p = Unit {0}
 pub record Promise (t bs normalOut : List ℕ) (layers : List ℤ) (out : List ℕ) (d : DecideAnswer) (p : PlanAnswer) (after : List ℕ) : Type 0 where
   pub claim :
       (g : Given t bs normalOut layers out)
-      → Answers (g .table) t bs normalOut layers out (normalPart t normalOut (length (normalBytes (g .table .task)))) d p
-      × (after ≡ planOut paper (normalPart t normalOut (length (normalBytes (g .table .task)))) bs layers out)
+      → Answers (g .table) bs (normaliseAnswer paper t normalOut) (normalPart t normalOut (length (normalBytes (g .table .task)))) d p out after
   pub bounded : Bounded (normalised paper t (length normalOut)) d p
 
 module _ (t bs normalOut : List ℕ) (layers : List ℤ) (out : List ℕ) where
@@ -59,11 +58,11 @@ module _ (t bs normalOut : List ℕ) (layers : List ℤ) (out : List ℕ) where
 
       claim :
           (g : Given t bs normalOut layers out)
-          → Answers (g .table) t bs normalOut layers out (normalPart t normalOut (length (normalBytes (g .table .task))))
-          (campaignDecision paper t bs normalOut layers) (campaignPlan paper t bs normalOut layers out)
-          × (campaignOut paper t bs normalOut layers out ≡ planOut paper (normalPart t normalOut (length (normalBytes (g .table .task)))) bs layers out)
+          → Answers (g .table) bs (normaliseAnswer paper t normalOut) (normalPart t normalOut (length (normalBytes (g .table .task))))
+          (campaignDecision paper t bs normalOut layers) (campaignPlan paper t bs normalOut layers out) out
+          (campaignOut paper t bs normalOut layers out)
       claim g = let nb = normalPart t normalOut (length (normalBytes (g .table .task))) in
-          (rw (decides-on nb (output g), plans-on nb (output g)) (demand3 t bs normalOut layers out g), writes-on nb (output g))
+          rw (decides-on nb (output g), plans-on nb (output g), writes-on nb (output g)) (demand3 t bs normalOut layers out g)
 
       bounded :
           (o : Output) → normalised paper t (length normalOut) ≡ o

@@ -1,7 +1,6 @@
 -- What makes a move helpful (document 02, request 6): a proposition that it adds, an effect that passes Plan's test; and the bit of a helpful
 -- move. Assumes nothing.
 use Prim.Native.Nat.{ℕ, suc, _<_}
-use native.Mathlib.Omega.{arith}
 use mathlib.Core.Path.{_≡_, sym, ap, subst, _∙_}
 use mathlib.Core.Bool.{not, _&&_}
 use mathlib.Core.List.{[], _∷_}
@@ -16,14 +15,11 @@ use Rattle.model.specs.Move.{State, moveAt}
 use Rattle.model.specs.Layer.{Layer, reaches, usable, layerAt}
 use Rattle.model.specs.Plan.{Target, least, Wants, achieves, wantsAt, reachesNew, supports, helpful, bit, helpfulMoves}
 use Rattle.model.specs.Theorems.Reading.WellFormed.{Once}
-use Rattle.model.specs.Theorems.Laws.Booleans.{true-T, T-true, and-both, or-left, or-right}
+use Rattle.model.specs.Theorems.Laws.Booleans.{true-T, T-true, and-both, or-left, or-right, clash}
 use Rattle.model.specs.Theorems.Laws.Listed.{any-in}
 use Rattle.model.specs.Theorems.Laws.Sets.{set-bit}
 use Rattle.model.specs.Theorems.NormalForm.Blocks.{any-implies}
 use Rattle.model.specs.Theorems.Plans.Descending.{elim-cases}
-
-clash : {X : Type 0} → _≡_ {A = ℕ} 0 1 → X
-clash e = absurd (omega arith)
 
 -- "a move has one effect at most on a variable": an effect that stands in a block is the block's effect on its variable
 pub effect-found : (e : Effect) (b : Block) → Once b → In (effect e) b → effectOn (e .var) b ≡ some e

@@ -1,5 +1,7 @@
 -- Boolean tests as facts: both, either, and a test's two outcomes. Each law takes its tests explicitly, since a fact `T b`
 -- computes and does not show b. Assumes nothing.
+use Prim.Native.Nat.{ℕ}
+use native.Mathlib.Omega.{arith}
 use mathlib.Core.Path.{_≡_, refl, sym, subst}
 use mathlib.Core.Bool.{Bool, true, false, _&&_, _||_, cond, Bool·beq}
 use lib.Dec.{T}
@@ -17,6 +19,10 @@ not-false false f = refl
 
 pub false-not : {b : Bool} → b ≡ false → T b → ⊥
 false-not e t = subst T e t
+
+-- two values of different kinds are said to be equal: `clash cc`
+pub clash : {X : Type 0} → _≡_ {A = ℕ} 0 1 → X
+clash e = absurd (omega arith)
 
 -- a test passes or fails
 pub T-cases : {X : Type 0} (b : Bool) → (T b → X) → ((T b → ⊥) → X) → X

@@ -46,14 +46,15 @@ module _ (L : Limits) (k : Task) (s : State) (size : ℕ) where
       found zero low high bad before = omega arith
       found (suc t) low high bad before = layers-fit t t (before t (omega arith) (omega arith))
 
--- decide leaves a memory of the same length
+-- what builds layers leaves a memory of the same length
+pub memory-length : (L : Limits) (r : Ready) (mem : List ℤ) → length (memoryOf L r mem) ≡ length mem
+unfolding memoryOf
+memory-length L (ready k s) mem = length-overwrite (builtMemory k s (build L k s (length mem))) mem (built-fits L k s (length mem))
+memory-length L (unready r) mem = refl
+
 pub decide-length : (t bs : List ℕ) (mem : List ℤ) → length (decideMemory paper t bs mem) ≡ length mem
-unfolding decideMemory memoryOf
-decide-length t bs mem = go (prepared paper t bs)
-  where
-    go : (r : Ready) → length (memoryOf paper r mem) ≡ length mem
-    go (ready k s) = length-overwrite (builtMemory k s (build paper k s (length mem))) mem (built-fits paper k s (length mem))
-    go (unready r) = refl
+unfolding decideMemory
+decide-length t bs mem = memory-length paper (prepared paper t bs) mem
 
 -- to decide again changes nothing
 pub decide-again : (t bs : List ℕ) (mem : List ℤ) → decideMemory paper t bs (decideMemory paper t bs mem) ≡ decideMemory paper t bs mem

@@ -197,5 +197,5 @@ pub no-plan-text :
     → ⊥
 no-plan-text {t} {bs} {x} {normalOut} {layers} {out} w g answer ms p =
     let same : w .table ≡ g .table = cc (w .read, g .read) in
-    campaign-promise t bs normalOut layers out .claim g .0 .unsolvable answer ms
+    campaign-promise t bs normalOut layers out .claim g .unsolvable answer ms
     (subst (λ (k : Table). Solves real (k .task) (stateOf (k .task .props) bs) ms) same (text-plans w ms .0 p))

@@ -19,7 +19,7 @@ use Rattle.model.specs.Ascii.{ascii}
 use Rattle.model.specs.Pddl.{given, equals, atomText, headText, lines, declarations, domainText, factText, problemText, domainOf, truths, values, problemOf, taskText, textWithState, textOf, pddlText, pddlAnswer}
 use Rattle.model.specs.Theorems.Reading.WellFormed.{TaskOk}
 use Rattle.model.specs.Theorems.Reading.Accepted.{reading-form, reading-length, reading-limit, reading-task}
-use Rattle.model.specs.Theorems.Reading.Places.{Small, IfSome, IfRefused, small-wider, state-refused}
+use Rattle.model.specs.Theorems.Reading.Places.{Full, Small, IfSome, IfRefused, small-wider, state-refused}
 use Rattle.model.specs.Theorems.Sizes.Answers.{placeLimit, WriteSmall, OutputSmall, answer-small, fitted-small, table-refused}
 use Rattle.model.specs.Theorems.Sizes.States.{SmallState, accepted-small}
 use Rattle.model.specs.Theorems.Pddl.Facts.{truths-first}
@@ -163,11 +163,11 @@ pddl-small t bs out =
   where
     by-state :
         (k : Table) → reading paper (only written) t ≡ accepted k
-        → (r : Option Refusal) → stateRefusal paper (k .task .props) (k .task .vars) bs ≡ r → IfSome (Small (k .task .props + 4 * k .task .vars)) r
+        → (r : Option Refusal) → stateRefusal paper (k .task .props) (k .task .vars) bs ≡ r → IfSome (Full (k .task .props + 4 * k .task .vars)) r
         → OutputSmall 330_000 (textWithState (k .task) bs r)
     by-state k e none right h = accepted-most t bs e right
     by-state k e (some r) right h =
-        let ok = reading-task paper written t e in small-wider (omega (arith, ok .props, ok .vars)) h
+        let ok = reading-task paper written t e in small-wider (omega arith) (omega (arith, ok .props, ok .vars)) h
 
     go : (v : Verdict) → reading paper (only written) t ≡ v → IfRefused (Small placeLimit) v → OutputSmall 330_000 (textOf paper v bs)
     go (accepted k) e h =

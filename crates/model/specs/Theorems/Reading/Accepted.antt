@@ -6,7 +6,7 @@ use mathlib.Core.Path.{_≡_, refl, sym, ap, ap₂, _∙_, subst, subst₂}
 use mathlib.Core.Bool.{false, not, _&&_}
 use mathlib.Core.List.{List, [], _∷_, _++_, append-nil}
 use lib.Dec.{T}
-use lib.ListN.{length}
+use lib.ListN.{length, getD}
 use lib.Seq.{take-all}
 use Rattle.integer.specs.BigEndian.{AllBytes}
 use Rattle.model.specs.Limits.{Limits}
@@ -146,6 +146,19 @@ module _ (L : Limits) (w : Wanted) (t : List ℕ) {k : Table} (e : reading L w t
   -- An accepted table is the bytes of its task: the format is canonical.
   pub reading-canonical : AllBytes t → t ≡ taskBytes (k .header .form) (k .task)
   reading-canonical = reading-accepted .prints .same
+
+-- Bytes 0, 2 and 3 of an accepted table are the form, the variables and the moves of its head.
+pub record HeadBytes (t : List ℕ) (h : Head) : Type 0 where
+  pub form : getD t 0 0 ≡ codeOf (head (h .form))
+  pub vars : getD t 2 0 ≡ h .vars
+  pub moves : getD t 3 0 ≡ h .moves
+
+pub head-bytes : (L : Limits) (w : Wanted) (t : List ℕ) {k : Table} → reading L w t ≡ accepted k → AllBytes t → HeadBytes t (k .header)
+unfolding taskBytes
+head-bytes L w t {k} e all =
+    let counts = reading-head L w t e in
+    rw (reading-canonical L w t e all)
+    (record { form = refl; vars = sym (counts .1); moves = sym (counts .2) })
 
 -- one verdict accepts one table
 pub accepted-one : {k n : Table} → accepted k ≡ accepted n → k ≡ n

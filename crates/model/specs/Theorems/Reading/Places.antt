@@ -1,5 +1,5 @@
--- The numbers and places of refusals are small: a number is 1 to `lastNumber`, and a place of a table stands at most three bytes behind
--- the longest one. Assumes nothing.
+-- The numbers and places of refusals are small: the number of a table's or a state's is 1 to `fullNumber`, and a place of a table stands at
+-- most three bytes behind the longest one. Assumes nothing.
 use Prim.Native.Nat.{ℕ, zero, suc, _+_, _*_, _≤_, _<_}
 use mathlib.Core.Bool.{Bool, true, false, not}
 use mathlib.Core.List.{List, [], _∷_}
@@ -8,7 +8,7 @@ use native.Mathlib.Omega.{arith}
 use lib.Dec.{T, eqb, leb, ltb, ltb→lt, nltb→le, lit≤}
 use lib.ListN.{length, getD}
 use Rattle.model.specs.declared.Refusal.{Refusal}
-use Rattle.model.specs.Limits.{Limits, lastNumber}
+use Rattle.model.specs.Limits.{Limits, fullNumber, lastNumber}
 use Rattle.model.specs.Lists.{firstFrom}
 use Rattle.model.specs.Circle.{circular}
 use Rattle.model.specs.Command.{Command, head, openMove, openGoal, endTable, needProp, addProp, deleteProp, term, closeCondition, closeEffect, unknown, commandOf, Place, start, preamble, inMove, inGoal, finished}
@@ -18,10 +18,17 @@ use Rattle.model.specs.StateTable.{valueOffset, stateValue, valueInRange
 use Rattle.model.specs.Theorems.Reading.WellFormed.{All}
 use Rattle.model.specs.Theorems.Laws.Searching.{firstFrom-cases}
 
-pub record Small (limit : ℕ) (r : Refusal) : Type 0 where
+pub record SmallTo (last limit : ℕ) (r : Refusal) : Type 0 where
   pub positive : 1 ≤ r .number
-  pub number : r .number ≤ lastNumber
+  pub number : r .number ≤ last
   pub place : r .place ≤ limit
+
+-- of a full call, and of any
+abbrev pub Full : ℕ → Refusal → Type 0
+Full limit r = SmallTo fullNumber limit r
+
+abbrev pub Small : ℕ → Refusal → Type 0
+Small limit r = SmallTo lastNumber limit r
 
 -- of what is refused, if anything is
 abbrev pub IfSome : (Refusal → Type 0) → Option Refusal → Type 0
@@ -40,7 +47,7 @@ first-small P [] h = tt
 first-small P (none ∷ rs) h = first-small P rs (h .1)
 first-small P (some r ∷ rs) h = h .0
 
-refusedAt-small : (limit n : ℕ) (b : Bool) (p : ℕ) → 1 ≤ n → n ≤ lastNumber → p ≤ limit → IfSome (Small limit) (refusedAt n b p)
+refusedAt-small : (limit n : ℕ) (b : Bool) (p : ℕ) → 1 ≤ n → n ≤ fullNumber → p ≤ limit → IfSome (Full limit) (refusedAt n b p)
 unfolding refusedAt
 refusedAt-small limit n true p g h k = record { positive = g; number = h; place = k }
 refusedAt-small limit n false p g h k = tt
@@ -63,21 +70,21 @@ operands-near L t s closeCondition = ((lit≤ tt, lit≤ tt), ((lit≤ tt, lit�
 operands-near L t s closeEffect = ((lit≤ tt, lit≤ tt), ((lit≤ tt, lit≤ tt), ((lit≤ tt, lit≤ tt), tt)))
 operands-near L t s unknown = tt
 
-operand-small : (p : ℕ) (os : List Operand) → All Near os → IfSome (Small (p + 3)) (refusedOperand p (firstWrong os))
+operand-small : (p : ℕ) (os : List Operand) → All Near os → IfSome (Full (p + 3)) (refusedOperand p (firstWrong os))
 unfolding firstWrong refusedOperand
 operand-small p [] h = tt
 operand-small p (o ∷ os) h = go (o .inRange) (operand-small p os (h .1))
   where
     go :
-        (b : Bool) → IfSome (Small (p + 3)) (refusedOperand p (firstWrong os))
-        → IfSome (Small (p + 3)) (refusedOperand p (elim b [ true ↦ firstWrong os | false ↦ some (o .offset) ]))
+        (b : Bool) → IfSome (Full (p + 3)) (refusedOperand p (firstWrong os))
+        → IfSome (Full (p + 3)) (refusedOperand p (elim b [ true ↦ firstWrong os | false ↦ some (o .offset) ]))
     go true rest = rest
     go false rest = record { positive = lit≤ tt; number = lit≤ tt; place = omega (arith, h .0 .1) }
 
-refusal-small : (L : Limits) (w : Wanted) (t : List ℕ) (s : Seen) (c : Command) → IfSome (Small (s .at + 3)) (refusal L w t s c)
+refusal-small : (L : Limits) (w : Wanted) (t : List ℕ) (s : Seen) (c : Command) → IfSome (Full (s .at + 3)) (refusal L w t s c)
 unfolding refusal
 refusal-small L w t s c =
-    first-small (Small (s .at + 3))
+    first-small (Full (s .at + 3))
     (refusedAt 3 (wrong3 w s c) (s .at)
     ∷ refusedAt 2 (wrong2 t s c) (s .at)
     ∷ refusedAt 6 (wrong6 s c) (s .at)
@@ -103,18 +110,18 @@ refusal-small L w t s c =
 
 -- ---- the whole table
 
-pub small-wider : {m n : ℕ} {r : Refusal} → m ≤ n → Small m r → Small n r
-small-wider h s = record { positive = s .positive; number = s .number; place = omega (arith, s .place) }
+pub small-wider : {k l m n : ℕ} {r : Refusal} → k ≤ l → m ≤ n → SmallTo k m r → SmallTo l n r
+small-wider g h s = record { positive = s .positive; number = omega (arith, s .number); place = omega (arith, s .place) }
 
-verdict-small : (t : List ℕ) (k : Table) → IfRefused (Small (length t + 3)) (verdictOf k)
+verdict-small : (t : List ℕ) (k : Table) → IfRefused (Full (length t + 3)) (verdictOf k)
 unfolding verdictOf
 verdict-small t k = go (circular (k .task))
   where
-    go : (b : Bool) → IfRefused (Small (length t + 3)) (elim b [ true ↦ refused (record { number = 7; place = 0 }) | false ↦ accepted k ])
+    go : (b : Bool) → IfRefused (Full (length t + 3)) (elim b [ true ↦ refused (record { number = 7; place = 0 }) | false ↦ accepted k ])
     go true = record { positive = lit≤ tt; number = lit≤ tt; place = omega arith }
     go false = tt
 
-end-small : (t : List ℕ) (s : Seen) (p : Place) → IfRefused (Small (length t + 3)) (atEnd t s p)
+end-small : (t : List ℕ) (s : Seen) (p : Place) → IfRefused (Full (length t + 3)) (atEnd t s p)
 unfolding atEnd
 end-small t s start = record { positive = lit≤ tt; number = lit≤ tt; place = omega arith }
 end-small t s preamble = record { positive = lit≤ tt; number = lit≤ tt; place = omega arith }
@@ -122,7 +129,7 @@ end-small t s inMove = record { positive = lit≤ tt; number = lit≤ tt; place 
 end-small t s inGoal = record { positive = lit≤ tt; number = lit≤ tt; place = omega arith }
 end-small t s finished = verdict-small t (tableOf s)
 
-readFrom-small : (L : Limits) (w : Wanted) (t : List ℕ) (n : ℕ) (s : Seen) → IfRefused (Small (length t + 3)) (readFrom L w t n s)
+readFrom-small : (L : Limits) (w : Wanted) (t : List ℕ) (n : ℕ) (s : Seen) → IfRefused (Full (length t + 3)) (readFrom L w t n s)
 unfolding readFrom readCommand stepWith continue
 readFrom-small L w t zero s = record { positive = lit≤ tt; number = lit≤ tt; place = omega arith }
 readFrom-small L w t (suc n) s = go (ltb (s .at) (length t)) (ltb→lt (s .at) (length t)) (λ d. readFrom-small L w t n d)
@@ -131,47 +138,47 @@ readFrom-small L w t (suc n) s = go (ltb (s .at) (length t)) (ltb→lt (s .at) (
     c = commandOf (getD t (s .at) 0)
 
     stepped :
-        (r : Option Refusal) → IfSome (Small (length t + 3)) r
-        → ((d : Seen) → IfRefused (Small (length t + 3)) (readFrom L w t n d))
-        → IfRefused (Small (length t + 3)) (continue (λ d. readFrom L w t n d) (stepWith t s c r))
+        (r : Option Refusal) → IfSome (Full (length t + 3)) r
+        → ((d : Seen) → IfRefused (Full (length t + 3)) (readFrom L w t n d))
+        → IfRefused (Full (length t + 3)) (continue (λ d. readFrom L w t n d) (stepWith t s c r))
     stepped none h rest = rest (advance t s c)
     stepped (some r) h rest = h
 
-    within : s .at < length t → IfSome (Small (length t + 3)) (refusal L w t s c)
+    within : s .at < length t → IfSome (Full (length t + 3)) (refusal L w t s c)
     within h = if-some (refusal L w t s c) (refusal-small L w t s c)
       where
-        if-some : (r : Option Refusal) → IfSome (Small (s .at + 3)) r → IfSome (Small (length t + 3)) r
+        if-some : (r : Option Refusal) → IfSome (Full (s .at + 3)) r → IfSome (Full (length t + 3)) r
         if-some none x = tt
-        if-some (some r) x = small-wider (omega arith) x
+        if-some (some r) x = small-wider (omega arith) (omega arith) x
 
     go :
         (b : Bool) → (T b → s .at < length t)
-        → ((d : Seen) → IfRefused (Small (length t + 3)) (readFrom L w t n d))
-        → IfRefused (Small (length t + 3))
+        → ((d : Seen) → IfRefused (Full (length t + 3)) (readFrom L w t n d))
+        → IfRefused (Full (length t + 3))
         (continue (λ d. readFrom L w t n d) (elim b [ true ↦ stepWith t s c (refusal L w t s c) | false ↦ done (atEnd t s (s .place)) ]))
     go true inside rest = stepped (refusal L w t s c) (within (inside tt)) rest
     go false inside rest = end-small t s (s .place)
 
-pub refused-wider : {m n : ℕ} (v : Verdict) → m ≤ n → IfRefused (Small m) v → IfRefused (Small n) v
-refused-wider (accepted k) h s = tt
-refused-wider (refused r) h s = small-wider h s
+pub refused-wider : {k l m n : ℕ} (v : Verdict) → k ≤ l → m ≤ n → IfRefused (SmallTo k m) v → IfRefused (SmallTo l n) v
+refused-wider (accepted t) g h s = tt
+refused-wider (refused r) g h s = small-wider g h s
 
 -- a table that is longer than its limit is refused at place 0
-pub reading-refused : (L : Limits) (w : Wanted) (t : List ℕ) → IfRefused (Small (lengthLimit L w t + 3)) (reading L w t)
+pub reading-refused : (L : Limits) (w : Wanted) (t : List ℕ) → IfRefused (Full (lengthLimit L w t + 3)) (reading L w t)
 unfolding reading
 reading-refused L w t = go (ltb (lengthLimit L w t) (length t)) (nltb→le (lengthLimit L w t) (length t))
   where
     go :
         (b : Bool) → (T (not b) → length t ≤ lengthLimit L w t)
-        → IfRefused (Small (lengthLimit L w t + 3)) (elim b [ true ↦ refused (record { number = 1; place = 0 }) | false ↦ readFrom L w t (suc (length t)) nothingSeen ])
+        → IfRefused (Full (lengthLimit L w t + 3)) (elim b [ true ↦ refused (record { number = 1; place = 0 }) | false ↦ readFrom L w t (suc (length t)) nothingSeen ])
     go true short = record { positive = lit≤ tt; number = lit≤ tt; place = omega arith }
     go false short =
         let fits : length t ≤ lengthLimit L w t = short tt in
-        refused-wider (readFrom L w t (suc (length t)) nothingSeen) (omega arith) (readFrom-small L w t (suc (length t)) nothingSeen)
+        refused-wider (readFrom L w t (suc (length t)) nothingSeen) (omega arith) (omega arith) (readFrom-small L w t (suc (length t)) nothingSeen)
 
 -- ---- a state
 
-pub state-refused : (L : Limits) (props vars : ℕ) (bs : List ℕ) → IfSome (Small (props + 4 * vars)) (stateRefusal L props vars bs)
+pub state-refused : (L : Limits) (props vars : ℕ) (bs : List ℕ) → IfSome (Full (props + 4 * vars)) (stateRefusal L props vars bs)
 unfolding stateRefusal refusedByte refusedValue valueOffset
 state-refused L props vars bs = go (eqb (length bs) (valueOffset props vars))
   where
@@ -181,22 +188,22 @@ state-refused L props vars bs = go (eqb (length bs) (valueOffset props vars))
     wrongValue : ℕ → Bool
     wrongValue v = not (valueInRange L (stateValue props bs v))
 
-    value : IfSome (Small (props + 4 * vars)) (refusedValue props (firstFrom wrongValue 0 vars))
+    value : IfSome (Full (props + 4 * vars)) (refusedValue props (firstFrom wrongValue 0 vars))
     value =
-        firstFrom-cases wrongValue (λ (o : Option ℕ). IfSome (Small (props + 4 * vars)) (refusedValue props o)) 0 vars
+        firstFrom-cases wrongValue (λ (o : Option ℕ). IfSome (Full (props + 4 * vars)) (refusedValue props o)) 0 vars
         (λ v low high bad before. record { positive = lit≤ tt; number = lit≤ tt; place = omega arith })
         (λ never. tt)
 
-    byte : IfSome (Small (props + 4 * vars)) (refusedByte (firstFrom wrongByte 0 props) (refusedValue props (firstFrom wrongValue 0 vars)))
+    byte : IfSome (Full (props + 4 * vars)) (refusedByte (firstFrom wrongByte 0 props) (refusedValue props (firstFrom wrongValue 0 vars)))
     byte =
         firstFrom-cases wrongByte
-        (λ (o : Option ℕ). IfSome (Small (props + 4 * vars)) (refusedByte o (refusedValue props (firstFrom wrongValue 0 vars)))) 0 props
+        (λ (o : Option ℕ). IfSome (Full (props + 4 * vars)) (refusedByte o (refusedValue props (firstFrom wrongValue 0 vars)))) 0 props
         (λ p low high bad before. record { positive = lit≤ tt; number = lit≤ tt; place = omega arith })
         (λ never. value)
 
     go :
         (b : Bool)
-        → IfSome (Small (props + 4 * vars))
+        → IfSome (Full (props + 4 * vars))
         (elim b [
           | true ↦ refusedByte (firstFrom wrongByte 0 props) (refusedValue props (firstFrom wrongValue 0 vars))
           | false ↦ some (record { number = 8; place = 0 })

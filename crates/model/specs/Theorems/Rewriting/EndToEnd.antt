@@ -17,7 +17,7 @@ use Rattle.model.specs.Command.{taskBytes}
 use Rattle.model.specs.Reading.{Table, accepted, only, stored, reading}
 use Rattle.model.specs.StateTable.{stateRefusal}
 use Rattle.model.specs.Plan.{moveAndCount, planList}
-use Rattle.model.specs.Calls.{writes, normalBytes, decideAnswer, planAnswer}
+use Rattle.model.specs.Calls.{writes, normalBytes, normaliseAnswer, decideAnswer, planAnswer, planOut}
 use Rattle.model.specs.Rewrite.{rewritten, renumbered, numberedBack, rewrote}
 use Rattle.model.specs.Theorems.Reading.Accepted.{accepted-one}
 use Rattle.model.specs.Theorems.Printing.Passing.{SmallLimits}
@@ -134,7 +134,10 @@ answers-old old o c bs normalOut layers out g =
           (f .layer, f .decides, c .relaxedBack bs list (subst (Relaxed list) same (f .solves)));
     }
   where
-    a : Answers (g .table) o bs normalOut layers out (normalPart o normalOut (length (normalBytes (g .table .task)))) (decideAnswer paper (normalPart o normalOut (length (normalBytes (g .table .task)))) bs layers) (planAnswer paper (normalPart o normalOut (length (normalBytes (g .table .task)))) bs layers out)
+    a :
+        let nb = normalPart o normalOut (length (normalBytes (g .table .task))) in
+        Answers (g .table) bs (normaliseAnswer paper o normalOut) nb (decideAnswer paper nb bs layers) (planAnswer paper nb bs layers out)
+        out (planOut paper nb bs layers out)
     a = demand3 o bs normalOut layers out g
 
     same : g .table ≡ c .new

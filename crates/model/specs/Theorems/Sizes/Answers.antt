@@ -39,7 +39,7 @@ use Rattle.model.specs.Theorems.Laws.Searching.{firstFrom-cases}
 use Rattle.model.specs.Theorems.Reading.States.{length-stateBytes}
 use Rattle.model.specs.Theorems.Reading.Accepted.{reading-ok, reading-head, reading-limit, reading-task}
 use Rattle.model.specs.Theorems.Printing.Outputs.{fitted-cases, plan-cases}
-use Rattle.model.specs.Theorems.Reading.Places.{Small, IfSome, IfRefused, small-wider, refused-wider, reading-refused, state-refused}
+use Rattle.model.specs.Theorems.Reading.Places.{Full, Small, IfSome, IfRefused, small-wider, refused-wider, reading-refused, state-refused}
 use Rattle.model.specs.Theorems.NormalForm.Print.{written-short, normal-fits}
 use Rattle.model.specs.Theorems.Blocking.Calls.{blocks-inside, answers-cases}
 use Rattle.model.specs.Theorems.Sizes.Plans.{reported-most, records-most, helpfulMoves-small}
@@ -65,7 +65,7 @@ limit-most both t = either-most (eqb (getD t 0 0) (codeOf (head written)))
 limit-most stored t = either-most (eqb (getD t 0 0) (codeOf (head written)))
 
 pub table-refused : (w : Wanted) (t : List ℕ) → IfRefused (Small placeLimit) (reading paper w t)
-table-refused w t = refused-wider (reading paper w t) (omega (arith, limit-most w t)) (reading-refused paper w t)
+table-refused w t = refused-wider (reading paper w t) (omega arith) (omega (arith, limit-most w t)) (reading-refused paper w t)
 
 -- ---- read
 
@@ -173,10 +173,10 @@ step-small t bs b out =
     chosen k ok false = record { positive = lit≤ tt; number = lit≤ tt; place = lit≤ tt }
 
     by-state :
-        (k : Task) → TaskOk paper written k → (r : Option Refusal) → IfSome (Small (k .props + 4 * k .vars)) r
+        (k : Task) → TaskOk paper written k → (r : Option Refusal) → IfSome (Full (k .props + 4 * k .vars)) r
         → OutputSmall 184 (stepWithState paper k bs b r)
     by-state k ok none h = chosen k ok (ltb b (length (k .moves)))
-    by-state k ok (some r) h = small-wider (omega (arith, ok .props, ok .vars)) h
+    by-state k ok (some r) h = small-wider (omega arith) (omega (arith, ok .props, ok .vars)) h
 
     go : (v : Verdict) → reading paper (only written) t ≡ v → IfRefused (Small placeLimit) v → OutputSmall 184 (stepOf paper v bs b)
     go (accepted k) e h =
@@ -194,9 +194,9 @@ prepared-small : (t bs : List ℕ) → ReadySmall (prepared paper t bs)
 unfolding prepared readyOf readyWith paper
 prepared-small t bs = go (reading paper (only normal) t) refl (table-refused (only normal) t)
   where
-    by-state : (k : Task) → TaskOk paper normal k → (r : Option Refusal) → IfSome (Small (k .props + 4 * (k .vars / 2))) r → ReadySmall (readyWith k bs r)
+    by-state : (k : Task) → TaskOk paper normal k → (r : Option Refusal) → IfSome (Full (k .props + 4 * (k .vars / 2))) r → ReadySmall (readyWith k bs r)
     by-state k ok none h = ok
-    by-state k ok (some r) h = small-wider (omega (arith, ok .props, ok .vars .0)) h
+    by-state k ok (some r) h = small-wider (omega arith) (omega (arith, ok .props, ok .vars .0)) h
 
     go : (v : Verdict) → reading paper (only normal) t ≡ v → IfRefused (Small placeLimit) v → ReadySmall (readyOf paper v bs)
     go (accepted k) e h =
@@ -280,7 +280,7 @@ blocking-small t bs layers =
 -- ---- campaign
 
 -- what holds of a call's answer on any bytes, and of a small refusal, holds of its answer after normalise
-on-normal :
+pub on-normal :
     {A : Type 0} (P : A → Type 0) (run : List ℕ → A) (back : Refusal → A) (t : List ℕ) (room : ℕ)
     → ((nb : List ℕ) → P (run nb))
     → ((r : Refusal) → Small placeLimit r → P (back r))

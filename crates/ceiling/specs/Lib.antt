@@ -1,0 +1,4 @@
+pub mod Ceiling
+pub mod Theorems
+pub mod Heads
+pub mod Numbers

@@ -1,0 +1,4 @@
+pub mod Admission
+pub mod Blocks
+pub mod Planning
+pub mod Campaign
