@@ -1,14 +1,16 @@
 /* The campaign planning engine for hosts in C: planning a campaign, finding the part of the goal that blocks, reading,
- * normalising and stepping, writing PDDL for other planners, rewriting stored tables, and the calls for the rig's board.
+ * normalising and stepping, writing PDDL for other planners, rewriting stored tables, placing a list in the windows of a
+ * closure, and the calls for the rig's board.
  *
  * Every call takes any bytes and answers one 64-bit number:
  *
  *     bits 32..63   the number of the refusal, 0 if the call is accepted
  *     bits  0..31   the place of the refusal, or the result
  *
- * The functions below the calls take it apart. A call uses no heap and no state of its own, keeps no pointer, and
- * writes nothing but the memories and numbers that are lent to be written. A memory of length 0 may have any pointer
- * that is not null. A memory or number that is written must not overlap another.
+ * Only lapyndo_place, whose lists may have any length, writes the place of a refusal to a number that it is lent; bits 0..31
+ * are 0 then. The functions below the calls take answers apart. A call uses no heap and no state of its own, keeps no
+ * pointer, and writes nothing but the memories and numbers that are lent to be written. A memory of length 0 may have any
+ * pointer that is not null. A memory or number that is written must not overlap another.
  *
  * Link libengine.a.
  */
@@ -59,6 +61,10 @@ enum {
                                    /* each new layer, in this order: */
     LAPYNDO_LAYER_RANGE = 15,      /*   a finite value is above 1,000,000,000,000; place: the layer */
     LAPYNDO_LAYERS_SHORT = 14,     /*   the layer memory is too short for it; place: the layer */
+                                   /* lapyndo_place only: */
+    LAPYNDO_CLOSURE_RANGE = 18,    /*   a window is cut, out of order or out of range, or else a duration is cut or out of
+                                        range; place: its number in its own list */
+    LAPYNDO_NO_PLACEMENT = 19,     /*   no placement exists; place: the first entry up to which the list has none */
     LAPYNDO_OUTPUT_SHORT = 13      /* an output is shorter than the result; place 0 */
 };
 
@@ -181,6 +187,39 @@ uint64_t lapyndo_pddl(const uint8_t *table, size_t table_len, const uint8_t *sta
  */
 uint64_t lapyndo_rewrite(const uint8_t *table, size_t table_len, uint8_t *out, size_t out_len);
 
+/* A closure and the entries that are placed in its windows. */
+enum {
+    LAPYNDO_WINDOWS = 64,          /* the most windows */
+    LAPYNDO_LAST_MINUTE = 1000000, /* the last minute of a closure, which begins at minute 0 */
+    LAPYNDO_ENTRY_MINUTES = 1440   /* the longest entry */
+};
+
+/* Places a list of moves in the windows of a closure: its entries in order, each wholly inside one window, and none starting
+ * before the one before it ends. In every other placement of the list no entry starts earlier.
+ *
+ * Lent are the windows, and for each entry how many minutes it takes; the moves themselves are not asked for. Of a plan, each
+ * record is as many entries in a row as its count says. Every minute is 4 bytes, big-endian. An entry may end at the minute
+ * at which its window shuts. Windows that touch stay two: no entry reaches across.
+ *
+ * Result: the minute at which the last entry ends, 0 if the list is empty; see lapyndo_end_minute. 0 in a refusal.
+ * Refusals, in the order of the checks:
+ *   18, the first window that is cut, beyond the 64th, out of 0 to 1,000,000, shutting no later than it opens, or opening
+ *       before the one before it shuts;
+ *   18, the first duration that is cut, or out of 1 to 1,440;
+ *   19, no placement exists;
+ *   13, out is too short.
+ *
+ * windows:   8 bytes a window: the minute at which it opens, then the minute at which it shuts.
+ * durations: 4 bytes an entry: how many minutes it takes. A list of more than 1,000,000 entries has no placement.
+ * out:       4 bytes an entry: the length of durations always suffices. Accepted, the minute at which each entry starts, from
+ *            the start, and the bytes behind them are kept; refused, all bytes are kept.
+ * length:    accepted, the number of bytes written; refused, kept.
+ * place:     refused, the place, counted from 0: with 18 the number of the window or of the duration, with 19 the first entry
+ *            up to which the list has no placement, with 13 0. Accepted, kept.
+ */
+uint64_t lapyndo_place(const uint8_t *windows, size_t windows_len, const uint8_t *durations, size_t durations_len,
+                       uint8_t *out, size_t out_len, uint64_t *length, uint64_t *place);
+
 /* The calls for the rig's board: those above that it needs, with the board's limits, and three more, which copy a block,
  * decide and plan.
  *
@@ -265,7 +304,7 @@ uint64_t lapyndo_rig_plan(const uint8_t *table, size_t table_len, const uint8_t 
 /* Of any answer: the number of the refusal, 0 if the call is accepted. */
 static inline uint32_t lapyndo_refusal(uint64_t answer) { return (uint32_t)(answer >> 32); }
 
-/* Of a refusal: its place. */
+/* Of a refusal of any call but lapyndo_place: its place. */
 static inline uint32_t lapyndo_refusal_place(uint64_t answer) { return (uint32_t)answer; }
 
 /* Of an accepted lapyndo_campaign, of its decision, if that is no refusal, and of an accepted lapyndo_rig_decide or
@@ -281,6 +320,9 @@ static inline size_t lapyndo_offset(uint64_t answer) { return (size_t)(uint32_t)
 /* Of an accepted lapyndo_normalise, lapyndo_step, lapyndo_pddl or lapyndo_rewrite: the number of bytes written; of an
  * accepted lapyndo_rig_block: the length of the block. */
 static inline size_t lapyndo_length(uint64_t answer) { return (size_t)(uint32_t)answer; }
+
+/* Of an accepted lapyndo_place: the minute at which the last entry ends, 0 if there is none. */
+static inline uint32_t lapyndo_end_minute(uint64_t answer) { return (uint32_t)answer; }
 
 /* Of an accepted lapyndo_read: LAPYNDO_WRITTEN or LAPYNDO_NORMAL. */
 static inline unsigned lapyndo_kind(uint64_t answer) { return (unsigned)(answer >> 24 & 0xFF); }

@@ -4,8 +4,8 @@
  * usage: stack FOLDER..
  *
  * Measured on the campaign of each folder (task.bin, state.bin), on two deep ones, of which one is within the rig's limits,
- * and on each of them with a byte cut off its tables. Prints one line a call: its name and the largest number of bytes. With
- * PLANNING the calls that are exported for tests are measured too.
+ * and on each of them with a byte cut off its tables; place on closures of up to 65 windows. Prints one line a call: its name
+ * and the largest number of bytes. With PLANNING the calls that are exported for tests are measured too.
  * Exit status: 0; 1 if the painted stack was too small; 2 if a file is missing, a campaign is refused, or a deep one has too
  * few records.
  */
@@ -58,6 +58,26 @@ static void call_rewrite(void) {
     lapyndo_rewrite(idle_first, sizeof idle_first, out, room);
 }
 
+/* In as many windows of two minutes as the number says, one more than is accepted at most: entries that fill them, one more,
+ * and both with a byte cut off. */
+static void call_place(void) {
+    static uint8_t windows[8 * (DEPTH + 1)], durations[8 * (DEPTH + 1) + 4];
+    for (size_t i = 0; i <= DEPTH; i++) {
+        windows[8 * i + 3] = (uint8_t)(3 * i);
+        windows[8 * i + 7] = (uint8_t)(3 * i + 2);
+        durations[8 * i + 3] = durations[8 * i + 7] = 1;
+    }
+    durations[sizeof durations - 1] = 1;
+    uint64_t length, place;
+    size_t windows_len = 8 * number, entries_len = 8 * number;
+    lapyndo_place(windows, windows_len, durations, entries_len, out, room, &length, &place);
+    lapyndo_place(windows, windows_len, durations, entries_len + 4, out, room, &length, &place);
+    lapyndo_place(windows, windows_len, durations, entries_len + 3, out, room, &length, &place);
+    if (number > 0) {
+        lapyndo_place(windows, windows_len - 1, durations, entries_len, out, room, &length, &place);
+    }
+}
+
 static void call_block(void) { calls->block(normal, normal_len, number, out, room); }
 
 static void call_decide(void) { calls->decide(normal, normal_len, state, state_len, layers, LAYER_NUMBERS); }
@@ -79,6 +99,7 @@ static struct {
     {"pddl", &full, call_pddl, 0},
     {"blocking", &full, call_blocking, 0},
     {"rewrite", &full, call_rewrite, 0},
+    {"place", &full, call_place, 0},
 #ifdef PLANNING
     {"block", &full, call_block, 0},
     {"decide", &full, call_decide, 0},

@@ -1,6 +1,6 @@
 //! A long comparison of the proved engine with the reference, outside the gate: calls of all
-//! kinds, a quarter of them with the rig's limits, half of all with a damaged table or state, and
-//! memories behind fences.
+//! kinds, a quarter of them with the rig's limits and an eighth of closure days, half of all with
+//! damaged inputs, and memories behind fences.
 //!
 //! usage: damage SECONDS SEED
 //!
@@ -9,7 +9,8 @@
 use campaign::call::{Call, CallKind};
 use campaign::fenced::Fenced;
 use campaign::generate::{
-    call, damage, full_length, grid, long_goal, long_stored, rewritten_length, rig_calls, Rng, Task,
+    call, damage, full_length, grid, long_day, long_goal, long_stored, place_call,
+    rewritten_length, rig_calls, Rng, Task,
 };
 use campaign::proved::PROVED;
 use campaign::reference::table::Kind;
@@ -35,6 +36,7 @@ fn main() {
         let mut call = match rng.below(400) {
             0 => long_call(&mut rng),
             1..=100 => rig_calls(&mut rng, 1).remove(0),
+            101..=150 => place_call(&mut rng),
             _ => call(&mut rng),
         };
         if rng.chance(1, 2) {
@@ -42,11 +44,11 @@ fn main() {
         }
         tally.check(&call);
     }
-    let every_refusal: Vec<usize> = (0..18).collect();
+    let every_refusal: Vec<usize> = (0..20).collect();
     tally.expect(1, &every_refusal);
 }
 
-/// A table within five bytes of a limit of length.
+/// A table within five bytes of a limit of length, or a list of up to 20,000 entries.
 fn long_call(rng: &mut Rng) -> Call {
     let length = *rng.pick(&[32_000, 64_000]) + rng.below(11) - 5;
     let kind = *rng.pick(&[Kind::Written, Kind::Normal]);
@@ -54,7 +56,7 @@ fn long_call(rng: &mut Rng) -> Call {
         true => grid(rng, length),
         false => full_length(rng, kind, length),
     };
-    match rng.below(6) {
+    match rng.below(7) {
         0 => Call {
             table,
             ..CallKind::Read.call()
@@ -70,6 +72,11 @@ fn long_call(rng: &mut Rng) -> Call {
             let stored = long_stored(rng, kind, length);
             let room = rewritten_length(&stored.table) + rng.below(3);
             stored.rewrite(room.saturating_sub(1))
+        }
+        5 => {
+            let (windows, entries) = (1 + rng.below(64), 1 + rng.below(20_000));
+            let day = long_day(rng, windows, entries);
+            day.place(day.length() + rng.below(3) - 1)
         }
         _ => Task { table, state }.pddl(room::text_bytes(length)),
     }

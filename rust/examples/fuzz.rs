@@ -1,11 +1,12 @@
 //! What a coverage-guided fuzzer runs on each input: the proved engine, its memories behind
 //! fences, compared with the reference. `./fuzz` in the repository's root builds and runs it.
 
-use campaign::call::{Call, Fill};
+use campaign::call::{Call, CallKind, Fill};
 use campaign::engine::REFERENCE;
 use campaign::fenced::Fenced;
 use campaign::generate::{
-    blocked, call, damage, helpful, rewritten_length, rig_calls, stored, Rng, Task,
+    alter, blocked, call, damage, helpful, place_call, rewritten_length, rig_calls, stored, Day,
+    Rng, Task,
 };
 use campaign::harness::compare_over;
 use campaign::input::{decode, encode};
@@ -61,45 +62,65 @@ pub unsafe extern "C" fn LLVMFuzzerCustomMutator(
     }
 }
 
-/// Now and then another call, the same one with a damaged table or state, a `blocking` of the same task
-/// with a goal that mostly cannot be reached, a `rewrite` of its table with moves that do nothing, a
-/// `plan` or `campaign` of it with more moves that help at layer 0 or nearly do, or the same call with
-/// the rig's limits, or without them.
+/// Now and then another call, the same one with damaged inputs, or one of a changed day or task.
 fn changed(input: &[u8], seed: u32) -> Option<Vec<u8>> {
     let mut rng = Rng::new(u64::from(seed));
-    match rng.below(16) {
-        0 if rng.chance(1, 2) => encode(&rig_calls(&mut rng, 1)[0]),
-        0 => encode(&call(&mut rng)),
+    let mut call = decode(input);
+    encode(&match rng.below(16) {
+        0 => another(&mut rng),
         1..=4 => {
-            let mut call = decode(input);
             damage(&mut rng, &mut call);
-            encode(&call)
+            call
         }
-        5 => {
-            let Call { table, state, .. } = decode(input);
-            let task = blocked(&mut rng, &Task { table, state });
-            encode(&task.blocking(rng.below(200)))
-        }
-        6 => {
-            let Call { table, state, .. } = decode(input);
-            let task = stored(&mut rng, &Task { table, state });
+        5..=8 if call.kind == CallKind::Place => day_changed(&mut rng, &call),
+        5..=8 => task_changed(&mut rng, call),
+        _ => return None,
+    })
+}
+
+fn another(rng: &mut Rng) -> Call {
+    match rng.below(4) {
+        0 => rig_calls(rng, 1).remove(0),
+        1 => place_call(rng),
+        _ => call(rng),
+    }
+}
+
+/// The same closure day with some minutes altered, and an output around the length of its starts.
+fn day_changed(rng: &mut Rng, call: &Call) -> Call {
+    let mut day = Day::of(call);
+    for _ in 0..=rng.below(3) {
+        alter(rng, &mut day);
+    }
+    let room = day.length() + rng.below(4);
+    day.place(room.saturating_sub(1))
+}
+
+/// A `blocking` of the same task with a goal that mostly cannot be reached, a `rewrite` of its table with
+/// moves that do nothing, a `plan` or `campaign` of it with more moves that help at layer 0 or nearly do,
+/// or the same call with the rig's limits, or without them.
+fn task_changed(rng: &mut Rng, call: Call) -> Call {
+    let kind = call.kind.rig().unwrap_or(call.kind.full());
+    let which = rng.below(4);
+    if which == 3 {
+        return Call { kind, ..call };
+    }
+    let Call { table, state, .. } = call;
+    let task = Task { table, state };
+    match which {
+        0 => blocked(rng, &task).blocking(rng.below(200)),
+        1 => {
+            let task = stored(rng, &task);
             let room = rewritten_length(&task.table) + rng.below(4);
-            encode(&task.rewrite(room.saturating_sub(1)))
+            task.rewrite(room.saturating_sub(1))
         }
-        7 => {
-            let Call { table, state, .. } = decode(input);
-            let task = helpful(&mut rng, &Task { table, state });
+        _ => {
+            let task = helpful(rng, &task);
             let [numbers, room] = [200, 100].map(|most| rng.below(most));
-            encode(&match task.table.first() {
+            match task.table.first() {
                 Some(0x54) => task.campaign(1_000, numbers, room),
                 _ => task.plan(numbers, room),
-            })
+            }
         }
-        8 => {
-            let call = decode(input);
-            let kind = call.kind.rig().unwrap_or(call.kind.full());
-            encode(&Call { kind, ..call })
-        }
-        _ => None,
     }
 }

@@ -24,10 +24,14 @@ pub enum Reason {
     IdleMove = 16,
     /// A head beyond the rig's limits.
     BeyondRig = 17,
+    /// A window or duration of a closure day out of order or range.
+    ClosureRange = 18,
+    /// The entries of a closure day have no placement.
+    NoPlacement = 19,
 }
 
 impl Reason {
-    pub const ALL: [Reason; 17] = [
+    pub const ALL: [Reason; 19] = [
         Reason::TableTooLong,
         Reason::Cut,
         Reason::Misplaced,
@@ -45,6 +49,8 @@ impl Reason {
         Reason::ValueRange,
         Reason::IdleMove,
         Reason::BeyondRig,
+        Reason::ClosureRange,
+        Reason::NoPlacement,
     ];
 
     pub fn number(self) -> u8 {
@@ -202,6 +208,21 @@ impl fmt::Display for Blocking {
     }
 }
 
+/// What `place` answers.
+#[derive(Clone, Copy, Debug, PartialEq, Eq)]
+pub struct Placed {
+    /// The minute at which the last entry ends, 0 if there is none.
+    pub end: u64,
+    /// Bytes of starts written.
+    pub length: usize,
+}
+
+impl fmt::Display for Placed {
+    fn fmt(&self, f: &mut fmt::Formatter<'_>) -> fmt::Result {
+        write!(f, "end {} length {}", self.end, self.length)
+    }
+}
+
 /// What `campaign` answers: the answers of `decide` and of `plan`, or both times the refusal of
 /// `normalise`.
 #[derive(Clone, Copy, Debug, PartialEq, Eq)]
@@ -224,12 +245,12 @@ mod tests {
     use super::*;
 
     #[test]
-    fn reasons_are_numbered_from_1_to_17() {
+    fn reasons_are_numbered_from_1_to_19() {
         let numbers: Vec<u8> = Reason::ALL.iter().map(|r| r.number()).collect();
-        assert_eq!(numbers, (1..=17).collect::<Vec<u8>>());
+        assert_eq!(numbers, (1..=19).collect::<Vec<u8>>());
         assert_eq!(Reason::from_number(14), Some(Reason::MemoryShort));
         assert_eq!(Reason::from_number(0), None);
-        assert_eq!(Reason::from_number(18), None);
+        assert_eq!(Reason::from_number(20), None);
     }
 
     #[test]

@@ -24,6 +24,7 @@ pub enum CallKind {
     Pddl,
     Blocking,
     Rewrite,
+    Place,
     RigRead,
     RigBlock,
     RigNormalise,
@@ -39,6 +40,8 @@ pub enum CallKind {
 pub enum Field {
     Table,
     State,
+    Windows,
+    Durations,
     Index,
     Normal,
     Numbers,
@@ -46,7 +49,7 @@ pub enum Field {
 }
 
 impl CallKind {
-    pub const ALL: [CallKind; 18] = [
+    pub const ALL: [CallKind; 19] = [
         CallKind::Read,
         CallKind::Block,
         CallKind::Normalise,
@@ -57,6 +60,7 @@ impl CallKind {
         CallKind::Pddl,
         CallKind::Blocking,
         CallKind::Rewrite,
+        CallKind::Place,
         CallKind::RigRead,
         CallKind::RigBlock,
         CallKind::RigNormalise,
@@ -68,10 +72,10 @@ impl CallKind {
     ];
 
     /// The calls that the engine exports.
-    pub const EXPORTED: &'static [CallKind] = Self::ALL.split_at(17).0;
+    pub const EXPORTED: &'static [CallKind] = Self::ALL.split_at(18).0;
 
     /// The calls with the rig's limits, and those that they stand beside.
-    pub const RIG: &'static [CallKind] = Self::EXPORTED.split_at(10).1;
+    pub const RIG: &'static [CallKind] = Self::EXPORTED.split_at(11).1;
     const BESIDE_RIG: &'static [CallKind] = Self::ALL.split_at(7).0;
 
     pub fn is_rig(self) -> bool {
@@ -104,6 +108,7 @@ impl CallKind {
             CallKind::Pddl => &[Table, State, Room],
             CallKind::Blocking => &[Table, State, Numbers],
             CallKind::Rewrite => &[Table, Room],
+            CallKind::Place => &[Windows, Durations, Room],
             CallKind::Listing => &[Table, State],
         }
     }
@@ -118,6 +123,8 @@ impl CallKind {
             kind: self,
             table: Vec::new(),
             state: Vec::new(),
+            windows: Vec::new(),
+            durations: Vec::new(),
             index: 0,
             normal: 0,
             numbers: 0,
@@ -150,6 +157,7 @@ impl CallKind {
             CallKind::Pddl => records::PDDL,
             CallKind::Blocking => records::BLOCKING,
             CallKind::Rewrite => records::REWRITE,
+            CallKind::Place => records::PLACE,
             CallKind::RigRead => records::RIG_READ,
             CallKind::RigBlock => records::RIG_BLOCK,
             CallKind::RigNormalise => records::RIG_NORMALISE,
@@ -169,6 +177,10 @@ pub struct Call {
     pub kind: CallKind,
     pub table: Vec<u8>,
     pub state: Vec<u8>,
+    /// Of a closure day: an opening and a shutting minute each.
+    pub windows: Vec<u8>,
+    /// Minutes, of each entry to be placed.
+    pub durations: Vec<u8>,
     /// The block or the move.
     pub index: u64,
     /// Bytes for the normal form.
@@ -197,6 +209,8 @@ impl Call {
         match field {
             Field::Table => self.table = unhex(text)?,
             Field::State => self.state = unhex(text)?,
+            Field::Windows => self.windows = unhex(text)?,
+            Field::Durations => self.durations = unhex(text)?,
             Field::Index => self.index = number(text)?,
             Field::Normal => self.normal = number(text)?,
             Field::Numbers => self.numbers = number(text)?,
@@ -209,6 +223,8 @@ impl Call {
         match field {
             Field::Table => hex(&self.table),
             Field::State => hex(&self.state),
+            Field::Windows => hex(&self.windows),
+            Field::Durations => hex(&self.durations),
             Field::Index => self.index.to_string(),
             Field::Normal => self.normal.to_string(),
             Field::Numbers => self.numbers.to_string(),
@@ -244,6 +260,22 @@ mod tests {
         };
         assert_eq!(call.to_string(), "4e0000004745 - 3 10");
         assert_eq!(Call::parse(CallKind::Plan, &call.to_string()), Ok(call));
+    }
+
+    #[test]
+    fn a_closure_day_has_its_own_fields() {
+        let line = "0000000000000005 00000001 4";
+        let call = Call::parse(CallKind::Place, line).expect("three fields");
+        assert_eq!(call.windows, [0, 0, 0, 0, 0, 0, 0, 5]);
+        assert_eq!(call.durations, [0, 0, 0, 1]);
+        assert_eq!((call.room, call.to_string()), (4, line.into()));
+        let bare = Call {
+            windows: call.windows.clone(),
+            durations: call.durations.clone(),
+            room: 4,
+            ..CallKind::Place.call()
+        };
+        assert_eq!(call, bare);
     }
 
     #[test]

@@ -1,10 +1,11 @@
 //! The calls of an engine, so that one harness serves every implementation.
 
-use crate::answer::{Answer, Blocking, Campaign, Decision, Head, Plan, Refusal};
+use crate::answer::{Answer, Blocking, Campaign, Decision, Head, Placed, Plan, Refusal};
 use crate::reference::{self, RIG};
 
 /// An implementation of the five calls, the reader, the campaign in one call, the PDDL text, the
-/// goal part that blocks, the rewriter and the listing; and of the calls with the rig's limits.
+/// goal part that blocks, the rewriter, closure hours and the listing; and of the calls with the
+/// rig's limits.
 ///
 /// A refusal leaves outputs as they were. Layer memory after a refusal holds what the
 /// specification says of that refusal.
@@ -44,6 +45,10 @@ pub trait Engine {
 
     /// A stored table of either kind without its moves that do nothing, the others renumbered.
     fn rewrite(&self, table: &[u8], out: &mut [u8]) -> Result<usize, Refusal>;
+
+    /// Places a list of entries, of which the durations are given, in the windows of a closure day,
+    /// each as early as it can be, and writes their starts.
+    fn place(&self, windows: &[u8], durations: &[u8], out: &mut [u8]) -> Result<Placed, Refusal>;
 
     /// What the listing program prints; by default made of `campaign`.
     fn listing(&self, task: &[u8], state: &[u8]) -> String {
@@ -133,6 +138,7 @@ pub struct Calls {
     pub pddl: Pddl,
     pub blocking: FindBlocking,
     pub rewrite: Rewrite,
+    pub place: Place,
     pub listing: Listing,
     /// The calls with the rig's limits.
     pub rig: Option<&'static Calls>,
@@ -147,6 +153,7 @@ type Planning = fn(&[u8], &[u8], &mut [i64], &mut [u8]) -> Result<Plan, Refusal>
 type Pddl = fn(&[u8], &[u8], &mut [u8]) -> Result<usize, Refusal>;
 pub type FindBlocking = fn(&[u8], &[u8], &mut [i64]) -> Result<Blocking, Refusal>;
 pub type Rewrite = fn(&[u8], &mut [u8]) -> Result<usize, Refusal>;
+pub type Place = fn(&[u8], &[u8], &mut [u8]) -> Result<Placed, Refusal>;
 /// This and the next are given the other calls too.
 pub type Campaigning = fn(&Calls, &[u8], &[u8], Lent) -> Campaign;
 type Listing = fn(&Calls, &[u8], &[u8]) -> String;
@@ -163,6 +170,7 @@ pub const REFERENCE: Calls = Calls {
     pddl: reference::pddl,
     blocking: reference::blocking,
     rewrite: reference::rewrite,
+    place: reference::place,
     listing: |_, task, state| reference::listing(task, state),
     rig: Some(&REFERENCE_RIG),
 };
@@ -191,6 +199,7 @@ impl Calls {
         pddl: |_, _, _| absent("pddl"),
         blocking: |_, _, _| absent("blocking"),
         rewrite: |_, _| absent("rewrite"),
+        place: |_, _, _| absent("place"),
         listing: made_listing,
         rig: None,
     };
@@ -258,6 +267,10 @@ impl Engine for Calls {
 
     fn rewrite(&self, table: &[u8], out: &mut [u8]) -> Result<usize, Refusal> {
         (self.rewrite)(table, out)
+    }
+
+    fn place(&self, windows: &[u8], durations: &[u8], out: &mut [u8]) -> Result<Placed, Refusal> {
+        (self.place)(windows, durations, out)
     }
 
     fn listing(&self, task: &[u8], state: &[u8]) -> String {

@@ -1,9 +1,9 @@
-//! An engine whose tables, states, layers and outputs each end at a page that may not be
-//! touched, so that a read or a write behind the lent part ends the process at once.
+//! An engine whose inputs, layers and outputs each end at a page that may not be touched,
+//! so that a read or a write behind the lent part ends the process at once.
 
 #![allow(unsafe_code)]
 
-use crate::answer::{Blocking, Campaign, Decision, Head, Plan, Refusal};
+use crate::answer::{Blocking, Campaign, Decision, Head, Placed, Plan, Refusal};
 use crate::engine::{Calls, Engine, Lent};
 use crate::guarded::{Canary, MARGIN};
 use std::ffi::{c_int, c_long, c_void};
@@ -216,6 +216,11 @@ impl Engine for Fenced {
         writing(out, |out| self.0.rewrite(&table, out))
     }
 
+    fn place(&self, windows: &[u8], durations: &[u8], out: &mut [u8]) -> Result<Placed, Refusal> {
+        let [windows, durations] = [windows, durations].map(Fence::reading);
+        writing(out, |out| self.0.place(&windows, &durations, out))
+    }
+
     fn rig(&self) -> Box<dyn Engine> {
         Box::new(Fenced(self.0.on_rig()))
     }
@@ -246,6 +251,24 @@ mod tests {
         let mut lent = Fence::holding(b"state");
         lent.margin_mut()[MARGIN - 3] ^= 1;
         lent.give_back(&mut [0; 5]);
+    }
+
+    #[test]
+    fn all_memories_of_a_closure_day_end_at_fences() {
+        let engine = Fenced(Calls {
+            place: |windows, durations, out| {
+                for lent in [windows, durations, out] {
+                    assert_eq!(lent.as_ptr_range().end as usize % PAGE, 0);
+                }
+                assert_eq!((windows, durations), (&[1; 8][..], &[2; 4][..]));
+                out.reverse();
+                Ok(Placed { end: 0, length: 5 })
+            },
+            ..Calls::NONE
+        });
+        let mut out = [1, 2, 3, 4, 5];
+        assert!(engine.place(&[1; 8], &[2; 4], &mut out).is_ok());
+        assert_eq!(out, [5, 4, 3, 2, 1]);
     }
 
     /// Says to this program, run again, that it is to make the stray access.

@@ -1,8 +1,10 @@
-//! Inputs from a seed: tasks, damaged tables, bytes at random, and calls.
+//! Inputs from a seed: tasks, damaged tables, closure days, bytes at random, and calls.
 
 mod blocked;
 mod call;
+mod closure;
 mod damage;
+mod day;
 mod grid;
 mod helpful;
 mod maker;
@@ -22,9 +24,16 @@ pub use call::{
     blocking_call, call, calls_within_rig, campaign_call, normal_length, pddl_call, plan_call,
     rewrite_call, rig_calls, sized_calls,
 };
+pub use closure::{
+    alter, damaged_place_call, faulty_place_call, long_day, place_call, sound_place_call,
+};
 pub use damage::{
     command_string, damage, deletions, insertions, random_bytes, single_byte_changes, spoil,
     truncations, wrong_state,
+};
+pub use day::{
+    joined, minute_bytes, minutes, window_bytes, windows, Day, DURATION_LIMIT, MINUTE_LIMIT,
+    WINDOW_LIMIT,
 };
 pub use grid::{grid, long_sum, m1_grid};
 pub use helpful::helpful;

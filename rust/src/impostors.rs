@@ -2,6 +2,7 @@
 
 mod blocking;
 mod changed;
+mod closure;
 mod comparisons;
 mod helpful;
 mod idle_moves;
@@ -17,6 +18,7 @@ use crate::engine::{Calls, Campaigning, Engine, REFERENCE};
 use crate::reference::table::{Change, Comparison, Item};
 use crate::reference::{block, decide, normalise, parse_task, pddl, pddl_text, plan, read, step};
 use changed::{each, retold};
+use closure::{ANSWERS, CHECKS, ORDER, PLACES, PLACING};
 use comparisons::COMPARISONS;
 use helpful::HELPFUL;
 use idle_moves::IDLE_MOVES;
@@ -24,6 +26,7 @@ use rewrite::REWRITE;
 use rig::RIGS;
 use weight_zero::WEIGHT_ZERO;
 
+pub use closure::LONG_LISTS;
 pub use rewrite::LIMITS;
 
 /// The reference, with listings made of its other calls, as its campaigns are.
@@ -56,6 +59,11 @@ pub fn check_found(kinds: &[CallKind], found: impl Fn(CallKind, &dyn Engine) -> 
         &REWRITE,
         &HELPFUL,
         &RIGS,
+        &CHECKS,
+        &ORDER,
+        &PLACING,
+        &ANSWERS,
+        &PLACES,
     ];
     let mut missed = Vec::new();
     for impostor in IMPOSTORS.iter().chain(others.into_iter().flatten()) {

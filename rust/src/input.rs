@@ -5,11 +5,12 @@
 //! | 0 | which call |
 //! | 1 | the block or move; FF is the largest number |
 //! | 2, 3 | bytes of output |
-//! | 4, 5 | numbers of layer memory |
+//! | 4, 5 | numbers of layer memory; of `place`, bytes of the windows |
 //! | 6, 7 | bytes for the normal form |
 //! | 8 | bytes of the state |
 //!
-//! The state follows, then the table. Bytes that are missing are 0.
+//! The state follows, then the table; of `place` the windows, then the durations. Bytes that are
+//! missing are 0.
 
 use crate::call::{Call, CallKind, Field};
 
@@ -17,7 +18,7 @@ use crate::call::{Call, CallKind, Field};
 pub const ROOM: usize = 8_192;
 const NUMBERS: usize = 4_096;
 
-/// The bytes before the state.
+/// The bytes before the state or the windows.
 const START: usize = 9;
 
 /// The call that an input stands for.
@@ -30,28 +31,43 @@ pub fn decode(input: &[u8]) -> Call {
     };
     let (room, numbers, normal) = (size(2) % ROOM, size(4) % NUMBERS, size(6) % ROOM);
     let rest = input.get(START..).unwrap_or_default();
-    let (state, table) = rest.split_at(rest.len().min(usize::from(at(8))));
+    let split = |at: usize| rest.split_at(rest.len().min(at));
     let kind = CallKind::EXPORTED[usize::from(at(0)) % CallKind::EXPORTED.len()];
+    if kind == CallKind::Place {
+        let (windows, durations) = split(numbers);
+        return Call {
+            windows: windows.to_vec(),
+            durations: durations.to_vec(),
+            room,
+            ..kind.call()
+        };
+    }
+    let (state, table) = split(usize::from(at(8)));
     let given = |field, size| if kind.has(field) { size } else { 0 };
     Call {
-        kind,
         table: table.to_vec(),
         state: state[..given(Field::State, state.len())].to_vec(),
         index: if kind.has(Field::Index) { number } else { 0 },
         normal: given(Field::Normal, normal),
         numbers: given(Field::Numbers, numbers),
         room: given(Field::Room, room),
+        ..kind.call()
     }
 }
 
 /// An input that stands for the call, if there is one.
 pub fn encode(call: &Call) -> Option<Vec<u8>> {
     let mut input = vec![call.kind as u8, call.index.min(0xFF) as u8];
-    for size in [call.room, call.numbers, call.normal] {
+    let numbers = match call.kind {
+        CallKind::Place => call.windows.len(),
+        _ => call.numbers,
+    };
+    for size in [call.room, numbers, call.normal] {
         input.extend((size as u16).to_be_bytes());
     }
     input.push(call.state.len() as u8);
-    input.extend(&call.state);
-    input.extend(&call.table);
+    for bytes in [&call.state, &call.table, &call.windows, &call.durations] {
+        input.extend(bytes);
+    }
     (decode(&input) == *call).then_some(input)
 }

@@ -20,6 +20,7 @@ pub mod input;
 pub mod meaning;
 pub mod memory;
 pub mod parts;
+pub mod placements;
 pub mod proved;
 pub mod reference;
 pub mod room;

@@ -5,7 +5,7 @@
 
 pub mod raw;
 
-use crate::answer::{Answer, Blocking, Campaign, Decision, Head, Plan, Refusal};
+use crate::answer::{Answer, Blocking, Campaign, Decision, Head, Placed, Plan, Refusal};
 use crate::engine::{Calls, Lent};
 use crate::guarded::Guarded;
 
@@ -21,6 +21,7 @@ pub const PROVED: Calls = Calls {
     pddl,
     blocking,
     rewrite,
+    place,
     rig: Some(&PROVED_RIG),
     ..Calls::NONE
 };
@@ -40,7 +41,7 @@ pub const PROVED_RIG: Calls = Calls {
 /// Marks "no plan" in the result of `decide` and `plan`.
 const NO_PLAN: u32 = 1 << 31;
 
-/// What plan's two further numbers hold before a call.
+/// What the two further numbers of plan or place hold before a call.
 const UNWRITTEN: [u64; 2] = [0x0123_4567_89AB_CDEF, 0xFEDC_BA98_7654_3210];
 
 /// What the decision of a campaign holds before it: no call's answer.
@@ -116,6 +117,12 @@ pub fn rewrite(table: &[u8], out: &mut [u8]) -> Result<usize, Refusal> {
     raw::rewrite(table, out).map(|length| length as usize)
 }
 
+/// # Panics
+/// As `placed`.
+pub fn place(windows: &[u8], durations: &[u8], out: &mut [u8]) -> Result<Placed, Refusal> {
+    placed(|length, place| raw::place(windows, durations, out, length, place))
+}
+
 /// The library copies a block's bytes; the part of the table that has them is handed back.
 ///
 /// # Panics
@@ -156,6 +163,34 @@ fn planned(call: impl FnOnce(&mut u64, &mut u64) -> Result<u32, Refusal>) -> Res
         "a refusal wrote a number"
     );
     Ok(decision(answer?).with_plan(numbers[0], numbers[1]))
+}
+
+/// Place's answer from a call that is lent the two further numbers, of which an answer writes the
+/// length and a refusal its place.
+///
+/// # Panics
+/// If the other number is written, a canary beside them changed, or a refusal has a place in its
+/// result.
+fn placed(
+    call: impl FnOnce(&mut u64, &mut u64) -> Result<u32, Refusal>,
+) -> Result<Placed, Refusal> {
+    let [mut length, mut place] = UNWRITTEN.map(|number| Guarded::holding(&[number]));
+    let answer = call(&mut length.lend()[0], &mut place.lend()[0]);
+    let [length, place] = [&length, &place].map(number);
+    match answer {
+        Ok(end) => {
+            assert_eq!(place, UNWRITTEN[1], "an answer wrote a place");
+            Ok(Placed {
+                end: u64::from(end),
+                length: length as usize,
+            })
+        }
+        Err(refusal) => {
+            assert_eq!(length, UNWRITTEN[0], "a refusal wrote a length");
+            assert_eq!(refusal.place, 0, "the result of a refusal is 0");
+            Err(Refusal { place, ..refusal })
+        }
+    }
 }
 
 /// Decide's and plan's answers from a call that is lent all three numbers.
@@ -223,6 +258,51 @@ mod tests {
     #[should_panic(expected = "refusal 4294967295 is unknown")]
     fn an_unwritten_decision_is_found() {
         both(|_| REFUSED);
+    }
+
+    #[test]
+    fn numbers_are_taken_from_a_placement() {
+        let answer = placed(|length, _| {
+            *length = 12;
+            Ok(961)
+        });
+        let expected = Placed {
+            end: 961,
+            length: 12,
+        };
+        assert_eq!(answer, Ok(expected));
+        let answer = placed(|_, place| {
+            *place = 1 << 40;
+            REFUSED
+        });
+        assert_eq!(answer, Err(Reason::OutputShort.at(1 << 40)));
+    }
+
+    #[test]
+    #[should_panic(expected = "an answer wrote a place")]
+    fn a_place_written_by_an_answer_is_found() {
+        let _ = placed(|length, place| {
+            (*length, *place) = (4, 0);
+            Ok(1)
+        });
+    }
+
+    #[test]
+    #[should_panic(expected = "a refusal wrote a length")]
+    fn a_length_written_by_a_refusal_is_found() {
+        let _ = placed(|length, place| {
+            (*length, *place) = (0, 0);
+            REFUSED
+        });
+    }
+
+    #[test]
+    #[should_panic(expected = "the result of a refusal is 0")]
+    fn a_place_in_the_result_of_a_refusal_is_found() {
+        let _ = placed(|_, place| {
+            *place = 3;
+            Err(Reason::NoPlacement.at(3))
+        });
     }
 
     #[test]

@@ -1,6 +1,7 @@
 //! Two engines compared on many calls, counted by what they answer.
 
 mod blocking;
+mod closure;
 mod planning;
 mod rewriting;
 mod rig;
@@ -29,6 +30,7 @@ pub struct Tally<'e> {
     blocking: Shares,
     planning: Shares,
     rewriting: Shares,
+    closure: Shares,
     rig: Shares,
 }
 
@@ -42,6 +44,7 @@ impl<'e> Tally<'e> {
             blocking: Shares::default(),
             planning: Shares::default(),
             rewriting: Shares::default(),
+            closure: Shares::default(),
             rig: Shares::default(),
         }
     }
@@ -62,6 +65,7 @@ impl<'e> Tally<'e> {
             CallKind::Blocking => self.blocking.add_blocking(call, &outcome.answer),
             CallKind::Plan | CallKind::Campaign => self.planning.add_planning(call, &outcome),
             CallKind::Rewrite => self.rewriting.add_rewriting(call),
+            CallKind::Place => self.closure.add_closure(call, &outcome),
             kind if kind.is_rig() => self.rig.add_rig(call, &outcome.answer),
             _ => {}
         }
@@ -103,6 +107,11 @@ impl<'e> Tally<'e> {
     /// What calls of `rewrite` had to tell apart.
     pub fn rewriting(&self) -> &Shares {
         &self.rewriting
+    }
+
+    /// What calls of `place` had to tell apart.
+    pub fn closure(&self) -> &Shares {
+        &self.closure
     }
 
     /// What calls with the rig's limits had to tell apart.

@@ -27,7 +27,7 @@ fn with_more_memory(mut call: Call, output: fn(usize) -> usize) -> Call {
             Field::Normal => call.normal += 1_000,
             Field::Numbers => call.numbers += 1_000,
             Field::Room => call.room = output(call.room),
-            Field::Table | Field::State | Field::Index => {}
+            Field::Table | Field::State | Field::Windows | Field::Durations | Field::Index => {}
         }
     }
     call

@@ -1,4 +1,4 @@
-//! The example campaigns: each commented listing is its binary table, each prints what is expected,
+//! The example campaigns: each commented listing is its binary file, each prints what is expected,
 //! the files for other planners are what the engine writes, and stored tables are rewritten.
 
 use crate::common::folder::{examples, pddl_parts, repository, PDDL};
@@ -30,19 +30,49 @@ fn bytes_of_listing(text: &str) -> Vec<u8> {
         .collect()
 }
 
-/// A table that has a commented listing beside it.
-fn listed_table(example: &Path, name: &str) -> Vec<u8> {
-    let [listing, table] = ["hex", "bin"].map(|kind| read(example, &format!("{name}.{kind}")));
+/// A file that has a commented listing beside it.
+fn listed(example: &Path, name: &str) -> Vec<u8> {
+    let [listing, bytes] = ["hex", "bin"].map(|kind| read(example, &format!("{name}.{kind}")));
     let listing = String::from_utf8(listing).expect("text");
-    assert_eq!(bytes_of_listing(&listing), table, "{}", example.display());
-    table
+    assert_eq!(bytes_of_listing(&listing), bytes, "{}", example.display());
+    bytes
 }
 
 #[test]
-fn each_listing_is_its_table() {
-    for example in examples() {
-        listed_table(&example, "task");
+fn each_listing_is_its_file() {
+    let mut folders = examples();
+    for example in &folders {
+        listed(example, "task");
     }
+    while let Some(folder) = folders.pop() {
+        let entries = fs::read_dir(&folder).expect("a folder");
+        for path in entries.map(|entry| entry.expect("a file").path()) {
+            if path.is_dir() {
+                folders.push(path);
+            } else if path.extension().is_some_and(|kind| kind == "hex") {
+                let name = path.file_stem().and_then(|name| name.to_str());
+                listed(&folder, name.expect("a name"));
+            }
+        }
+    }
+}
+
+/// The night has a placement, and the shorter one beside it, which is the same otherwise, has none.
+#[test]
+fn one_night_has_a_placement_and_the_other_does_not() {
+    let night = repository().join("examples/closure_night");
+    let short = night.join("short_night");
+    for file in ["task.bin", "state.bin", "durations.bin"] {
+        assert_eq!(read(&night, file), read(&short, file), "{file}");
+    }
+    let durations = listed(&night, "durations");
+    let placed = |folder: &Path| {
+        let windows = listed(folder, "windows");
+        let mut starts = vec![0; durations.len()];
+        PROVED.place(&windows, &durations, &mut starts)
+    };
+    assert_eq!(placed(&night).map(|placed| placed.end), Ok(280));
+    assert_eq!(placed(&short), Err(Reason::NoPlacement.at(7)));
 }
 
 /// The campaign at the rig's ceiling is taken by the rig's calls, and the one beside it, which has one
@@ -51,9 +81,9 @@ fn each_listing_is_its_table() {
 fn the_rig_takes_one_table_and_not_the_other() {
     let example = repository().join("examples/load_rig");
     let counts = |head: Head| (head.v_or_n, head.a);
-    let table = listed_table(&example, "task");
+    let table = listed(&example, "task");
     assert_eq!(rig::read(&table).map(counts), Ok((8, 16)));
-    let beyond = listed_table(&example.join("ninth_variable"), "task");
+    let beyond = listed(&example.join("ninth_variable"), "task");
     assert_eq!(rig::read(&beyond), Err(Reason::BeyondRig.at(0)));
     assert_eq!(PROVED.read(&beyond).map(counts), Ok((9, 16)));
 }
@@ -66,7 +96,7 @@ fn each_stored_table_is_rewritten() {
     let examples: Vec<PathBuf> = examples().into_iter().filter(stored).collect();
     assert!(!examples.is_empty());
     for example in examples {
-        let stored = listed_table(&example, "stored");
+        let stored = listed(&example, "stored");
         for engine in [PROVED, REFERENCE] {
             let refused = engine.read(&stored).expect_err("an unfinished row");
             assert_eq!(refused.reason, Reason::IdleMove);

@@ -3,18 +3,22 @@
 use campaign::call::{Call, CallKind};
 use campaign::engine::{Calls, Engine, REFERENCE};
 use campaign::fenced::Fenced;
-use campaign::generate::{call, long_stored, m1, random_bytes, rig_calls, Rng, Task};
+use campaign::generate::{
+    call, long_stored, m1, place_call, random_bytes, rig_calls, Day, Rng, Task,
+};
 use campaign::harness::compare;
 use campaign::hex::bytes;
-use campaign::impostors::{check_found, HONEST, LIMITS};
+use campaign::impostors::{check_found, HONEST, LIMITS, LONG_LISTS};
 use campaign::input::{decode, encode, ROOM};
+use campaign::placements::Window;
 use campaign::reference::table::Kind;
 use campaign::tally::Tally;
 
-/// Generated calls, and as many with the rig's limits.
+/// Generated calls, as many with the rig's limits, and some of closure days.
 fn calls(rng: &mut Rng, count: usize) -> Vec<Call> {
     let mut calls: Vec<Call> = (0..count).map(|_| call(rng)).collect();
     calls.extend((0..count / 4).flat_map(|_| rig_calls(rng, 4)));
+    calls.extend((0..count / 10).map(|_| place_call(rng)));
     calls
 }
 
@@ -108,6 +112,26 @@ fn tables_at_the_limits_find_impostors() {
     };
     assert!(!found(&HONEST));
     for impostor in &LIMITS {
+        assert!(found(&impostor.engine), "{}", impostor.trick);
+    }
+}
+
+/// As comparisons of long lists have to.
+#[test]
+fn long_lists_find_impostors() {
+    let list = |entries: usize| Day {
+        windows: vec![(0, 68_000)],
+        durations: vec![1; entries],
+    };
+    let mut wrong = list(70_000);
+    wrong.durations[69_000] = 0;
+    let calls = [list(68_000), list(70_000), wrong].map(|day| day.place(day.length()));
+    let found = |engine: &dyn Engine| {
+        let mut calls = calls.iter();
+        calls.any(|call| compare(call, &REFERENCE, engine).is_err())
+    };
+    assert!(!found(&HONEST));
+    for impostor in &LONG_LISTS {
         assert!(found(&impostor.engine), "{}", impostor.trick);
     }
 }
@@ -231,6 +255,64 @@ fn shares_of_rewriting_are_counted() {
         ("enough, and shorter than the table", 1),
     ] {
         assert_eq!(tally.rewriting().count(name), count, "{name}");
+    }
+}
+
+#[test]
+#[should_panic(expected = "19 at entry 0: 0 only")]
+fn a_missing_share_of_closure_hours_is_found() {
+    let tally = Tally::new(&REFERENCE, 1);
+    tally.closure().expect(&[("19 at entry 0", 1)]);
+}
+
+/// An entry that two touching windows together would hold, and a short one behind it; the same with one
+/// more that has no room, and one byte short. Full touching windows; faults; nothing at all.
+#[test]
+fn shares_of_closure_hours_are_counted() {
+    let mut tally = Tally::new(&REFERENCE, 1);
+    let waiting = [(0, 5), (5, 7), (9, 20)];
+    let days: [(&[Window], &[u64], usize); 7] = [
+        (&waiting, &[6, 2], 8),
+        (&waiting, &[6, 2, 9], 0),
+        (&waiting, &[6, 2], 7),
+        (&[(0, 5), (5, 10)], &[5, 5], 9),
+        (&[(0, 5), (4, 9)], &[0], 4),
+        (&[(0, 5)], &[6, 0], 8),
+        (&[], &[], 0),
+    ];
+    for (windows, durations, room) in days {
+        let (windows, durations) = (windows.to_vec(), durations.to_vec());
+        tally.check(&Day { windows, durations }.place(room));
+    }
+    for (name, count) in [
+        ("just enough", 1),
+        ("bytes behind", 1),
+        ("one byte short", 1),
+        ("passes over several windows", 1),
+        ("passes over a window", 0),
+        ("misses a window by a minute", 1),
+        ("would reach across touching windows", 1),
+        ("would fit a window passed over before", 1),
+        ("a gap between entries", 0),
+        ("starts at an opening", 2),
+        ("starts at an end", 1),
+        ("starts at both", 1),
+        ("ends at a shutting minute", 1),
+        ("ends at the last one", 1),
+        ("fills a window", 1),
+        ("19 at entry 0", 0),
+        ("19 at a later entry", 1),
+        ("19 at the last entry", 1),
+        ("19 with a short output", 1),
+        ("19 across touching windows", 1),
+        ("an overlap of a minute", 1),
+        ("a window behind sound ones", 1),
+        ("a window, and a duration at an earlier place", 1),
+        ("a duration of 0", 1),
+        ("a duration behind entries without a placement", 1),
+        ("no entries and no windows", 1),
+    ] {
+        assert_eq!(tally.closure().count(name), count, "{name}");
     }
 }
 

@@ -56,6 +56,11 @@ fn rewrite() {
 }
 
 #[test]
+fn place() {
+    check_lines(&REFERENCE, CallKind::Place);
+}
+
+#[test]
 fn listing() {
     check_lines(&REFERENCE, CallKind::Listing);
 }

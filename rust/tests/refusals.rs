@@ -1,4 +1,4 @@
-//! Every refusal of every call, its place, and which comes first.
+//! Every refusal of every call that takes a table, its place, and which comes first.
 
 mod calls;
 mod idle_moves;

@@ -69,23 +69,20 @@ fn check_session(folder: &Path, session: &str) -> usize {
     count
 }
 
-/// The bytes of a session's line `task ..` or `state ..`.
-fn file(session: &str, name: &str) -> Vec<u8> {
-    let mut lines = session.lines();
-    bytes(
-        lines
-            .find_map(|line| line.strip_prefix(name))
-            .expect("a file"),
-    )
+/// The folder of a session: a file for each line such as `task ..` behind its first.
+fn folder_of(session: &str) -> Folder {
+    let lines = session.lines().skip(1);
+    let lines = lines.take_while(|line| !line.starts_with("$ "));
+    lines.fold(Folder::new(), |folder, line| {
+        let (name, digits) = line.split_once(' ').unwrap_or((line, ""));
+        folder.with(&format!("{name}.bin"), &bytes(digits))
+    })
 }
 
 /// Runs sessions, each in a folder with its files, and answers how many commands they have.
 pub fn check_sessions(text: &str) -> usize {
     let sessions = text.trim_end().split("\n\n# ");
-    let checked = sessions.map(|session| {
-        let folder = Folder::of(&file(session, "task"), &file(session, "state"));
-        check_session(&folder.0, session)
-    });
+    let checked = sessions.map(|session| check_session(&folder_of(session).0, session));
     checked.sum()
 }
 

@@ -8,6 +8,7 @@ use campaign::engine::Engine;
 use campaign::harness::campaigned;
 use campaign::proved::{self, PROVED};
 use std::fs;
+use std::iter;
 use std::path::Path;
 
 fn text(path: &Path) -> String {
@@ -19,23 +20,22 @@ fn copy() -> Folder {
     let copy = Folder::new();
     for example in examples() {
         let name = example.file_name().expect("a name");
-        let folder = copy.0.join("examples").join(name);
-        fs::create_dir_all(&folder).expect("a folder");
-        copy_files(&example, &folder);
-        let beside = Path::new("ninth_variable");
-        if example.join(beside).is_dir() {
-            fs::create_dir(folder.join(beside)).expect("a folder");
-            copy_files(&example.join(beside), &folder.join(beside));
-        }
+        copy_folder(&example, &copy.0.join("examples").join(name));
     }
     copy
 }
 
-/// Copies tables and states.
-fn copy_files(from: &Path, to: &Path) {
-    let files = ["task.bin", "state.bin", "stored.bin"].iter();
-    for file in files.filter(|file| from.join(file).is_file()) {
-        fs::copy(from.join(file), to.join(file)).expect("a file");
+/// Copies the binary files, and those of the folders inside.
+fn copy_folder(from: &Path, to: &Path) {
+    fs::create_dir_all(to).expect("a folder");
+    for entry in fs::read_dir(from).expect("a folder") {
+        let path = entry.expect("a file").path();
+        let target = to.join(path.file_name().expect("a name"));
+        if path.is_dir() {
+            copy_folder(&path, &target);
+        } else if path.extension().is_some_and(|kind| kind == "bin") {
+            fs::copy(&path, &target).expect("a file");
+        }
     }
 }
 
@@ -80,7 +80,16 @@ fn the_readme_shows_what_is_printed() {
     let rig = "--rig decide";
     assert_eq!(
         commands,
-        ["plan", "step", "why", "pddl", rig, rig, "rewrite"]
+        [
+            "plan",
+            "step",
+            "why",
+            "pddl",
+            rig,
+            rig,
+            "timetable",
+            "rewrite"
+        ]
     );
 }
 
@@ -140,6 +149,42 @@ fn an_example_shows_the_rigs_ceiling() {
     let shown = check_shown(&copy(), &page);
     assert_eq!(shown, ["--rig plan", "--rig decide", "decide"]);
     check_solves(&table, &state, &list(&page, "moves "));
+}
+
+/// The plan of the night is a list that can be carried out, and the page's tables say what its files have.
+#[test]
+fn an_example_shows_a_closure() {
+    let names = [
+        "README.md",
+        "task.bin",
+        "state.bin",
+        "windows.bin",
+        "durations.bin",
+    ];
+    let [page, table, state, windows, durations] = files("closure_night", names);
+    let page = String::from_utf8(page).expect("text");
+    assert_eq!(check_shown(&copy(), &page), ["timetable", "timetable"]);
+    let planned = campaigned(&PROVED, &table, &state).expect("an accepted campaign");
+    let list = planned.records.iter();
+    let list = list.flat_map(|(mv, count)| iter::repeat_n(*mv, *count as usize));
+    check_solves(&table, &state, &list.clone().collect::<Vec<u64>>());
+    let minute = |four: &[u8]| u32::from_be_bytes(four.try_into().expect("four bytes"));
+    let hours = windows.chunks(4).map(minute);
+    let hours = hours.map(|minute| format!("{:02}:{:02}", minute / 60, minute % 60));
+    for (number, hours) in hours.collect::<Vec<_>>().chunks(2).enumerate() {
+        let row = format!("| {number} | {} | {} | ", hours[0], hours[1]);
+        assert!(page.lines().any(|line| line.starts_with(&row)), "{row}");
+    }
+    for (mv, minutes) in list.zip(durations.chunks(4).map(minute)) {
+        let count = planned.records[mv as usize].1;
+        let each = if count == 1 { "" } else { " each" };
+        let (start, end) = (
+            format!("| {mv} "),
+            format!(" | {count} | {minutes}{each} |"),
+        );
+        let named = |line: &str| line.starts_with(&start) && line.ends_with(&end);
+        assert!(page.lines().any(named), "{start}..{end}");
+    }
 }
 
 /// The list of moves that a page shows behind a name.

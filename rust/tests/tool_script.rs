@@ -3,7 +3,6 @@
 
 use crate::common::folder::{repository, Folder, Printed};
 use std::fs;
-use std::os::unix::fs::PermissionsExt;
 use std::path::Path;
 use std::process::Command;
 
@@ -15,7 +14,8 @@ fn copy() -> Folder {
     for folder in ["tools", "rust/target/release", "target", "a library"] {
         fs::create_dir_all(copy.0.join(folder)).expect("a folder");
     }
-    fs::copy(repository().join("lapyndo"), copy.0.join("lapyndo")).expect("the script");
+    let script = fs::read_to_string(repository().join("lapyndo")).expect("the script");
+    put_program(&copy.0.join("lapyndo"), &script);
     let noted = copy.0.join(NOTED);
     let noted = noted.display();
     let rt = format!(
@@ -28,11 +28,17 @@ fn copy() -> Folder {
         ("tools/cargo", cargo),
         ("rust/target/release/lapyndo", program),
     ] {
-        let file = copy.0.join(name);
-        fs::write(&file, format!("#!/bin/sh\n{line}\n")).expect("a program");
-        fs::set_permissions(&file, fs::Permissions::from_mode(0o755)).expect("a mode");
+        put_program(&copy.0.join(name), &format!("#!/bin/sh\n{line}\n"));
     }
     copy
+}
+
+/// Writes a program, from another process: none that another test starts meanwhile can have it open.
+fn put_program(file: &Path, text: &str) {
+    let write = "printf %s \"$1\" >\"$0\" && chmod 755 \"$0\"";
+    let mut shell = Command::new("sh");
+    let shell = shell.args(["-c", write]).arg(file).arg(text);
+    assert!(shell.status().expect("a shell").success());
 }
 
 /// Runs the script in the folder above the library; what it prints, and what the tools noted.

@@ -11,12 +11,13 @@ use std::os::unix::fs::symlink;
 use std::process::{Command, Stdio};
 
 /// The commands, and how each is given.
-const COMMANDS: [(&str, &str); 7] = [
+const COMMANDS: [(&str, &str); 8] = [
     ("show", "[--rig] show FILE"),
     ("decide", "[--rig] decide FOLDER"),
     ("plan", "[--rig] plan FOLDER"),
     ("why", "why FOLDER"),
     ("step", "[--rig] step FOLDER MOVE"),
+    ("timetable", "timetable FOLDER"),
     ("pddl", "pddl FOLDER"),
     ("rewrite", "rewrite FILE OUT"),
 ];
@@ -107,6 +108,10 @@ fn wrong_words() {
         ),
         ("why . x", "2 arguments given; usage: lapyndo why FOLDER"),
         (
+            "timetable",
+            "0 arguments given; usage: lapyndo timetable FOLDER",
+        ),
+        (
             "show task.bin x",
             "2 arguments given; usage: lapyndo [--rig] show FILE",
         ),
@@ -152,6 +157,7 @@ fn files_that_cannot_be_read() {
         vec!["plan", "."],
         vec!["why", "."],
         vec!["step", ".", "0"],
+        vec!["timetable", "."],
         vec!["pddl", "."],
     ] {
         assert_eq!(complain(&words), "./state.bin: there is no such file");

@@ -2,7 +2,6 @@
 -- Assumes nothing.
 use Prim.Native.Nat.{ℕ, zero, suc, _+_, _-_, _≤_, _<_}
 use native.Mathlib.Omega.{arith}
-use native.Mathlib.Numerals.{add-one}
 use mathlib.Core.Path.{_≡_, refl, sym, ap, _∙_, subst}
 use mathlib.Core.Bool.{Bool, true, false, _&&_}
 use mathlib.Core.List.{List}
@@ -17,6 +16,7 @@ use Rattle.model.specs.Move.{moveAt}
 use Rattle.model.specs.Layer.{Value, Layer, reaches, usable, layerValue}
 use Rattle.model.specs.Memory.{encode}
 use Rattle.model.specs.Plan.{adder, demand, achieves, achiever}
+use Rattle.model.specs.Theorems.Laws.Searching.{Searched, searched-next, searched-found, searched-all}
 use Rattle.table.specs.Outlines.{partAt}
 use Rattle.reader.specs.Parts.{PartIn}
 use Rattle.block.specs.Parts.{rangesOf}
@@ -61,34 +61,6 @@ reading-skip {k} {part} {whole} {g} {at} {i} r lt t skipped = go i (t .moves) sk
     go (EffectAt kd v z from n after) m h f = reading-next r g (f .followed) (h k tt (f .it) tt (f .var) (f .is))
     go End m h f = absurd (omega arith)
 
--- ---- the first number that passes a test
-
--- none below b passes
-pub record From (f : ℕ → Bool) (n b : ℕ) : Type 0 where
-  pub same : firstFrom f 0 n ≡ firstFrom f b (n - b)
-
-module _ (f : ℕ → Bool) where
-  pub from-start : (n : ℕ) → From f n 0
-  from-start n = let all : n ≡ n - 0 = omega arith in record { same = ap (firstFrom f 0) all }
-
-  pub from-found : {n b : ℕ} → From f n b → b < n → f b ≡ true → firstFrom f 0 n ≡ some b
-  unfolding firstFrom
-  from-found {n} {b} h lt e =
-      let one-more : n - b ≡ suc (n - suc b) = omega arith in
-      h .same ∙ ap (firstFrom f b) one-more ∙ rw (e, firstFrom)
-
-  pub from-next : {n b : ℕ} → From f n b → b < n → f b ≡ false → From f n (b + 1)
-  unfolding firstFrom
-  from-next {n} {b} h lt e =
-      let one-more : n - b ≡ suc (n - suc b) = omega arith in
-      rw (add-one b) (record { same = h .same ∙ ap (firstFrom f b) one-more ∙ rw (e, firstFrom) })
-
-  pub from-end : {n b : ℕ} → From f n b → n ≤ b → firstFrom f 0 n ≡ none
-  unfolding firstFrom
-  from-end {n} {b} h le =
-      let over : n - b ≡ 0 = omega arith in
-      h .same ∙ ap (firstFrom f b) over
-
 -- ---- which moves are usable
 
 -- some task and some layer, in which the marked moves are usable, stand so in the arguments
@@ -129,22 +101,22 @@ IsAdder k l p moves (Move b) = AdderIs k l p moves b
 IsAdder k l p moves None = adder k l p ≡ none
 
 module _ {table marks : List ℕ} {used : List Bool} {moves : ℕ} (x : Searchable table marks used moves) (p : ℕ) where
-  pub adder-found : {b : ℕ} → From (addsAt (x .task) (x .over) p) moves b → b < moves → addsAt (x .task) (x .over) p b ≡ true → AdderIs (x .task) (x .over) p moves b
+  pub adder-found : {b : ℕ} → Searched (addsAt (x .task) (x .over) p) moves b → b < moves → addsAt (x .task) (x .over) p b ≡ true → AdderIs (x .task) (x .over) p moves b
   unfolding adder
   adder-found {b} h lt e =
-      record { lt = lt; is = ap (firstFrom (addsAt (x .task) (x .over) p) 0) (x .many) ∙ from-found (addsAt (x .task) (x .over) p) h lt e }
+      record { lt = lt; is = ap (firstFrom (addsAt (x .task) (x .over) p) 0) (x .many) ∙ searched-found h lt e }
 
-  pub adder-none : {b : ℕ} → From (addsAt (x .task) (x .over) p) moves b → moves ≤ b → adder (x .task) (x .over) p ≡ none
+  pub adder-none : {b : ℕ} → Searched (addsAt (x .task) (x .over) p) moves b → moves ≤ b → adder (x .task) (x .over) p ≡ none
   unfolding adder
-  adder-none h le = ap (firstFrom (addsAt (x .task) (x .over) p) 0) (x .many) ∙ from-end (addsAt (x .task) (x .over) p) h le
+  adder-none h le = ap (firstFrom (addsAt (x .task) (x .over) p) 0) (x .many) ∙ searched-all h le
 
 -- the items of move b before the offset do not add p, nor do the usable moves before b
 pub record AdderAt {table marks : List ℕ} {used : List Bool} {moves : ℕ} (x : Searchable table marks used moves) (p b : ℕ) (part : List ℕ) (at : ℕ) : Type 0 where
-  pub before : From (addsAt (x .task) (x .over) p) moves b
+  pub before : Searched (addsAt (x .task) (x .over) p) moves b
   pub reading : Reading (rangesOf normal (x .task)) part (adds p (moveAt (x .task) b)) (any (isAdd p)) at
 
 module _ {table marks : List ℕ} {used : List Bool} {moves : ℕ} (x : Searchable table marks used moves) (p : ℕ) {b : ℕ} {part : List ℕ} (lt : b < moves) where
-  pub adder-start : From (addsAt (x .task) (x .over) p) moves b → part ≡ partAt table marks b → AdderAt x p b part 1
+  pub adder-start : Searched (addsAt (x .task) (x .over) p) moves b → part ≡ partAt table marks b → AdderAt x p b part 1
   unfolding adds
   adder-start h e =
       record {
@@ -166,10 +138,10 @@ module _ {table marks : List ℕ} {used : List Bool} {moves : ℕ} (x : Searchab
         adder-found x p (d .before) lt
         (passes x (adds p (moveAt (x .task) b)) lt u ∙ sym (reading-stop (d .reading) f (any-true (isAdd p) (eq-eqb q p e))))
 
-    pub adder-over : getD used b false ≡ true → length part ≤ at → From (addsAt (x .task) (x .over) p) moves (b + 1)
+    pub adder-over : getD used b false ≡ true → length part ≤ at → Searched (addsAt (x .task) (x .over) p) moves (b + 1)
     unfolding any
     adder-over u end =
-        from-next (addsAt (x .task) (x .over) p) (d .before) lt
+        searched-next (d .before) lt
         (passes x (adds p (moveAt (x .task) b)) lt u ∙ sym (reading-end (d .reading) (left-end end (d .reading .left)) refl))
 
 -- ---- "or whose effect on v has value ≥ target T (:=) or > 0 (+=)"
@@ -221,17 +193,17 @@ demand-other zero z e = absurd (e refl)
 demand-other (suc n) z e = refl
 
 module _ {table marks : List ℕ} {used : List Bool} {moves : ℕ} (x : Searchable table marks used moves) (v : ℕ) (z : ℤ) where
-  pub achiever-none : {b : ℕ} → From (achievesAt (x .task) (x .over) v z) moves b → moves ≤ b → achiever (x .task) (x .over) v z ≡ none
+  pub achiever-none : {b : ℕ} → Searched (achievesAt (x .task) (x .over) v z) moves b → moves ≤ b → achiever (x .task) (x .over) v z ≡ none
   unfolding achiever
-  achiever-none h le = ap (firstFrom (achievesAt (x .task) (x .over) v z) 0) (x .many) ∙ from-end (achievesAt (x .task) (x .over) v z) h le
+  achiever-none h le = ap (firstFrom (achievesAt (x .task) (x .over) v z) 0) (x .many) ∙ searched-all h le
 
 -- the effects of move b before the offset are on other variables, and no usable move before b achieves
 pub record AchieverAt {table marks : List ℕ} {used : List Bool} {moves : ℕ} (x : Searchable table marks used moves) (v : ℕ) (z : ℤ) (b : ℕ) (part : List ℕ) (at : ℕ) : Type 0 where
-  pub before : From (achievesAt (x .task) (x .over) v z) moves b
+  pub before : Searched (achievesAt (x .task) (x .over) v z) moves b
   pub reading : Reading (rangesOf normal (x .task)) part (effectOn v (moveAt (x .task) b)) (effectOn v) at
 
 module _ {table marks : List ℕ} {used : List Bool} {moves : ℕ} (x : Searchable table marks used moves) (v : ℕ) (z : ℤ) {b : ℕ} {part : List ℕ} (lt : b < moves) where
-  pub achiever-start : From (achievesAt (x .task) (x .over) v z) moves b → part ≡ partAt table marks b → AchieverAt x v z b part 1
+  pub achiever-start : Searched (achievesAt (x .task) (x .over) v z) moves b → part ≡ partAt table marks b → AchieverAt x v z b part 1
   achiever-start h e =
       record {
         before = h;
@@ -242,10 +214,10 @@ module _ {table marks : List ℕ} {used : List Bool} {moves : ℕ} (x : Searchab
     pub achiever-skip : {i : ItemAt} → at < length part → Next part at i → Skipped (effectOn v) part i → AchieverAt x v z b part (behind i)
     achiever-skip lt t h = record { before = d .before; reading = reading-skip (d .reading) lt t h }
 
-    pub achiever-over : getD used b false ≡ true → length part ≤ at → From (achievesAt (x .task) (x .over) v z) moves (b + 1)
+    pub achiever-over : getD used b false ≡ true → length part ≤ at → Searched (achievesAt (x .task) (x .over) v z) moves (b + 1)
     unfolding achieves effectOn
     achiever-over u end =
-        from-next (achievesAt (x .task) (x .over) v z) (d .before) lt
+        searched-next (d .before) lt
         (passes x (achieves (x .over) z (effectOn v (moveAt (x .task) b))) lt u
         ∙ ap (achieves (x .over) z) (sym (reading-end (d .reading) (left-end end (d .reading .left)) refl)))
 
@@ -268,7 +240,7 @@ module _ {table marks : List ℕ} {used : List Bool} {moves : ℕ} (x : Searchab
               lt = lt;
               is =
                   ap (firstFrom (achievesAt (x .task) (x .over) v z) 0) (x .many)
-                  ∙ from-found (achievesAt (x .task) (x .over) v z) (d .before) lt
+                  ∙ searched-found (d .before) lt
                   (passes x (achieves (x .over) z (effectOn v (moveAt (x .task) b))) lt used-b ∙ effect-tested ∙ hit);
               it = f .it;
               found-it = found-it;
@@ -277,7 +249,7 @@ module _ {table marks : List ℕ} {used : List Bool} {moves : ℕ} (x : Searchab
               encoded = e;
             }
 
-        pub achiever-miss : getD used b false ≡ true → t ≡ false → From (achievesAt (x .task) (x .over) v z) moves (b + 1)
+        pub achiever-miss : getD used b false ≡ true → t ≡ false → Searched (achievesAt (x .task) (x .over) v z) moves (b + 1)
         achiever-miss used-b miss =
-            from-next (achievesAt (x .task) (x .over) v z) (d .before) lt
+            searched-next (d .before) lt
             (passes x (achieves (x .over) z (effectOn v (moveAt (x .task) b))) lt used-b ∙ effect-tested ∙ miss)

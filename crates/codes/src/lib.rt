@@ -1,10 +1,13 @@
-// The answers as one 64-bit number each, for hosts (crates/model/specs/Exports.antt).
+// The answers as one 64-bit number each, for hosts (crates/model/specs/Exports.antt; that of closure days in crates/closure/specs/Exports.antt).
 ghost use mathlib.Core.Path.{_≡_};
 ghost use Prim.Native.Nat.{_<_, _≤_};
 ghost use Rattle.model.specs.Exports.{refusalCode, readCode, writeCode, decideCode, planCode, planRecordCount, planFirstMoves, blockingCode};
 ghost use Rattle.model.specs.Theorems.Sizes.Answers.{placeLimit, resultLimit, ReadSmall, WriteSmall, DecideSmall, PlanSmall, BlockingSmall};
 ghost use Rattle.model.specs.Limits.{lastNumber};
+ghost use Rattle.closure.specs.Exports.{placeCode, placeLength, placePlace};
+ghost use Rattle.closure.specs.Theorems.Codes.{PlaceSmall};
 ghost use Rattle.codes.specs.Parts.{partCode};
+use closure::PlaceAnswer;
 use model::BlockingAnswer;
 use model::DecideAnswer;
 use model::PlanAnswer;
@@ -100,6 +103,27 @@ pub fn blocking_code(a: BlockingAnswer) -> u64
         BlockingAnswer::Blocks { offset } => offset,
         BlockingAnswer::Nothing => 0,
         BlockingAnswer::Refused(r) => refusal_code(r),
+    }
+}
+
+// The length is written in an answer only, and the place in a refusal only.
+pub fn place_code(a: PlaceAnswer, length: &mut u64, place: &mut u64) -> u64
+    requires { ⌜ PlaceSmall a ⌝ }
+    ensures { λ c. ⌜ (c ≡ placeCode a) × (now (length .exit) ≡ placeLength a (now (length .entry)))
+        × (now (place .exit) ≡ placePlace a (now (place .entry))) ⌝ }
+{
+    match a {
+        PlaceAnswer::Placed { end, length: n } => {
+            *length = n;
+            end
+        }
+        PlaceAnswer::Refused(r) => {
+            *place = r.place;
+            refusal_code(Refusal {
+                number: r.number,
+                place: 0,
+            })
+        }
     }
 }
 

@@ -1,4 +1,4 @@
-// The engine for its hosts: exported calls, each answered by one 64-bit number (crates/model/specs/Exports.antt).
+// The engine for its hosts: exported calls, each answered by one 64-bit number (crates/model/specs/Exports.antt, crates/closure/specs/Exports.antt).
 ghost use mathlib.Core.Path.{_≡_};
 ghost use Rattle.model.specs.Exports.{readCode, writeCode, decideCode, planCode, planRecordCount, planFirstMoves, blockingCode, blockAnswer, blockCopy};
 ghost use Rattle.model.specs.Limits.{paper};
@@ -7,6 +7,9 @@ ghost use Rattle.model.specs.Blocking.{blockingAnswer, blockingMemory};
 ghost use Rattle.model.specs.Pddl.{pddlAnswer, pddlOut};
 ghost use Rattle.model.specs.Rewrite.{rewriteAnswer, rewriteOut};
 ghost use Rattle.model.specs.Theorems.Campaigns.OneCall.{Promise};
+ghost use Rattle.closure.specs.Day.{paperDay};
+ghost use Rattle.closure.specs.Placing.{placeAnswer, placeOut};
+ghost use Rattle.closure.specs.Exports.{placeCode, placeLength, placePlace};
 ghost use Rattle.ceiling.specs.Ceiling.{rig, readAnswerUnder, blockPartUnder, blockRefusalUnder, normaliseAnswerUnder, normaliseOutUnder, stepAnswerUnder, stepOutUnder, decideAnswerUnder, decideMemoryUnder, planAnswerUnder, planMemoryUnder, planOutUnder, campaignDecisionUnder, campaignPlanUnder, campaignMemoryUnder, campaignOutUnder};
 ghost use Rattle.ceiling.specs.Theorems.EndToEnd.{PromiseUnder};
 
@@ -135,6 +138,24 @@ pub extern "C" fn lapyndo_campaign(
     *decision = codes::decide_code(decided);
     let planned = answers.plan;
     codes::plan_code(planned, records, first)
+}
+
+// Closure hours: places a list in the windows of a closure day. The result is the end minute; the length of the starts is written in an
+// answer only, and the place of a refusal in a refusal only.
+#[no_mangle]
+pub extern "C" fn lapyndo_place(
+    windows: &[u8],
+    durations: &[u8],
+    out: &mut [u8],
+    length: &mut u64,
+    place: &mut u64,
+) -> u64
+    ensures { λ c. ⌜ (c ≡ placeCode (placeAnswer paperDay (now (windows .entry)) (now (durations .entry)) (now (out .entry))))
+        × (now (out .exit) ≡ placeOut paperDay (now (windows .entry)) (now (durations .entry)) (now (out .entry)))
+        × (now (length .exit) ≡ placeLength (placeAnswer paperDay (now (windows .entry)) (now (durations .entry)) (now (out .entry))) (now (length .entry)))
+        × (now (place .exit) ≡ placePlace (placeAnswer paperDay (now (windows .entry)) (now (durations .entry)) (now (out .entry))) (now (place .entry))) ⌝ }
+{
+    codes::place_code(closure::place(windows, durations, out), length, place)
 }
 
 // ---- The rig's calls: the same under its ceiling, "16 moves, 8 written variables and 2,048 numbers of layer memory". A block's copy, the

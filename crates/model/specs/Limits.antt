@@ -68,10 +68,10 @@ unfoldable pub boundInRange : Limits → Form → ℤ → Bool
 boundInRange L written c = leb (natAbs c) (L .constant)
 boundInRange L normal c = leZ (negℤ (pos (L .constant))) c && leZ c (pos (L .constant + 1))
 
--- the largest number of a refusal of the full calls: 15 in document 01 ("Where a call turns back"), 16 with document 02's "Turned away: 16,
--- such a move"; and of all calls: 17, "a head beyond the rig's limits"
+-- the largest number of a refusal of the full calls on tables: 15 in document 01 ("Where a call turns back"), 16 with document 02's "Turned
+-- away: 16, such a move"; and of all calls: 17, "a head beyond the rig's limits", and of closure days 18 and "19, no placement exists"
 abbrev pub fullNumber : ℕ
 fullNumber = 16
 
 abbrev pub lastNumber : ℕ
-lastNumber = 17
+lastNumber = 19

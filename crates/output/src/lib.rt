@@ -4,7 +4,7 @@ ghost use mathlib.Core.Path.{_≡_};
 ghost use Prim.Native.Nat.{_+_, _^_, _<_, _≤_};
 ghost use lib.IntN.{natAbs};
 ghost use lib.ListN.{length};
-ghost use Rattle.integer.specs.BigEndian.{signedBytes};
+ghost use Rattle.integer.specs.BigEndian.{bytes, signedBytes};
 ghost use Rattle.model.specs.Listing.{decimal};
 ghost use Rattle.output.specs.Writing.{Written};
 
@@ -45,6 +45,19 @@ pub fn put_i32(out: &mut [u8], at: usize, v: i64) -> usize
         return next;
     }
     integer::put_i32(out, at, v);
+    next
+}
+
+// The last four bytes of a number.
+pub fn put_u32(out: &mut [u8], at: usize, n: u64) -> usize
+    requires { ⌜ at < 2 ^ 63 ⌝ }
+    ensures { λ r. ⌜ Written (now (out .entry)) at (bytes 4 n) (now (out .exit)) r ⌝ }
+{
+    let next = at + 4;
+    if out.len() < next {
+        return next;
+    }
+    integer::put_unsigned(out, at, n, 4);
     next
 }
 

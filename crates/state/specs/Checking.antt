@@ -1,7 +1,6 @@
 -- The answer of a state's check as an optional refusal; the search of the first wrong place; what is accepted.
 -- Assumes nothing.
 use Prim.Native.Nat.{ℕ, suc, _+_, _-_, _*_, _≤_, _<_}
-use native.Mathlib.Numerals.{add-one}
 use native.Mathlib.Omega.{arith}
 use mathlib.Core.Path.{_≡_, refl, sym, ap, _∙_}
 use mathlib.Core.Bool.{Bool, true, false, not}
@@ -38,31 +37,6 @@ check-refused e a = sym e ∙ ap checkOf a
 
 some-none : {A : Type 0} {a : A} → some a ≡ none → ⊥
 some-none e = let z : _≡_ {A = ℕ} 0 1 = cc in omega arith
-
--- ---- the first number below n that passes a test
-
--- none below i passes it, so the search goes on from i
-pub record Searched (f : ℕ → Bool) (n i : ℕ) : Type 0 where
-  pub within : i ≤ n
-  pub same : firstFrom f 0 n ≡ firstFrom f i (n - i)
-
-pub searched-start : (f : ℕ → Bool) (n : ℕ) → Searched f n 0
-searched-start f n = record { within = omega arith; same = ap (firstFrom f 0) (omega arith) }
-
-module _ {f : ℕ → Bool} {n i : ℕ} (s : Searched f n i) where
-  pub searched-next : i < n → f i ≡ false → Searched f n (i + 1)
-  unfolding firstFrom
-  searched-next h t =
-      let e : n - i ≡ suc (n - (i + 1)) = omega arith in
-      record { within = omega arith; same = s .same ∙ rw (e, firstFrom, t, add-one i) refl }
-
-  pub searched-found : i < n → f i ≡ true → firstFrom f 0 n ≡ some i
-  unfolding firstFrom
-  searched-found h t = let e : n - i ≡ suc (n - suc i) = omega arith in s .same ∙ rw (e, firstFrom, t) refl
-
-  pub searched-all : n ≤ i → firstFrom f 0 n ≡ none
-  unfolding firstFrom
-  searched-all h = let e : n - i ≡ 0 = omega arith in s .same ∙ rw e refl
 
 -- ---- the two tests
 

@@ -1,4 +1,4 @@
-//! A task with the memories for all calls, and each call timed on both engines.
+//! A task with the memories for all its calls, and each call timed on both engines.
 
 use crate::engines::PROVED;
 use crate::timing::{compare, Times};
@@ -7,7 +7,7 @@ use campaign::generate::{rewritten_length, text_length, Task};
 use campaign::reference;
 use campaign::room;
 
-/// A written or normal task with the memories for all calls, and the engines that are timed.
+/// A written or normal task with the memories for all its calls, and the engines that are timed.
 pub struct Bench {
     pub name: String,
     pub task: Task,

@@ -1,6 +1,6 @@
-//! The proved engine without the canaries around the numbers that `plan` and `campaign` write.
+//! The proved engine without the canaries around the numbers that `plan`, `campaign` and `place` write.
 
-use campaign::answer::{Answer, Campaign, Plan, Refusal};
+use campaign::answer::{Answer, Campaign, Placed, Plan, Refusal};
 use campaign::engine::{Calls, Lent};
 use campaign::proved::{self, raw};
 
@@ -10,6 +10,12 @@ pub const PROVED: Calls = Calls {
         planned(|records, first| raw::plan(table, state, layers, out, records, first))
     },
     campaign: |_, table, state, lent| campaign(raw::campaign, table, state, lent),
+    place: |windows, durations, out| {
+        let (mut length, mut place) = (0, 0);
+        let end = raw::place(windows, durations, out, &mut length, &mut place)?.into();
+        let length = length as usize;
+        Ok(Placed { end, length })
+    },
     ..proved::PROVED
 };
 

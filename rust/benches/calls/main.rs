@@ -5,6 +5,7 @@
 
 mod bench;
 mod blocking;
+mod closure;
 mod comparisons;
 mod engines;
 mod helpful;
@@ -28,6 +29,7 @@ fn main() {
     blocking::parts_table();
     blocking::layers_table();
     rewrite::bytes_table();
+    closure::table();
     rig::table();
 }
 

@@ -75,6 +75,11 @@ impl Outcome {
         self.buffers.layers()
     }
 
+    /// What the output holds.
+    pub fn out(&self) -> &[u8] {
+        lent(&self.buffers.out)
+    }
+
     /// The same with the first of its numbers of layer memory only.
     pub fn with_numbers(mut self, numbers: usize) -> Outcome {
         let layers = self.buffers.layers.iter_mut();
@@ -103,8 +108,10 @@ impl Display for Outcome {
 /// The memories that a call is lent, all guarded; none for a field that its kind does not have.
 #[derive(Clone, Debug, PartialEq, Eq)]
 pub struct Buffers {
-    table: Guarded<u8>,
+    table: Option<Guarded<u8>>,
     state: Option<Guarded<u8>>,
+    windows: Option<Guarded<u8>>,
+    durations: Option<Guarded<u8>>,
     normal: Option<Guarded<u8>>,
     layers: Option<Guarded<i64>>,
     out: Option<Guarded<u8>>,
@@ -114,11 +121,14 @@ impl Buffers {
     /// Those of a call before it.
     pub fn of(call: &Call, fill: Fill) -> Buffers {
         let has = |field| call.kind.has(field);
+        let input = |field, bytes| has(field).then(|| Guarded::holding(bytes));
         let output = |length| Guarded::filled(length, |i| fill.byte(i));
         let memory = || Guarded::filled(call.numbers, |i| fill.number(i));
         Buffers {
-            table: Guarded::holding(&call.table),
-            state: has(Field::State).then(|| Guarded::holding(&call.state)),
+            table: input(Field::Table, &call.table),
+            state: input(Field::State, &call.state),
+            windows: input(Field::Windows, &call.windows),
+            durations: input(Field::Durations, &call.durations),
             normal: has(Field::Normal).then(|| output(call.normal)),
             layers: has(Field::Numbers).then(memory),
             out: has(Field::Room).then(|| output(call.room)),
@@ -127,13 +137,13 @@ impl Buffers {
 
     /// What the layer memory holds.
     pub fn layers(&self) -> &[i64] {
-        self.layers.as_ref().map_or(&[], Guarded::lent)
+        lent(&self.layers)
     }
 
     /// Makes the call and prints its answer.
     fn answer(&mut self, engine: &dyn Engine, call: &Call) -> Result<String, String> {
-        let table = self.table.lent();
-        let state = self.state.as_ref().map_or(&[][..], Guarded::lent);
+        let [table, state] = [&self.table, &self.state].map(lent);
+        let [windows, durations] = [&self.windows, &self.durations].map(lent);
         let [normal, out] = [&mut self.normal, &mut self.out].map(lend);
         let layers = lend(&mut self.layers);
         Ok(match call.kind {
@@ -165,19 +175,30 @@ impl Buffers {
             CallKind::Pddl => accepted(engine.pddl(table, state, out)),
             CallKind::Blocking => shown(engine.blocking(table, state, layers)),
             CallKind::Rewrite => accepted(engine.rewrite(table, out)),
+            CallKind::Place => shown(engine.place(windows, durations, out)),
             CallKind::Listing => engine.listing(table, state).replace('\n', "\\n"),
         })
     }
 
     fn check(&self, call: &Call) -> Result<(), String> {
-        self.table.check_unchanged("table", &call.table)?;
-        if let Some(state) = &self.state {
-            state.check_unchanged("state", &call.state)?;
+        for (name, lent, given) in [
+            ("table", &self.table, &call.table),
+            ("state", &self.state, &call.state),
+            ("windows", &self.windows, &call.windows),
+            ("durations", &self.durations, &call.durations),
+        ] {
+            if let Some(lent) = lent {
+                lent.check_unchanged(name, given)?;
+            }
         }
         check(&self.normal, "normal")?;
         check(&self.layers, "memory")?;
         check(&self.out, "out")
     }
+}
+
+fn lent<T: Canary>(buffer: &Option<Guarded<T>>) -> &[T] {
+    buffer.as_ref().map_or(&[], Guarded::lent)
 }
 
 fn lend<T: Canary>(buffer: &mut Option<Guarded<T>>) -> &mut [T] {
@@ -229,6 +250,36 @@ mod tests {
     fn numbers_are_printed() {
         assert_eq!(decimal(&[-1, 0, i64::MAX]), "-1 0 9223372036854775807");
         assert_eq!(decimal(&[]), "-");
+    }
+
+    /// Of every input of a call.
+    #[test]
+    fn a_changed_input_is_found() {
+        for kind in [CallKind::Step, CallKind::Place] {
+            let call = Call {
+                table: vec![1],
+                state: vec![2],
+                windows: vec![3],
+                durations: vec![4],
+                ..kind.call()
+            };
+            let whole = Buffers::of(&call, Fill::Recorded);
+            assert_eq!(whole.check(&call), Ok(()));
+            let found = (0..4).filter(|input| {
+                let mut changed = whole.clone();
+                let Buffers {
+                    table,
+                    state,
+                    windows,
+                    durations,
+                    ..
+                } = &mut changed;
+                let inputs = [table, state, windows, durations];
+                lend(inputs.into_iter().nth(*input).expect("four")).fill(9);
+                changed.check(&call).is_err()
+            });
+            assert_eq!(found.count(), 2, "{}", kind.name());
+        }
     }
 
     #[test]

@@ -18,7 +18,7 @@ use crate::call::{Call, CallKind, Field};
 use crate::reference::table::{Block, Kind};
 use crate::reference::{normal_form, parse_stored_table, parse_table};
 
-/// A call of any kind that has not the rig's limits.
+/// A call of any kind that takes a table and has not the rig's limits.
 pub fn call(rng: &mut Rng) -> Call {
     let kind = any_kind(rng);
     let call = any_call(rng, kind);
@@ -360,7 +360,7 @@ fn planning_sizes(rng: &mut Rng, sizes: &Sizes) -> (usize, usize) {
 }
 
 /// A size at or around the one that is needed.
-fn around(rng: &mut Rng, needed: usize) -> usize {
+pub(super) fn around(rng: &mut Rng, needed: usize) -> usize {
     match rng.below(8) {
         0 => needed.saturating_sub(1),
         1 => rng.below(needed + 1),

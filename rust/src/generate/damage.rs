@@ -1,7 +1,7 @@
 //! Inputs that are wrong, or likely to be.
 
 use super::rng::Rng;
-use crate::call::{Call, Field};
+use crate::call::{Call, CallKind, Field};
 use crate::commands::commands;
 use crate::reference::table::{
     Block, Change, Effect, Item, Kind, Table, Term, MOVE_LIMIT, NUMBER_LIMIT, PROPOSITION_LIMIT,
@@ -322,11 +322,13 @@ pub fn wrong_state(rng: &mut Rng, state: &[u8]) -> Vec<u8> {
     wrong
 }
 
-/// Damages the table, and now and then the state.
+/// Damages the table, and now and then the state; of `place` the windows or the durations.
 pub fn damage(rng: &mut Rng, call: &mut Call) {
-    let damaged = match call.kind.has(Field::State) && rng.chance(1, 4) {
-        true => &mut call.state,
-        false => &mut call.table,
+    let damaged = match call.kind {
+        CallKind::Place if rng.chance(1, 2) => &mut call.windows,
+        CallKind::Place => &mut call.durations,
+        kind if kind.has(Field::State) && rng.chance(1, 4) => &mut call.state,
+        _ => &mut call.table,
     };
     damage_bytes(rng, damaged);
 }

@@ -245,6 +245,17 @@ extern "C" {
     ) -> u64;
 
     fn lapyndo_rewrite(table: *const u8, table_len: usize, out: *mut u8, out_len: usize) -> u64;
+
+    fn lapyndo_place(
+        windows: *const u8,
+        windows_len: usize,
+        durations: *const u8,
+        durations_len: usize,
+        out: *mut u8,
+        out_len: usize,
+        length: *mut u64,
+        place: *mut u64,
+    ) -> u64;
 }
 
 pub fn pddl(table: &[u8], state: &[u8], out: &mut [u8]) -> Result<u32, Refusal> {
@@ -278,6 +289,29 @@ pub fn rewrite(table: &[u8], out: &mut [u8]) -> Result<u32, Refusal> {
     answered(unsafe { lapyndo_rewrite(table.as_ptr(), table.len(), out.as_mut_ptr(), out.len()) })
 }
 
+/// The end minute; 0 in a refusal. Writes the length of the starts in an answer only, and the place
+/// of a refusal in a refusal only.
+pub fn place(
+    windows: &[u8],
+    durations: &[u8],
+    out: &mut [u8],
+    length: &mut u64,
+    place: &mut u64,
+) -> Result<u32, Refusal> {
+    answered(unsafe {
+        lapyndo_place(
+            windows.as_ptr(),
+            windows.len(),
+            durations.as_ptr(),
+            durations.len(),
+            out.as_mut_ptr(),
+            out.len(),
+            length,
+            place,
+        )
+    })
+}
+
 #[cfg(test)]
 mod tests {
     use super::*;
@@ -289,8 +323,8 @@ mod tests {
     }
 
     #[test]
-    #[should_panic(expected = "refusal 18 is unknown")]
+    #[should_panic(expected = "refusal 20 is unknown")]
     fn an_unknown_refusal_is_found() {
-        let _ = answered(18 << 32);
+        let _ = answered(20 << 32);
     }
 }

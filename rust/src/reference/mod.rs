@@ -1,6 +1,6 @@
 //! The specification in plain Rust, one function a call.
 //!
-//! A table is parsed into data first, and every call works on that data alone.
+//! A table or a closure day is parsed into data first, and every call works on that data alone.
 //! An output is written last, so a refusal leaves it as it was.
 
 #![forbid(unsafe_code)]
@@ -8,6 +8,7 @@
 mod blocking;
 mod ceiling;
 mod circle;
+mod closure;
 mod layers;
 mod listing;
 mod normal;
@@ -21,6 +22,7 @@ mod step;
 pub mod table;
 
 pub use ceiling::{Ceiling, FULL, RIG};
+pub use closure::place;
 pub use listing::{listing, record_line, MEMORY_ROOM, NORMAL_ROOM, PLAN_ROOM};
 pub use normal::{normal_conditions, normal_form};
 pub use plan::Record;

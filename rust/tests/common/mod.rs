@@ -1,5 +1,6 @@
 //! What several files of tests use.
 
+pub mod closure;
 pub mod folder;
 pub mod pddl_reader;
 pub mod refused;

@@ -1,4 +1,4 @@
-//! There is no sixth comparison: every other number is refused by every call.
+//! There is no sixth comparison: every other number is refused by every call that takes a table.
 
 use super::{closing, term};
 use crate::common::refused::{refused, roomy, NORMAL, WRITTEN};

@@ -1,4 +1,5 @@
-//! Moves that do nothing: 16 in every call but the rewriter, and what comes before it and behind.
+//! Moves that do nothing: 16 in every call that takes a table but the rewriter, and what comes before it
+//! and behind.
 
 use super::bytes;
 use crate::common::refused::{refused, roomy, NORMAL, WRITTEN};
@@ -22,7 +23,8 @@ fn check_calls(kinds: &[CallKind], table: &[u8], number: u8, place: usize) {
     }
 }
 
-/// What follows the first byte of a written and of a normal table: every call refuses both.
+/// What follows the first byte of a written and of a normal table: every call that takes a table
+/// refuses both.
 fn check(rest: &str, number: u8, place: usize) {
     for (head, kinds) in [("54", &WRITTEN[..]), ("4e", &NORMAL)] {
         check_calls(kinds, &bytes(&format!("{head} {rest}")), number, place);

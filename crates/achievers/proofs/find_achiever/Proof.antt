@@ -22,7 +22,8 @@ use Rattle.block.specs.declared.ItemAt.{ItemAt}
 use Rattle.block.specs.declared.ItemAt.the-variants.{Need, Add, Delete, Condition as ConditionAt, Effect as EffectAt, End}
 use Rattle.block.proofs.ItemAt.{the-type}
 use Rattle.table.specs.Outlines.{partAt}
-use Rattle.achievers.specs.Search.{Skipped, Achievable, From, from-start, from-next, fails, part-in, achievesAt, AchieverAt, achiever-none, achiever-start, achiever-skip, achiever-hit, achiever-miss, achiever-over}
+use Rattle.model.specs.Theorems.Laws.Searching.{Searched, searched-start, searched-next}
+use Rattle.achievers.specs.Search.{Skipped, Achievable, fails, part-in, achievesAt, AchieverAt, achiever-none, achiever-start, achiever-skip, achiever-hit, achiever-miss, achiever-over}
 use Rattle.achievers.proofs.find_achiever.Statement.{statement}
 use Rattle.achievers.proofs.find_achiever.Tie as tie
 
@@ -41,13 +42,13 @@ abbrev μ-loop : tie.MeasureT-loop
 abbrev Inv-moves : tie.InvT-moves
 Inv-moves table marks used row moves v target b₀ b =
     (b ≤ moves)
-    × ((x : Achievable table marks used row moves) → From (achievesAt (x .search .task) (x .search .over) v (toZ w64 target)) moves b)
+    × ((x : Achievable table marks used row moves) → Searched (achievesAt (x .search .task) (x .search .over) v (toZ w64 target)) moves b)
 
 abbrev μ-moves : tie.MeasureT-moves
 μ-moves table marks used row moves v target b₀ b = moves - b
 
 moves-holds : tie.Need-moves-holds Inv-loop μ-loop Inv-moves μ-moves
-moves-holds c = (omega arith, λ x. from-start _ _)
+moves-holds c = (omega arith, λ x. searched-start _ _)
 
 shared-slice-read-if2 : tie.Need-shared-slice-read-if2 Inv-loop μ-loop Inv-moves μ-moves
 shared-slice-read-if2 c = omega (arith, c .before .before .before .before .before .before .pre .search .long)
@@ -61,7 +62,7 @@ moves-less c = omega arith
 moves-again : tie.Need-moves-again Inv-loop μ-loop Inv-moves μ-moves
 moves-again c =
     let m = c .before .before .before .moves in
-    (omega arith, λ x. from-next _ (m .inv .1 x) (c .before .before .if1 .left) (fails (x .search) _ (c .before .before .if1 .left) (not-true _ (c .if2 .taken))))
+    (omega arith, λ x. searched-next (m .inv .1 x) (c .before .before .if1 .left) (fails (x .search) _ (c .before .before .if1 .left) (not-true _ (c .if2 .taken))))
 
 part-requires : tie.Need-part-requires Inv-loop μ-loop Inv-moves μ-moves
 part-requires c κs = part-in (c .before .before .before .before .before .before .before .pre .search) (c .before .before .if1 .left)

@@ -18,7 +18,8 @@ use Rattle.block.specs.Blocks.{next-is, any-false}
 use Rattle.block.specs.declared.ItemAt.{ItemAt}
 use Rattle.block.specs.declared.ItemAt.the-variants.{Need, Add, Delete, Condition as ConditionAt, Effect as EffectAt, End}
 use Rattle.block.proofs.ItemAt.{the-type}
-use Rattle.achievers.specs.Search.{Skipped, Searchable, From, from-start, from-next, fails, part-in, addsAt, AdderAt, adder-none, adder-start, adder-skip, adder-hit, adder-over}
+use Rattle.model.specs.Theorems.Laws.Searching.{Searched, searched-start, searched-next}
+use Rattle.achievers.specs.Search.{Skipped, Searchable, fails, part-in, addsAt, AdderAt, adder-none, adder-start, adder-skip, adder-hit, adder-over}
 use Rattle.achievers.proofs.find_adder.Statement.{statement}
 use Rattle.achievers.proofs.find_adder.Tie as tie
 
@@ -30,13 +31,13 @@ abbrev μ-loop : tie.MeasureT-loop
 μ-loop table marks used moves p b part at₀ at = length part - at
 
 abbrev Inv-moves : tie.InvT-moves
-Inv-moves table marks used moves p b₀ b = (b ≤ moves) × ((x : Searchable table marks used moves) → From (addsAt (x .task) (x .over) p) moves b)
+Inv-moves table marks used moves p b₀ b = (b ≤ moves) × ((x : Searchable table marks used moves) → Searched (addsAt (x .task) (x .over) p) moves b)
 
 abbrev μ-moves : tie.MeasureT-moves
 μ-moves table marks used moves p b₀ b = moves - b
 
 moves-holds : tie.Need-moves-holds Inv-loop μ-loop Inv-moves μ-moves
-moves-holds c = (omega arith, λ x. from-start _ _)
+moves-holds c = (omega arith, λ x. searched-start _ _)
 
 shared-slice-read-if2 : tie.Need-shared-slice-read-if2 Inv-loop μ-loop Inv-moves μ-moves
 shared-slice-read-if2 c = omega (arith, c .before .before .before .before .before .before .pre .long)
@@ -50,7 +51,7 @@ moves-less c = omega arith
 moves-again : tie.Need-moves-again Inv-loop μ-loop Inv-moves μ-moves
 moves-again c =
     let m = c .before .before .before .moves in
-    (omega arith, λ x. from-next _ (m .inv .1 x) (c .before .before .if1 .left) (fails x _ (c .before .before .if1 .left) (not-true _ (c .if2 .taken))))
+    (omega arith, λ x. searched-next (m .inv .1 x) (c .before .before .if1 .left) (fails x _ (c .before .before .if1 .left) (not-true _ (c .if2 .taken))))
 
 part-requires : tie.Need-part-requires Inv-loop μ-loop Inv-moves μ-moves
 part-requires c κs = part-in (c .before .before .before .before .before .before .before .pre) (c .before .before .if1 .left)

@@ -3,7 +3,8 @@
 use Prim.Native.Nat.{_-_}
 use native.Mathlib.Omega.{arith}
 use mathlib.Core.Option.{none}
-use Rattle.state.specs.Checking.{checkOf, Searched, searched-start, searched-next, searched-found, searched-all, wrongTruth, truth-wrong, truth-right, truths-found, truths-none}
+use Rattle.model.specs.Theorems.Laws.Searching.{Searched, searched-start, searched-next, searched-found, searched-all}
+use Rattle.state.specs.Checking.{checkOf, wrongTruth, truth-wrong, truth-right, truths-found, truths-none}
 use Rattle.state.proofs.check_truths.Statement.{statement}
 use Rattle.state.proofs.check_truths.Tie as tie
 

@@ -7,7 +7,8 @@ use mathlib.Core.Bool.{not}
 use Rattle.integer.specs.Linear.{back}
 use Rattle.model.specs.Limits.{paper}
 use Rattle.model.specs.StateTable.{valueInRange}
-use Rattle.state.specs.Checking.{checkOf, Searched, searched-start, searched-next, searched-found, searched-all, wrongValue, value-flag, values-found, values-none}
+use Rattle.model.specs.Theorems.Laws.Searching.{Searched, searched-start, searched-next, searched-found, searched-all}
+use Rattle.state.specs.Checking.{checkOf, wrongValue, value-flag, values-found, values-none}
 use Rattle.state.specs.Loading.{value-read}
 use Rattle.state.proofs.check_values.Statement.{statement}
 use Rattle.state.proofs.check_values.Tie as tie

@@ -2,7 +2,7 @@
 
 use crate::engine::{Engine, FULL, RIG, RIG_MOVES, RIG_NUMBERS, RIG_VARIABLES};
 use crate::outcome::{Done, Misuse, Outcome};
-use crate::{pddl, planning, rewrite, show, step, why, words};
+use crate::{pddl, planning, rewrite, show, step, timetable, why, words};
 use std::ffi::OsString;
 
 pub struct Command {
@@ -33,23 +33,27 @@ const ALL: &[Command] = &[
     planning::PLAN,
     why::WHY,
     step::STEP,
+    timetable::TIMETABLE,
     pddl::PDDL,
     rewrite::REWRITE,
 ];
 
 const INTRODUCTION: &str = "\
-lapyndo puts a campaign into words: its table, its plan or why there is none, and the state
-after a move; writes it as files for other planners; and rewrites stored tables.
+lapyndo puts a campaign into words: its table, its plan or why there is none, the state after a
+move, and its timetable in the hours of a closure; writes it as files for other planners; and
+rewrites stored tables.
 
 A FILE is a table, written (head 54) or normal (head 4E). A FOLDER has the table in task.bin
-and the state in state.bin. Propositions are named p0, p1, .., variables v0, v1, .. and moves
-a0, a1, ..; in a normal table v0 and (-v0) are the signed variables 0 and 1, and so on.
+and the state in state.bin; timetable also wants windows.bin and durations.bin there.
+Propositions are named p0, p1, .., variables v0, v1, .. and moves a0, a1, ..; in a normal table
+v0 and (-v0) are the signed variables 0 and 1, and so on. Windows of a closure and entries of a
+list are numbered from 0.
 ";
 
 const STATUS: &str = "\
 Exit status: 0 an answer (\"no plan\" is one), 1 a refusal, 2 wrong use.
 Answers and refusals go to standard output, wrong use to standard error.
-A refusal is explained: its number, its place, and the command and bytes that stand there.
+A refusal is explained: its number, its place, and what stands there.
 ";
 
 /// Runs what the words of the command line say.

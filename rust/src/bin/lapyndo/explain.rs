@@ -41,11 +41,7 @@ impl Case<'_> {
             15 => self.layer_rows(place),
             _ => Rows::new(),
         };
-        let mut text = format!("{refusal}: {}\n", meaning(refusal.reason));
-        for (about, row) in rows {
-            text += &format!("  {about:7}  {row}\n");
-        }
-        text
+        said(refusal, rows)
     }
 
     fn file(&self) -> String {
@@ -145,6 +141,15 @@ impl Case<'_> {
     }
 }
 
+/// A refusal with the lines that explain it.
+pub fn said(refusal: Refusal, rows: Rows) -> String {
+    let mut text = format!("{refusal}: {}\n", meaning(refusal.reason));
+    for (about, row) in rows {
+        text += &format!("  {about:7}  {row}\n");
+    }
+    text
+}
+
 /// What can be done about a layer that the rig has no memory for.
 const REMEDY: &str = "on the rig fewer variables leave room for more layers; \
     without --rig there is room for every layer";
@@ -228,5 +233,7 @@ fn meaning(reason: Reason) -> &'static str {
         Reason::OutputShort => "the memory for the result is too short",
         Reason::MemoryShort => "the memory for layers is too short for this layer",
         Reason::ValueRange => "a value of this layer is above 1000000000000 and not unbounded",
+        Reason::ClosureRange => "a window or a duration is out of order or range",
+        Reason::NoPlacement => "the list has no placement: this entry finds no room in the windows",
     }
 }

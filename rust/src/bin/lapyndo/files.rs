@@ -1,4 +1,4 @@
-//! The files of a campaign.
+//! The files of a campaign and of a closure.
 
 use crate::outcome::Misuse;
 use std::ffi::OsStr;
@@ -11,10 +11,17 @@ use std::process;
 const TABLE_LIMIT: usize = 64_000;
 /// The longest state that is ever accepted: 120 propositions and 16 values.
 const STATE_LIMIT: usize = 184;
+/// More windows and durations than are ever accepted and placed, so that it is the engine that refuses
+/// them: a closure has 64 windows, and each entry takes one of its 1,000,000 minutes at least.
+const WINDOWS_LIMIT: usize = 8_000;
+const DURATIONS_LIMIT: usize = 8_000_000;
 
 /// What the two files of a campaign are called.
 pub const TASK: &str = "task.bin";
 pub const STATE: &str = "state.bin";
+/// And those of a closure.
+pub const WINDOWS: &str = "windows.bin";
+pub const DURATIONS: &str = "durations.bin";
 
 /// A campaign's folder.
 pub struct Folder {
@@ -30,24 +37,45 @@ impl Folder {
         }
         Ok(Folder {
             table: table(&folder.join(TASK))?,
-            state: bytes(&folder.join(STATE), "state", STATE_LIMIT)?,
+            state: bytes(&folder.join(STATE), STATE_LIMIT, "no state has more")?,
+        })
+    }
+}
+
+/// The windows of a closure, and the minutes of the entries that are placed in them.
+pub struct Closure {
+    pub windows: Vec<u8>,
+    pub durations: Vec<u8>,
+}
+
+impl Closure {
+    pub fn read(name: &OsStr) -> Result<Closure, Misuse> {
+        let folder = Path::new(name);
+        let [windows, durations] = [WINDOWS, DURATIONS].map(|file| folder.join(file));
+        Ok(Closure {
+            windows: bytes(&windows, WINDOWS_LIMIT, "64 windows have 512")?,
+            durations: bytes(
+                &durations,
+                DURATIONS_LIMIT,
+                "a list that fits a closure has 4000000 at most",
+            )?,
         })
     }
 }
 
 pub fn table(file: &Path) -> Result<Vec<u8>, Misuse> {
-    bytes(file, "table", TABLE_LIMIT)
+    bytes(file, TABLE_LIMIT, "no table has more")
 }
 
-/// The bytes of a file, of which no more are read than the limit and one.
-fn bytes(file: &Path, what: &str, limit: usize) -> Result<Vec<u8>, Misuse> {
+/// The bytes of a file, of which no more are read than the limit and one; and what is said of the limit.
+fn bytes(file: &Path, limit: usize, said: &str) -> Result<Vec<u8>, Misuse> {
     let mut bytes = Vec::new();
     let opened = File::open(file);
     opened
         .and_then(|opened| opened.take(limit as u64 + 1).read_to_end(&mut bytes))
         .map_err(|error| misuse(file, &reason(&error, "read")))?;
     if bytes.len() > limit {
-        let longest = format!("the file has more than {limit} bytes, and no {what} has more");
+        let longest = format!("the file has more than {limit} bytes, and {said}");
         return Err(misuse(file, &longest));
     }
     Ok(bytes)
@@ -110,6 +138,6 @@ fn reason(error: &io::Error, done: &str) -> String {
     }
 }
 
-fn misuse(path: &Path, text: &str) -> Misuse {
+pub fn misuse(path: &Path, text: &str) -> Misuse {
     Misuse(format!("{}: {text}", path.display()))
 }

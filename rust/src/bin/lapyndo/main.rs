@@ -1,5 +1,6 @@
 //! `lapyndo COMMAND ..`: a campaign's table, plan and steps in words, for people, and as files for
-//! other planners; and stored tables rewritten. With `--rig` in front, by the rig's calls.
+//! other planners; its timetable in the hours of a closure; and stored tables rewritten. With `--rig`
+//! in front, by the rig's calls.
 //!
 //! Every answer comes from the proved engine. This program reads and writes files, calls it, and
 //! puts answers and refusals into words.
@@ -7,6 +8,7 @@
 #![forbid(unsafe_code)]
 
 mod circle;
+mod closure;
 mod commands;
 mod engine;
 mod evaluate;
@@ -23,6 +25,8 @@ mod scan;
 mod show;
 mod state;
 mod step;
+mod timetable;
+mod unplaced;
 mod why;
 mod words;
 

@@ -48,8 +48,7 @@ number; helpful moves that are not in the plan at all have lines of their own.
 ",
     run: Run::Either(|engine, words| {
         planned(engine, words, &|task, layers| {
-            let mut out = vec![0; room::record_bytes(task.counts())];
-            let plan = (engine.calls.plan)(&task.normal, &task.folder.state, layers, &mut out)?;
+            let (plan, out) = task.make_plan(engine, layers)?;
             let used = engine.used(task.counts(), plan.layers);
             Ok(decided(plan.decision()) + &used + &task.plan(plan, &out))
         })
@@ -70,19 +69,13 @@ pub type Call<'c> = &'c dyn Fn(&Task, &mut [i64]) -> Result<String, Refusal>;
 
 pub fn planned(engine: &Engine, words: &[OsString], call: Call) -> Done {
     let folder = Folder::read(&words[0])?;
-    let normal = match normal_table(engine, &folder.table) {
-        Ok(normal) => normal,
-        Err(refusal) => return Ok(refused(&folder, &[], &[], refusal)),
-    };
-    let task = Task { folder, normal };
-    // No more than (A + N + 1)(N + 1) layers are ever reported, which is proved. There is room for
-    // the records of all of them, so that refusal 13 never comes up here, and for all of them in the
-    // full engine's memory, so that it never refuses with 14.
-    let mut layers = vec![0; engine.numbers(task.counts())];
-    Ok(match call(&task, &mut layers) {
-        Ok(text) => Outcome::Answer(task.heading() + &text),
-        Err(refusal) => refused(&task.folder, &task.normal, &layers, refusal),
-    })
+    Ok(answered(engine, folder, call).unwrap_or_else(|refused| refused))
+}
+
+fn answered(engine: &Engine, folder: Folder, call: Call) -> Result<Outcome, Outcome> {
+    let task = Task::of(engine, folder)?;
+    let text = task.ask(engine, |layers| call(&task, layers))?;
+    Ok(Outcome::Answer(task.heading() + &text))
 }
 
 fn refused(folder: &Folder, normal: &[u8], layers: &[i64], refusal: Refusal) -> Outcome {
@@ -110,12 +103,45 @@ fn normal_table(engine: &Engine, table: &[u8]) -> Result<Vec<u8>, Refusal> {
 }
 
 impl Task {
+    /// Brings a campaign's table into normal form; an error is a refusal, explained.
+    pub fn of(engine: &Engine, folder: Folder) -> Result<Task, Outcome> {
+        match normal_table(engine, &folder.table) {
+            Ok(normal) => Ok(Task { folder, normal }),
+            Err(refusal) => Err(refused(&folder, &[], &[], refusal)),
+        }
+    }
+
+    /// What a call answers that is lent layer memory; an error is a refusal, explained.
+    pub fn ask<T>(
+        &self,
+        engine: &Engine,
+        call: impl FnOnce(&mut [i64]) -> Result<T, Refusal>,
+    ) -> Result<T, Outcome> {
+        // No more than (A + N + 1)(N + 1) layers are ever reported, which is proved. There is room for
+        // all of them in the full engine's memory, so that it never refuses with 14.
+        let mut layers = vec![0; engine.numbers(self.counts())];
+        let answer = call(&mut layers);
+        answer.map_err(|refusal| refused(&self.folder, &self.normal, &layers, refusal))
+    }
+
+    /// The plan, and the bytes of its records. There is room for those of all layers that are ever
+    /// reported, so that refusal 13 never comes up here.
+    pub fn make_plan(
+        &self,
+        engine: &Engine,
+        layers: &mut [i64],
+    ) -> Result<(Plan, Vec<u8>), Refusal> {
+        let mut out = vec![0; room::record_bytes(self.counts())];
+        let plan = (engine.calls.plan)(&self.normal, &self.folder.state, layers, &mut out)?;
+        Ok((plan, out))
+    }
+
     /// P, N and A of the normal table.
     pub fn counts(&self) -> [usize; 3] {
         Scan::of(&self.normal).counts()
     }
 
-    fn heading(&self) -> String {
+    pub fn heading(&self) -> String {
         let [table, normal] = [&self.folder.table, &self.normal].map(Vec::len);
         match self.folder.table.first() {
             Some(&NORMAL) => format!("table     normal, {table} bytes, taken as it is\n"),
@@ -187,7 +213,7 @@ impl Task {
 }
 
 /// What is to be known of every plan.
-const GUIDES: &str = "\
+pub const GUIDES: &str = "\
 A plan guides: it solves the relaxed task, in which nothing is deleted and no value falls.
 ";
 

@@ -39,11 +39,11 @@ unfolding codeNumber codePlace refusalCode
 refusal-halves r s = (omega (arith, s .place), omega (arith, s .place))
 
 module _ {A : Type 0} (result : ℕ → A) (back : Refusal → A) where
-  result-apart : (n : ℕ) → n < 2 ^ 32 → apart result back n ≡ result n
+  pub result-apart : (n : ℕ) → n < 2 ^ 32 → apart result back n ≡ result n
   unfolding apart
   result-apart n h = rw (result-halves n h .0, apart, result-halves n h .1) refl
 
-  refusal-apart : (r : Refusal) → Small placeLimit r → apart result back (refusalCode r) ≡ back r
+  pub refusal-apart : (r : Refusal) → Small placeLimit r → apart result back (refusalCode r) ≡ back r
   unfolding apart
   refusal-apart r s =
       let number : codeNumber (refusalCode r) ≡ r .number = refusal-halves r s .0 in

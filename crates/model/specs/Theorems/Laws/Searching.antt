@@ -1,7 +1,8 @@
 -- The searches of `Lists` as laws: what it means that all, that some pass a test; the first that passes; folds and tables.
 -- Each search has an elimination law and no equation of an Option. Assumes nothing.
-use Prim.Native.Nat.{ℕ, zero, suc, _+_, _≤_, _<_}
+use Prim.Native.Nat.{ℕ, zero, suc, _+_, _-_, _≤_, _<_}
 use native.Mathlib.Nat.{not-suc-le-zero, suc-add, add-suc, add-zero}
+use native.Mathlib.Numerals.{add-one}
 use native.Mathlib.Omega.{arith}
 use mathlib.Core.Path.{_≡_, refl, sym, ap, _∙_, subst}
 use mathlib.Core.Bool.{Bool, true, false}
@@ -131,6 +132,29 @@ module _ (f : ℕ → Bool) where
           → P (elim b [ true ↦ some i | false ↦ firstFrom f (suc i) n ])
       go true yes-i later = found i (omega arith) (omega arith) (yes-i tt) (λ u h k t. omega arith)
       go false yes-i later = later (λ t. t)
+
+-- a search for the first number below n that passes has come to i: none below it passes
+pub record Searched (f : ℕ → Bool) (n i : ℕ) : Type 0 where
+  pub within : i ≤ n
+  pub same : firstFrom f 0 n ≡ firstFrom f i (n - i)
+
+pub searched-start : (f : ℕ → Bool) (n : ℕ) → Searched f n 0
+searched-start f n = record { within = omega arith; same = ap (firstFrom f 0) (omega arith) }
+
+module _ {f : ℕ → Bool} {n i : ℕ} (s : Searched f n i) where
+  pub searched-next : i < n → f i ≡ false → Searched f n (i + 1)
+  unfolding firstFrom
+  searched-next h t =
+      let e : n - i ≡ suc (n - (i + 1)) = omega arith in
+      record { within = omega arith; same = s .same ∙ rw (e, firstFrom, t, add-one i) refl }
+
+  pub searched-found : i < n → f i ≡ true → firstFrom f 0 n ≡ some i
+  unfolding firstFrom
+  searched-found h t = let e : n - i ≡ suc (n - suc i) = omega arith in s .same ∙ rw (e, firstFrom, t) refl
+
+  pub searched-all : n ≤ i → firstFrom f 0 n ≡ none
+  unfolding firstFrom
+  searched-all h = let e : n - i ≡ 0 = omega arith in s .same ∙ rw e refl
 
 module _ {A : Type 0} (f : ℕ → A → A) where
   -- what each step keeps, the fold keeps
