@@ -10,10 +10,10 @@ use Rattle.model.specs.Calls.{Output, turns}
 use Rattle.model.specs.Theorems.Laws.Booleans.{false-not, clash}
 use Rattle.closure.specs.declared.Fault.{Fault}
 use Rattle.closure.specs.declared.Fault.the-variants as fault
-use Rattle.closure.specs.Day.{paperDay, windowAt, wrongWindow, wrongDuration, firstWindow, firstDuration}
-use Rattle.closure.specs.Placing.{checked}
-use Rattle.closure.specs.Theorems.Checks.{same-test, WindowOk, right-window, wrong-window, WindowsOk, windows-cases, DurationOk, right-duration, wrong-duration, DurationsOk, durations-cases}
-use Rattle.closure.specs.Theorems.Answers.{DayOk}
+use Rattle.placement.specs.Day.{paperDay, windowAt, wrongWindow, wrongDuration, firstWindow, firstDuration}
+use Rattle.placement.specs.Placing.{checked}
+use Rattle.placement.specs.Theorems.Checks.{same-test, WindowOk, right-window, wrong-window, WindowsOk, windows-cases, DurationOk, right-duration, wrong-duration, DurationsOk, durations-cases}
+use Rattle.placement.specs.Theorems.Answers.{DayOk}
 
 unfoldable pub faultOf : Fault → Option ℕ
 faultOf (fault.At i) = some i

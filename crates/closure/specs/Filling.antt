@@ -11,13 +11,13 @@ use Rattle.model.specs.Calls.{Output, writes, turns, fitted, outputAfter}
 use Rattle.model.specs.Theorems.Laws.Booleans.{clash}
 use Rattle.model.specs.Theorems.Printing.Outputs.{fitted-whole, fitted-short}
 use Rattle.output.specs.Writing.{written-first}
-use Rattle.closure.specs.declared.PlaceAnswer.{PlaceAnswer}
-use Rattle.closure.specs.declared.PlaceAnswer.the-variants as place
+use Rattle.placement.specs.declared.PlaceAnswer.{PlaceAnswer}
+use Rattle.placement.specs.declared.PlaceAnswer.the-variants as place
 use Rattle.closure.specs.declared.Walked.{Walked}
 use Rattle.closure.specs.declared.Walked.the-variants as walked
-use Rattle.closure.specs.Day.{paperDay, firstWindow, firstDuration}
-use Rattle.closure.specs.Placing.{Placed, placed, stuck, startBytes, startsOf, endMinute, checked, dayPlaced, placing, answered, placeAnswer, placeOut}
-use Rattle.closure.specs.Theorems.Answers.{PlaceRight, answer-right}
+use Rattle.placement.specs.Day.{paperDay, firstWindow, firstDuration}
+use Rattle.placement.specs.Placing.{Placed, placed, stuck, startBytes, startsOf, endMinute, checked, dayPlaced, placing, answered, placeAnswer, placeOut}
+use Rattle.placement.specs.Theorems.Answers.{PlaceRight, answer-right}
 use Rattle.closure.specs.Walking.{Wrote, Stopped, Walks}
 
 -- o is what the call writes, or why it turns back, 13 apart

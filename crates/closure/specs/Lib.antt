@@ -1,8 +1,3 @@
-pub mod Day
-pub mod Placement
-pub mod Placing
-pub mod Exports
-pub mod Theorems
 pub mod Checking
 pub mod Walking
 pub mod Filling

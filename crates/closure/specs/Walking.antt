@@ -11,13 +11,13 @@ use Rattle.model.specs.Lists.{tabulate}
 use Rattle.model.specs.Theorems.Laws.Searching.{length-tabulate}
 use Rattle.closure.specs.declared.Walked.{Walked}
 use Rattle.closure.specs.declared.Walked.the-variants as walked
-use Rattle.closure.specs.Day.{Window, paperDay, windowAt, durationAt, pieces, windowsOf, durationsOf}
-use Rattle.closure.specs.Placing.{startIn, placed, stuck, startBytes, dayPlaced}
-use Rattle.closure.specs.Theorems.Earliest.{start-most}
-use Rattle.closure.specs.Theorems.Checks.{WindowOk, durations-positive}
-use Rattle.closure.specs.Theorems.Answers.{DayOk}
-use Rattle.closure.specs.Theorems.Starts.{starts-one}
-use Rattle.closure.specs.Theorems.Walk.{Walk, begin, place, leave, walk-turns, walk-placed, walk-stuck}
+use Rattle.placement.specs.Day.{Window, paperDay, windowAt, durationAt, pieces, windowsOf, durationsOf}
+use Rattle.placement.specs.Placing.{startIn, placed, stuck, startBytes, dayPlaced}
+use Rattle.placement.specs.Theorems.Earliest.{start-most}
+use Rattle.placement.specs.Theorems.Checks.{WindowOk, durations-positive}
+use Rattle.placement.specs.Theorems.Answers.{DayOk}
+use Rattle.placement.specs.Theorems.Starts.{starts-one}
+use Rattle.placement.specs.Theorems.Walk.{Walk, begin, place, leave, walk-turns, walk-placed, walk-stuck}
 
 -- what is left from number i on, of n
 abbrev leftOf : {A : Type 0} → (ℕ → A) → ℕ → ℕ → List A

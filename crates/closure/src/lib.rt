@@ -5,19 +5,14 @@ ghost use Prim.Native.Nat.{_+_, _*_, _^_, _<_, _≤_};
 ghost use mathlib.Core.Bool.{cond};
 ghost use lib.Dec.{leb};
 ghost use lib.ListN.{length};
-ghost use Rattle.closure.specs.Day.{paperDay, minuteAt, wrongWindow, wrongDuration, firstWindow, firstDuration};
-ghost use Rattle.closure.specs.Placing.{startsOf, dayPlaced, placeAnswer, placeOut};
-ghost use Rattle.closure.specs.Theorems.Answers.{DayOk, PlaceRight};
+ghost use Rattle.placement.specs.Day.{paperDay, minuteAt, wrongWindow, wrongDuration, firstWindow, firstDuration};
+ghost use Rattle.placement.specs.Placing.{startsOf, dayPlaced, placeAnswer, placeOut};
+ghost use Rattle.placement.specs.Theorems.Answers.{DayOk, PlaceRight};
 ghost use Rattle.closure.specs.Checking.{faultOf, ShutBefore, FirstFault};
 ghost use Rattle.closure.specs.Walking.{Walks};
 ghost use Rattle.closure.specs.Filling.{Filled};
 use model::Refusal;
-
-// "written is each entry's start, and the answer is the end minute": with the length of the starts.
-pub enum PlaceAnswer {
-    Placed { end: u64, length: u64 },
-    Refused(Refusal),
-}
+use placement::PlaceAnswer;
 
 // The number of the first window or duration at fault.
 enum Fault {

@@ -1,19 +1,19 @@
-// The answers as one 64-bit number each, for hosts (crates/model/specs/Exports.antt; that of closure days in crates/closure/specs/Exports.antt).
+// The answers as one 64-bit number each, for hosts (crates/model/specs/Exports.antt; that of closure days in crates/placement/specs/Exports.antt).
 ghost use mathlib.Core.Path.{_≡_};
 ghost use Prim.Native.Nat.{_<_, _≤_};
 ghost use Rattle.model.specs.Exports.{refusalCode, readCode, writeCode, decideCode, planCode, planRecordCount, planFirstMoves, blockingCode};
 ghost use Rattle.model.specs.Theorems.Sizes.Answers.{placeLimit, resultLimit, ReadSmall, WriteSmall, DecideSmall, PlanSmall, BlockingSmall};
 ghost use Rattle.model.specs.Limits.{lastNumber};
-ghost use Rattle.closure.specs.Exports.{placeCode, placeLength, placePlace};
-ghost use Rattle.closure.specs.Theorems.Codes.{PlaceSmall};
+ghost use Rattle.placement.specs.Exports.{placeCode, placeLength, placePlace};
+ghost use Rattle.placement.specs.Theorems.Codes.{PlaceSmall};
 ghost use Rattle.codes.specs.Parts.{partCode};
-use closure::PlaceAnswer;
 use model::BlockingAnswer;
 use model::DecideAnswer;
 use model::PlanAnswer;
 use model::ReadAnswer;
 use model::Refusal;
 use model::WriteAnswer;
+use placement::PlaceAnswer;
 
 // Bits 32 to 63 the refusal's number, bits 0 to 31 its place.
 fn refusal_code(r: Refusal) -> u64

@@ -1,4 +1,4 @@
-// The engine for its hosts: exported calls, each answered by one 64-bit number (crates/model/specs/Exports.antt, crates/closure/specs/Exports.antt).
+// The engine for its hosts: exported calls, each answered by one 64-bit number (crates/model/specs/Exports.antt, crates/placement/specs/Exports.antt).
 ghost use mathlib.Core.Path.{_≡_};
 ghost use Rattle.model.specs.Exports.{readCode, writeCode, decideCode, planCode, planRecordCount, planFirstMoves, blockingCode, blockAnswer, blockCopy};
 ghost use Rattle.model.specs.Limits.{paper};
@@ -7,9 +7,9 @@ ghost use Rattle.model.specs.Blocking.{blockingAnswer, blockingMemory};
 ghost use Rattle.model.specs.Pddl.{pddlAnswer, pddlOut};
 ghost use Rattle.model.specs.Rewrite.{rewriteAnswer, rewriteOut};
 ghost use Rattle.model.specs.Theorems.Campaigns.OneCall.{Promise};
-ghost use Rattle.closure.specs.Day.{paperDay};
-ghost use Rattle.closure.specs.Placing.{placeAnswer, placeOut};
-ghost use Rattle.closure.specs.Exports.{placeCode, placeLength, placePlace};
+ghost use Rattle.placement.specs.Day.{paperDay};
+ghost use Rattle.placement.specs.Placing.{placeAnswer, placeOut};
+ghost use Rattle.placement.specs.Exports.{placeCode, placeLength, placePlace};
 ghost use Rattle.ceiling.specs.Ceiling.{rig, readAnswerUnder, blockPartUnder, blockRefusalUnder, normaliseAnswerUnder, normaliseOutUnder, stepAnswerUnder, stepOutUnder, decideAnswerUnder, decideMemoryUnder, planAnswerUnder, planMemoryUnder, planOutUnder, campaignDecisionUnder, campaignPlanUnder, campaignMemoryUnder, campaignOutUnder};
 ghost use Rattle.ceiling.specs.Theorems.EndToEnd.{PromiseUnder};
 

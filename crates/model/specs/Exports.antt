@@ -1,5 +1,5 @@
 -- The answers as one 64-bit number, for hosts in C: bits 32 to 63 the refusal's number, 0 if accepted; bits 0 to 31 the
--- place, or the result. (That of closure days, whose places may be larger, is in the crate `closure`.) Assumes nothing.
+-- place, or the result. (That of closure days, whose places may be larger, is in the crate `placement`.) Assumes nothing.
 use Prim.Native.Nat.{ℕ, _+_, _-_, _*_, _^_, _/_, _%_}
 use mathlib.Core.Bool.{true, false}
 use mathlib.Core.List.{List}

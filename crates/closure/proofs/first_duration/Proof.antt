@@ -5,8 +5,8 @@ use native.Mathlib.Omega.{arith}
 use mathlib.Core.Path.{sym, _∙_}
 use lib.ListN.{length}
 use Rattle.model.specs.Theorems.Laws.Searching.{Searched, searched-start, searched-next, searched-found, searched-all}
-use Rattle.closure.specs.Day.{paperDay, pieces, wrongDuration, firstDuration}
-use Rattle.closure.specs.Theorems.Checks.{begins-piece, pieces-end, pieces-most}
+use Rattle.placement.specs.Day.{paperDay, pieces, wrongDuration, firstDuration}
+use Rattle.placement.specs.Theorems.Checks.{begins-piece, pieces-end, pieces-most}
 use Rattle.closure.specs.Checking.{faultOf}
 use Rattle.closure.proofs.first_duration.Statement.{statement}
 use Rattle.closure.proofs.first_duration.Tie as tie

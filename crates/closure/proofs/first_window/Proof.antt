@@ -5,8 +5,8 @@ use native.Mathlib.Omega.{arith}
 use mathlib.Core.Path.{sym, _∙_}
 use lib.ListN.{length}
 use Rattle.model.specs.Theorems.Laws.Searching.{Searched, searched-start, searched-next, searched-found, searched-all}
-use Rattle.closure.specs.Day.{paperDay, windowAt, pieces, wrongWindow, firstWindow}
-use Rattle.closure.specs.Theorems.Checks.{begins-piece, pieces-end, pieces-most}
+use Rattle.placement.specs.Day.{paperDay, windowAt, pieces, wrongWindow, firstWindow}
+use Rattle.placement.specs.Theorems.Checks.{begins-piece, pieces-end, pieces-most}
 use Rattle.closure.specs.Checking.{faultOf, ShutBefore, shut-first, shut-next, window-passed}
 use Rattle.closure.proofs.first_window.Statement.{statement}
 use Rattle.closure.proofs.first_window.Tie as tie

@@ -1,6 +1,6 @@
 -- `minute_at` meets its contract. Assumes nothing.
 use borrow.Author.Needs.{needs}
-use Rattle.closure.specs.Day.{minuteAt}
+use Rattle.placement.specs.Day.{minuteAt}
 use Rattle.closure.proofs.minute_at.Statement.{statement}
 use Rattle.closure.proofs.minute_at.Tie as tie
 

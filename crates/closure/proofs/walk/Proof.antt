@@ -6,8 +6,8 @@ use mathlib.Core.Path.{ap, _∙_}
 use mathlib.Core.Bool.{cond}
 use lib.Dec.{leb}
 use lib.ListN.{length}
-use Rattle.closure.specs.Day.{windowAt, durationAt, pieces}
-use Rattle.closure.specs.Placing.{startIn}
+use Rattle.placement.specs.Day.{windowAt, durationAt, pieces}
+use Rattle.placement.specs.Placing.{startIn}
 use Rattle.closure.specs.Walking.{Walking, walking-begin, walking-place, walking-leave, walking-stuck, walking-placed}
 use Rattle.closure.proofs.walk.Statement.{statement}
 use Rattle.closure.proofs.walk.Tie as tie

@@ -2,7 +2,7 @@
 use native.Mathlib.Omega.{arith}
 use borrow.Author.Needs.{needs}
 use lib.Dec.{ltb, ltb→lt, nltb→le, not-T}
-use Rattle.closure.specs.Day.{paperDay, durationAt}
+use Rattle.placement.specs.Day.{paperDay, durationAt}
 use Rattle.closure.specs.Checking.{duration-by, duration-wrong}
 use Rattle.closure.proofs.wrong_duration.Statement.{statement}
 use Rattle.closure.proofs.wrong_duration.Tie as tie

@@ -2,7 +2,7 @@
 use native.Mathlib.Omega.{arith}
 use borrow.Author.Needs.{needs}
 use lib.Dec.{ltb, ltb→lt, nltb→le, not-T}
-use Rattle.closure.specs.Day.{paperDay, windowAt}
+use Rattle.placement.specs.Day.{paperDay, windowAt}
 use Rattle.closure.specs.Checking.{window-by, window-wrong, overlap}
 use Rattle.closure.proofs.wrong_window.Statement.{statement}
 use Rattle.closure.proofs.wrong_window.Tie as tie

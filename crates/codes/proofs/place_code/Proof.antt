@@ -4,8 +4,8 @@ use mathlib.Core.Path.{refl, subst}
 use borrow.Author.Needs.{needs}
 use Rattle.model.specs.Theorems.Reading.Places.{Small}
 use Rattle.model.specs.Theorems.Sizes.Answers.{placeLimit}
-use Rattle.closure.specs.Exports.{placedAt, placeCode, placeLength, placePlace}
-use Rattle.closure.specs.Theorems.Codes.{PlaceSmall}
+use Rattle.placement.specs.Exports.{placedAt, placeCode, placeLength, placePlace}
+use Rattle.placement.specs.Theorems.Codes.{PlaceSmall}
 use Rattle.codes.proofs.place_code.Statement.{statement}
 use Rattle.codes.proofs.place_code.Tie as tie
 

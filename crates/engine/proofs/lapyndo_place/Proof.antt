@@ -1,9 +1,9 @@
 -- `lapyndo_place` meets its contract. Assumes nothing.
 use mathlib.Core.Path.{ap, _∙_}
 use borrow.Author.Needs.{needs}
-use Rattle.closure.specs.declared.PlaceAnswer.{PlaceAnswer}
-use Rattle.closure.specs.Exports.{placeCode, placeLength, placePlace}
-use Rattle.closure.specs.Theorems.Codes.{place-small}
+use Rattle.placement.specs.declared.PlaceAnswer.{PlaceAnswer}
+use Rattle.placement.specs.Exports.{placeCode, placeLength, placePlace}
+use Rattle.placement.specs.Theorems.Codes.{place-small}
 use Rattle.engine.proofs.lapyndo_place.Statement.{statement}
 use Rattle.engine.proofs.lapyndo_place.Tie as tie
 

@@ -14,8 +14,8 @@ use Rattle.model.specs.Lists.{firstFrom, tabulate}
 use Rattle.model.specs.Theorems.Reading.WellFormed.{All}
 use Rattle.model.specs.Theorems.Laws.Booleans.{T-cases, T-stable, T-equal, or-left, or-right, or-cases, true-T}
 use Rattle.model.specs.Theorems.Laws.Searching.{firstFrom-cases}
-use Rattle.closure.specs.Day.{DayLimits, windowAt, durationAt, pieces, overlaps, wrongWindow, wrongDuration, firstWindow, firstDuration, windowsOf, durationsOf}
-use Rattle.closure.specs.Theorems.Earliest.{Rising}
+use Rattle.placement.specs.Day.{DayLimits, windowAt, durationAt, pieces, overlaps, wrongWindow, wrongDuration, firstWindow, firstDuration, windowsOf, durationsOf}
+use Rattle.placement.specs.Theorems.Earliest.{Rising}
 
 -- ---- pieces of a list of bytes
 

@@ -8,9 +8,9 @@ use mathlib.Core.List.{List, [], _∷_}
 use mathlib.Core.Option.{Option, none, some}
 use lib.Dec.{T, leb, leb→le}
 use Rattle.model.specs.Theorems.Laws.Booleans.{cond-cases}
-use Rattle.closure.specs.Day.{Window}
-use Rattle.closure.specs.Placement.{Inside, here, later}
-use Rattle.closure.specs.Placing.{startIn, earliest}
+use Rattle.placement.specs.Day.{Window}
+use Rattle.placement.specs.Placement.{Inside, here, later}
+use Rattle.placement.specs.Placing.{startIn, earliest}
 
 -- "in rising order with no overlap; two may touch", the first opening at m or later
 abbrev pub Rising : ℕ → List Window → Type 0

@@ -6,10 +6,10 @@ use Rattle.integer.specs.BigEndian.{unsigned, bytes}
 use Rattle.model.specs.Lists.{firstFrom, tabulate}
 use Rattle.model.specs.Memory.{overwrite}
 use Rattle.model.specs.Calls.{fitted, outputAfter}
-use Rattle.closure.specs.declared.PlaceAnswer.{PlaceAnswer}
-use Rattle.closure.specs.declared.PlaceAnswer.the-variants as place
-use Rattle.closure.specs.Day.{paperDay, minuteAt, windowAt, durationAt, pieces, overlaps, wrongWindow, wrongDuration, firstWindow, firstDuration, windowsOf, durationsOf}
-use Rattle.closure.specs.Placing.{startIn, earliest, behindEntry, placeNext, placeFrom, startBytes, startsOf, endMinute, checked, dayPlaced, placing, answered, placeAnswer, placeOut}
+use Rattle.placement.specs.declared.PlaceAnswer.{PlaceAnswer}
+use Rattle.placement.specs.declared.PlaceAnswer.the-variants as place
+use Rattle.placement.specs.Day.{paperDay, minuteAt, windowAt, durationAt, pieces, overlaps, wrongWindow, wrongDuration, firstWindow, firstDuration, windowsOf, durationsOf}
+use Rattle.placement.specs.Placing.{startIn, earliest, behindEntry, placeNext, placeFrom, startBytes, startsOf, endMinute, checked, dayPlaced, placing, answered, placeAnswer, placeOut}
 
 -- a small minute as 4 bytes, before the others
 abbrev minute : ℕ → List ℕ → List ℕ

@@ -4,8 +4,8 @@
 use Prim.Native.Nat.{ℕ}
 use Rattle.model.specs.declared.Refusal.{Refusal}
 use Rattle.model.specs.Exports.{refusalCode, apart}
-use Rattle.closure.specs.declared.PlaceAnswer.{PlaceAnswer}
-use Rattle.closure.specs.declared.PlaceAnswer.the-variants as place
+use Rattle.placement.specs.declared.PlaceAnswer.{PlaceAnswer}
+use Rattle.placement.specs.declared.PlaceAnswer.the-variants as place
 
 -- the refusal with another place
 unfoldable pub placedAt : ℕ → Refusal → Refusal

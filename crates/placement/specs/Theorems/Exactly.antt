@@ -8,15 +8,15 @@ use mathlib.Core.List.{List}
 use lib.ListN.{length}
 use Rattle.model.specs.declared.Refusal.{Refusal}
 use Rattle.model.specs.Theorems.Laws.Searching.{length-tabulate}
-use Rattle.closure.specs.declared.PlaceAnswer.{PlaceAnswer}
-use Rattle.closure.specs.declared.PlaceAnswer.the-variants as place
-use Rattle.closure.specs.Day.{DayLimits, paperDay, durationAt, pieces, windowsOf, durationsOf}
-use Rattle.closure.specs.Placement.{Placement, NoPlacement}
-use Rattle.closure.specs.Placing.{placeAnswer, placeOut}
-use Rattle.closure.specs.Theorems.Best.{Best, same-count}
-use Rattle.closure.specs.Theorems.Checks.{durations-positive}
-use Rattle.closure.specs.Theorems.Starts.{windows-shut, few-entries}
-use Rattle.closure.specs.Theorems.Answers.{DayOk, Timetable, Turned, window, duration, without, short, PlaceRight, answer-right}
+use Rattle.placement.specs.declared.PlaceAnswer.{PlaceAnswer}
+use Rattle.placement.specs.declared.PlaceAnswer.the-variants as place
+use Rattle.placement.specs.Day.{DayLimits, paperDay, durationAt, pieces, windowsOf, durationsOf}
+use Rattle.placement.specs.Placement.{Placement, NoPlacement}
+use Rattle.placement.specs.Placing.{placeAnswer, placeOut}
+use Rattle.placement.specs.Theorems.Best.{Best, same-count}
+use Rattle.placement.specs.Theorems.Checks.{durations-positive}
+use Rattle.placement.specs.Theorems.Starts.{windows-shut, few-entries}
+use Rattle.placement.specs.Theorems.Answers.{DayOk, Timetable, Turned, window, duration, without, short, PlaceRight, answer-right}
 
 -- the starts are as long as the durations
 pub starts-size : {L : DayLimits} {ws ds : List ℕ} → DayOk L ws ds → {ys : List ℕ} {end : ℕ} → Best (windowsOf ws) (durationsOf ds) ys end → 4 * length ys ≡ length ds

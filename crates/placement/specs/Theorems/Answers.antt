@@ -11,13 +11,13 @@ use lib.ListN.{length, getD, drop}
 use lib.Seq.{drop-append-seam}
 use Rattle.model.specs.Memory.{overwrite}
 use Rattle.model.specs.Calls.{Output, writes, turns, fitted, outputAfter}
-use Rattle.closure.specs.declared.PlaceAnswer.{PlaceAnswer}
-use Rattle.closure.specs.declared.PlaceAnswer.the-variants as place
-use Rattle.closure.specs.Day.{DayLimits, minuteAt, pieces, firstDuration, windowsOf, durationsOf}
-use Rattle.closure.specs.Placing.{Placed, placed, stuck, startBytes, startsOf, endMinute, checked, dayPlaced, placing, answered, placeAnswer, placeOut}
-use Rattle.closure.specs.Theorems.Best.{Best, best, RightFrom, place-right, FirstWithout, stops-first}
-use Rattle.closure.specs.Theorems.Checks.{WindowOk, WindowsOk, windows-cases, DurationOk, DurationsOk, durations-cases}
-use Rattle.closure.specs.Theorems.Starts.{length-starts, start-at, windows-shut, starts-by}
+use Rattle.placement.specs.declared.PlaceAnswer.{PlaceAnswer}
+use Rattle.placement.specs.declared.PlaceAnswer.the-variants as place
+use Rattle.placement.specs.Day.{DayLimits, minuteAt, pieces, firstDuration, windowsOf, durationsOf}
+use Rattle.placement.specs.Placing.{Placed, placed, stuck, startBytes, startsOf, endMinute, checked, dayPlaced, placing, answered, placeAnswer, placeOut}
+use Rattle.placement.specs.Theorems.Best.{Best, best, RightFrom, place-right, FirstWithout, stops-first}
+use Rattle.placement.specs.Theorems.Checks.{WindowOk, WindowsOk, windows-cases, DurationOk, DurationsOk, durations-cases}
+use Rattle.placement.specs.Theorems.Starts.{length-starts, start-at, windows-shut, starts-by}
 
 -- ---- what an answer says of the lent windows and durations, and of an output that held `old` and holds `new`
 

@@ -7,13 +7,13 @@ use mathlib.Core.List.{List}
 use Rattle.model.specs.Theorems.Reading.Places.{Small}
 use Rattle.model.specs.Theorems.Sizes.Answers.{placeLimit}
 use Rattle.model.specs.Theorems.Campaigns.Codes.{result-apart, refusal-apart}
-use Rattle.closure.specs.declared.PlaceAnswer.{PlaceAnswer}
-use Rattle.closure.specs.declared.PlaceAnswer.the-variants as place
-use Rattle.closure.specs.Day.{DayLimits, paperDay, windowsOf, durationsOf}
-use Rattle.closure.specs.Placing.{placeAnswer, placeOut}
-use Rattle.closure.specs.Exports.{placedAt, placeCode, placeLength, placePlace, placeApart}
-use Rattle.closure.specs.Theorems.Starts.{windows-shut, end-by}
-use Rattle.closure.specs.Theorems.Answers.{Turned, window, duration, without, short, PlaceRight, answer-right}
+use Rattle.placement.specs.declared.PlaceAnswer.{PlaceAnswer}
+use Rattle.placement.specs.declared.PlaceAnswer.the-variants as place
+use Rattle.placement.specs.Day.{DayLimits, paperDay, windowsOf, durationsOf}
+use Rattle.placement.specs.Placing.{placeAnswer, placeOut}
+use Rattle.placement.specs.Exports.{placedAt, placeCode, placeLength, placePlace, placeApart}
+use Rattle.placement.specs.Theorems.Starts.{windows-shut, end-by}
+use Rattle.placement.specs.Theorems.Answers.{Turned, window, duration, without, short, PlaceRight, answer-right}
 
 -- the end minute, and the number of a refusal, are small
 abbrev pub PlaceSmall : PlaceAnswer → Type 0

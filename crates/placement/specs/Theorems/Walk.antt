@@ -10,10 +10,10 @@ use mathlib.Core.Option.{Option, none, some}
 use lib.Dec.{leb}
 use lib.ListN.{length}
 use borrow.Author.Tests.{le-leb, lt-leb}
-use Rattle.closure.specs.Day.{Window}
-use Rattle.closure.specs.Placing.{startIn, earliest, Placed, placed, stuck, behindEntry, placeNext, placeFrom}
-use Rattle.closure.specs.Theorems.Earliest.{Rising, start-least, start-most, start-open}
-use Rattle.closure.specs.Theorems.Checks.{Positive}
+use Rattle.placement.specs.Day.{Window}
+use Rattle.placement.specs.Placing.{startIn, earliest, Placed, placed, stuck, behindEntry, placeNext, placeFrom}
+use Rattle.placement.specs.Theorems.Earliest.{Rising, start-least, start-most, start-open}
+use Rattle.placement.specs.Theorems.Checks.{Positive}
 
 -- the window that the walk stands in, from minute `from` on
 abbrev pub current : ℕ → ℕ → Window

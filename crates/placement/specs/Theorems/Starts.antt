@@ -8,10 +8,10 @@ use lib.ListN.{length, getD, take, drop, length-append}
 use lib.Seq.{take-at, drop-append-add}
 use Rattle.integer.specs.BigEndian.{bytes, length-bytes, unsigned, unsigned-bytes}
 use Rattle.model.specs.Lists.{tabulate}
-use Rattle.closure.specs.Day.{Window, DayLimits, minuteAt, windowAt, pieces, windowsOf}
-use Rattle.closure.specs.Placement.{Inside, here, later, PlacementFrom, nothing, entry, endFrom, NoPlacement}
-use Rattle.closure.specs.Placing.{startBytes}
-use Rattle.closure.specs.Theorems.Checks.{WindowsOk, Positive}
+use Rattle.placement.specs.Day.{Window, DayLimits, minuteAt, windowAt, pieces, windowsOf}
+use Rattle.placement.specs.Placement.{Inside, here, later, PlacementFrom, nothing, entry, endFrom, NoPlacement}
+use Rattle.placement.specs.Placing.{startBytes}
+use Rattle.placement.specs.Theorems.Checks.{WindowsOk, Positive}
 
 pub length-starts : (ys : List ℕ) → length (startBytes ys) ≡ 4 * length ys
 unfolding startBytes

@@ -2,7 +2,7 @@
 -- starts. Assumes nothing.
 use Prim.Native.Nat.{ℕ, _+_, _≤_}
 use mathlib.Core.List.{List, [], _∷_}
-use Rattle.closure.specs.Day.{Window}
+use Rattle.placement.specs.Day.{Window}
 
 -- "each entry wholly inside one window"; "Ending at the shutting minute is inside."
 pub data Inside (from to : ℕ) : List Window → Type 0 where

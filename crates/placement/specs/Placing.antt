@@ -8,9 +8,9 @@ use lib.Dec.{leb}
 use lib.ListN.{length}
 use Rattle.integer.specs.BigEndian.{bytes}
 use Rattle.model.specs.Calls.{Output, writes, turns, fitted, outputAfter}
-use Rattle.closure.specs.declared.PlaceAnswer.{PlaceAnswer}
-use Rattle.closure.specs.declared.PlaceAnswer.the-variants as place
-use Rattle.closure.specs.Day.{Window, DayLimits, firstWindow, firstDuration, windowsOf, durationsOf}
+use Rattle.placement.specs.declared.PlaceAnswer.{PlaceAnswer}
+use Rattle.placement.specs.declared.PlaceAnswer.the-variants as place
+use Rattle.placement.specs.Day.{Window, DayLimits, firstWindow, firstDuration, windowsOf, durationsOf}
 
 -- the earliest start in a window, from minute t on
 unfoldable pub startIn : ℕ → Window → ℕ

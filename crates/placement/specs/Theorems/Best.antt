@@ -7,10 +7,10 @@ use mathlib.Core.Logic.{_↔_}
 use mathlib.Core.List.{List, [], _∷_}
 use mathlib.Core.Option.{Option, none}
 use lib.ListN.{length, take, getD}
-use Rattle.closure.specs.Day.{Window}
-use Rattle.closure.specs.Placement.{PlacementFrom, nothing, entry, Placement, endFrom, endOf, NoneEarlier, none-left, both-left, NoPlacement}
-use Rattle.closure.specs.Placing.{earliest, Placed, placed, stuck, behindEntry, placeNext, placeFrom}
-use Rattle.closure.specs.Theorems.Earliest.{Rising, Earliest, NoStart, earliest-cases}
+use Rattle.placement.specs.Day.{Window}
+use Rattle.placement.specs.Placement.{PlacementFrom, nothing, entry, Placement, endFrom, endOf, NoneEarlier, none-left, both-left, NoPlacement}
+use Rattle.placement.specs.Placing.{earliest, Placed, placed, stuck, behindEntry, placeNext, placeFrom}
+use Rattle.placement.specs.Theorems.Earliest.{Rising, Earliest, NoStart, earliest-cases}
 
 -- ---- from minute t on
 
