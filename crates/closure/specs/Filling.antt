@@ -83,11 +83,14 @@ module _ {ws ds nothing after : List ℕ} {end : ℕ} (first : Wrote ws ds nothi
 
 -- ---- the call
 
-module _ (ws ds old : List ℕ) {o : Output} {new : List ℕ} {r : PlaceAnswer} (is : checked (firstWindow paperDay ws) (firstDuration paperDay ds) (startsOf (dayPlaced ws ds)) ≡ o) (f : Filled ws ds o old new r) where
-  pub place-answer : (r ≡ placeAnswer paperDay ws ds old) × (new ≡ placeOut paperDay ws ds old) × PlaceRight paperDay ws ds old new r
-  unfolding placeAnswer placeOut placing
-  place-answer =
-      let p = ap (fitted (length old)) (sym is) in
-      let a = f .answer ∙ ap (answered (dayPlaced ws ds)) p in
-      let b = f .output ∙ ap (λ (x : Output). outputAfter x old) p in
-      (a, b, rw (a, b) (answer-right paperDay ws ds old (unfold paperDay in (omega arith))))
+pub place-answer :
+    (ws ds old : List ℕ) {o : Output} {new : List ℕ} {r : PlaceAnswer}
+    → checked (firstWindow paperDay ws) (firstDuration paperDay ds) (startsOf (dayPlaced ws ds)) ≡ o
+    → Filled ws ds o old new r
+    → (r ≡ placeAnswer paperDay ws ds old) × (new ≡ placeOut paperDay ws ds old) × PlaceRight paperDay ws ds old new r
+unfolding placeAnswer placeOut placing
+place-answer ws ds old is f =
+    let p = ap (fitted (length old)) (sym is) in
+    let a = f .answer ∙ ap (answered (dayPlaced ws ds)) p in
+    let b = f .output ∙ ap (λ (x : Output). outputAfter x old) p in
+    (a, b, rw (a, b) (answer-right paperDay ws ds old (unfold paperDay in (omega arith))))

@@ -76,7 +76,11 @@ module _ (L : DayLimits) (ws ds old : List ℕ) (four-bytes : L .lastMinute < 25
   refused-as q e same = same ∙ ap (λ (k : ℕ). place.Refused (record { number = k; place = q .place })) e
 
   -- by the answer, which is right
-  by-answer : {X : Type 0} → ((end n : ℕ) → Answer (place.Placed end n) → Timetable L ws ds old (placeOut L ws ds old) end n → X) → ((q : Refusal) → Answer (place.Refused q) → Back (q .number) (q .place) → X) → X
+  by-answer :
+      {X : Type 0}
+      → ((end n : ℕ) → Answer (place.Placed end n) → Timetable L ws ds old (placeOut L ws ds old) end n → X)
+      → ((q : Refusal) → Answer (place.Refused q) → Back (q .number) (q .place) → X)
+      → X
   by-answer {X} accepted refused = go (placeAnswer L ws ds old) refl (answer-right L ws ds old four-bytes)
     where
       go : (r : PlaceAnswer) → Answer r → PlaceRight L ws ds old (placeOut L ws ds old) r → X

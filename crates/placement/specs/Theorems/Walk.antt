@@ -24,9 +24,17 @@ pub data Walk (ws : List Window) (ds : List ℕ) : ℕ → List ℕ → ℕ → 
   -- before the first window there is no time
   begin : Walk ws ds 0 [] 0 0 ws ds
   -- the entry has room
-  place : {n from shut d : ℕ} {ys todo : List ℕ} {left : List Window} → Walk ws ds n ys from shut left (d ∷ todo) → from + d ≤ shut → Walk ws ds (suc n) (ys ++ (from ∷ [])) (from + d) shut left todo
+  place :
+      {n from shut d : ℕ} {ys todo : List ℕ} {left : List Window}
+      → Walk ws ds n ys from shut left (d ∷ todo)
+      → from + d ≤ shut
+      → Walk ws ds (suc n) (ys ++ (from ∷ [])) (from + d) shut left todo
   -- it has none, and there is another window
-  leave : {n from shut d : ℕ} {ys todo : List ℕ} {w : Window} {left : List Window} → Walk ws ds n ys from shut (w ∷ left) (d ∷ todo) → shut < from + d → Walk ws ds (suc n) ys (startIn from w) (w .shutting) left (d ∷ todo)
+  leave :
+      {n from shut d : ℕ} {ys todo : List ℕ} {w : Window} {left : List Window}
+      → Walk ws ds n ys from shut (w ∷ left) (d ∷ todo)
+      → shut < from + d
+      → Walk ws ds (suc n) ys (startIn from w) (w .shutting) left (d ∷ todo)
 
 -- "one pass over windows and entries together": each turn leaves a window or an entry behind, so there are no more turns than windows and
 -- entries
