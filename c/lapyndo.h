@@ -1,15 +1,16 @@
 /* The campaign planning engine for hosts in C: planning a campaign, finding the part of the goal that blocks, reading,
  * normalising and stepping, writing PDDL for other planners, rewriting stored tables, placing a list in the windows of a
- * closure, and the calls for the rig's board.
+ * closure, checking a list, and the calls for the rig's board.
  *
  * Every call takes any bytes and answers one 64-bit number:
  *
  *     bits 32..63   the number of the refusal, 0 if the call is accepted
  *     bits  0..31   the place of the refusal, or the result
  *
- * Only lapyndo_place, whose lists may have any length, writes the place of a refusal to a number that it is lent; bits 0..31
- * are 0 then. The functions below the calls take answers apart. A call uses no heap and no state of its own, keeps no
- * pointer, and writes nothing but the memories and numbers that are lent to be written. A memory of length 0 may have any
+ * Lists may have any length, so two calls write the number of an entry to a number that they are lent: only lapyndo_place
+ * writes the place of a refusal there, and bits 0..31 are 0 then; lapyndo_check writes the entry that fails, which is an
+ * answer and no refusal. The functions below the calls take answers apart. A call uses no heap and no state of its own, keeps
+ * no pointer, and writes nothing but the memories and numbers that are lent to be written. A memory of length 0 may have any
  * pointer that is not null. A memory or number that is written must not overlap another.
  *
  * Link libengine.a.
@@ -55,9 +56,10 @@ enum {
                                       only */
     LAPYNDO_STATE_LENGTH = 8,      /* the state has the wrong length; place 0 */
     LAPYNDO_STATE_RANGE = 9,       /* a byte or value of the state is out of range; place: its offset */
-    LAPYNDO_NO_SUCH_MOVE = 10,     /* the table has no such move or block; place 0 */
-    LAPYNDO_CONDITIONS_FAIL = 11,  /* the move's conditions are not all true; place 0 */
-    LAPYNDO_RESULT_RANGE = 12,     /* a result is beyond 1,000,000 or -1,000,000; place 0 */
+                                   /* no refusals of lapyndo_check, but the faults of an entry: */
+    LAPYNDO_NO_SUCH_MOVE = 10,     /*   the table has no such move or block; place 0 */
+    LAPYNDO_CONDITIONS_FAIL = 11,  /*   the move's conditions are not all true; place 0 */
+    LAPYNDO_RESULT_RANGE = 12,     /*   a result is beyond 1,000,000 or -1,000,000; place 0 */
                                    /* each new layer, in this order: */
     LAPYNDO_LAYER_RANGE = 15,      /*   a finite value is above 1,000,000,000,000; place: the layer */
     LAPYNDO_LAYERS_SHORT = 14,     /*   the layer memory is too short for it; place: the layer */
@@ -220,6 +222,25 @@ enum {
 uint64_t lapyndo_place(const uint8_t *windows, size_t windows_len, const uint8_t *durations, size_t durations_len,
                        uint8_t *out, size_t out_len, uint64_t *length, uint64_t *place);
 
+/* Checks a list of moves, from whatever planner, against a written table and a state.
+ *
+ * Yes: the list solves the table, which is that each move's conditions hold when it is made and the goal holds at the end,
+ * and no value on the way is beyond 1,000,000 or -1,000,000. Otherwise the first entry whose move cannot be made, as
+ * lapyndo_step would refuse it in the state before it; and if there is none, that the goal is not met.
+ *
+ * Result: yes with the length of the end state, an entry's fault, or "goal not met"; see lapyndo_check_is_yes,
+ * lapyndo_check_fault and lapyndo_length.
+ * Refusals, in the order of the checks: 1 to 7 and 16; 8 and 9; 13, last, and only where the answer would be yes.
+ *
+ * state: see lapyndo_step.
+ * list:  a byte a move, its number; any length. No entries are a list too.
+ * out:   the length of state always suffices. Yes, the end state from the start, and the bytes behind it are kept;
+ *        otherwise all bytes are kept.
+ * index: with a fault, the number of the entry, counted from 0; otherwise kept.
+ */
+uint64_t lapyndo_check(const uint8_t *table, size_t table_len, const uint8_t *state, size_t state_len, const uint8_t *list,
+                       size_t list_len, uint8_t *out, size_t out_len, uint64_t *index);
+
 /* The calls for the rig's board: those above that it needs, with the board's limits, and three more, which copy a block,
  * decide and plan.
  *
@@ -317,8 +338,15 @@ static inline uint32_t lapyndo_layers(uint64_t answer) { return (uint32_t)answer
 /* Of an accepted lapyndo_blocking: the offset of the part that blocks, 0 if nothing blocks. */
 static inline size_t lapyndo_offset(uint64_t answer) { return (size_t)(uint32_t)answer; }
 
-/* Of an accepted lapyndo_normalise, lapyndo_step, lapyndo_pddl or lapyndo_rewrite: the number of bytes written; of an
- * accepted lapyndo_rig_block: the length of the block. */
+/* Of any lapyndo_check, refused or not: 1 for yes, otherwise 0. */
+static inline int lapyndo_check_is_yes(uint64_t answer) { return answer >> 31 == 0; }
+
+/* Of an accepted lapyndo_check that is no yes: LAPYNDO_NO_SUCH_MOVE, LAPYNDO_CONDITIONS_FAIL or LAPYNDO_RESULT_RANGE, the
+ * fault of the entry that index names; 0 for "goal not met". */
+static inline uint32_t lapyndo_check_fault(uint64_t answer) { return (uint32_t)answer & 0x7FFFFFFF; }
+
+/* Of an accepted lapyndo_normalise, lapyndo_step, lapyndo_pddl or lapyndo_rewrite, and of lapyndo_check's yes: the number of
+ * bytes written; of an accepted lapyndo_rig_block: the length of the block. */
 static inline size_t lapyndo_length(uint64_t answer) { return (size_t)(uint32_t)answer; }
 
 /* Of an accepted lapyndo_place: the minute at which the last entry ends, 0 if there is none. */

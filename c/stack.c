@@ -4,8 +4,8 @@
  * usage: stack FOLDER..
  *
  * Measured on the campaign of each folder (task.bin, state.bin), on two deep ones, of which one is within the rig's limits,
- * and on each of them with a byte cut off its tables; place on closures of up to 65 windows. Prints one line a call: its name
- * and the largest number of bytes. With PLANNING the calls that are exported for tests are measured too.
+ * and on each of them with a byte cut off its tables; place on closures of up to 65 windows, check on lists of 100 to 165
+ * entries. Prints one line a call: its name and the largest number of bytes. With PLANNING the calls that are exported for tests are measured too.
  * Exit status: 0; 1 if the painted stack was too small; 2 if a file is missing, a campaign is refused, or a deep one has too
  * few records.
  */
@@ -78,6 +78,17 @@ static void call_place(void) {
     }
 }
 
+/* As many moves in rising order as the number says, one more than there are at most, and then the first 100 times: on a deep
+ * campaign this solves where the number is that of its moves. */
+static void call_check(void) {
+    static uint8_t list[DEPTH + 1 + 100];
+    for (size_t i = 0; i < sizeof list; i++) {
+        list[i] = i < number ? (uint8_t)i : 0;
+    }
+    uint64_t index;
+    lapyndo_check(written, written_len, state, state_len, list, number + 100, out, room, &index);
+}
+
 static void call_block(void) { calls->block(normal, normal_len, number, out, room); }
 
 static void call_decide(void) { calls->decide(normal, normal_len, state, state_len, layers, LAYER_NUMBERS); }
@@ -100,6 +111,7 @@ static struct {
     {"blocking", &full, call_blocking, 0},
     {"rewrite", &full, call_rewrite, 0},
     {"place", &full, call_place, 0},
+    {"check", &full, call_check, 0},
 #ifdef PLANNING
     {"block", &full, call_block, 0},
     {"decide", &full, call_decide, 0},

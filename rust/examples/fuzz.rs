@@ -5,8 +5,8 @@ use campaign::call::{Call, CallKind, Fill};
 use campaign::engine::REFERENCE;
 use campaign::fenced::Fenced;
 use campaign::generate::{
-    alter, blocked, call, damage, helpful, place_call, rewritten_length, rig_calls, stored, Day,
-    Rng, Task,
+    alter, blocked, call, check_calls, damage, helpful, place_call, relisted, rewritten_length,
+    rig_calls, stored, Day, Rng, Task,
 };
 use campaign::harness::compare_over;
 use campaign::input::{decode, encode};
@@ -79,9 +79,10 @@ fn changed(input: &[u8], seed: u32) -> Option<Vec<u8>> {
 }
 
 fn another(rng: &mut Rng) -> Call {
-    match rng.below(4) {
+    match rng.below(5) {
         0 => rig_calls(rng, 1).remove(0),
         1 => place_call(rng),
+        2 => check_calls(rng, 1).remove(0),
         _ => call(rng),
     }
 }
@@ -97,12 +98,12 @@ fn day_changed(rng: &mut Rng, call: &Call) -> Call {
 }
 
 /// A `blocking` of the same task with a goal that mostly cannot be reached, a `rewrite` of its table with
-/// moves that do nothing, a `plan` or `campaign` of it with more moves that help at layer 0 or nearly do,
-/// or the same call with the rig's limits, or without them.
+/// moves that do nothing, a `check` of it with another list and goal, a `plan` or `campaign` of it with
+/// more moves that help at layer 0 or nearly do, or the same call with the rig's limits, or without them.
 fn task_changed(rng: &mut Rng, call: Call) -> Call {
     let kind = call.kind.rig().unwrap_or(call.kind.full());
-    let which = rng.below(4);
-    if which == 3 {
+    let which = rng.below(5);
+    if which == 4 {
         return Call { kind, ..call };
     }
     let Call { table, state, .. } = call;
@@ -114,6 +115,7 @@ fn task_changed(rng: &mut Rng, call: Call) -> Call {
             let room = rewritten_length(&task.table) + rng.below(4);
             task.rewrite(room.saturating_sub(1))
         }
+        2 => relisted(rng, &task),
         _ => {
             let task = helpful(rng, &task);
             let [numbers, room] = [200, 100].map(|most| rng.below(most));

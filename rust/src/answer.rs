@@ -223,6 +223,56 @@ impl fmt::Display for Placed {
     }
 }
 
+/// Why an entry of a list cannot be made: the refusal that `step` has for it in the state before it.
+#[derive(Clone, Copy, Debug, PartialEq, Eq)]
+#[repr(u8)]
+pub enum Fault {
+    /// The table has no such move.
+    Missing = 10,
+    /// The move's conditions fail.
+    NotAllowed = 11,
+    /// A value of the state after it is beyond ±1,000,000.
+    OutOfRange = 12,
+}
+
+impl Fault {
+    pub const ALL: [Fault; 3] = [Fault::Missing, Fault::NotAllowed, Fault::OutOfRange];
+
+    pub fn number(self) -> u8 {
+        self as u8
+    }
+
+    pub fn from_number(number: u8) -> Option<Fault> {
+        Self::ALL.into_iter().find(|f| f.number() == number)
+    }
+}
+
+/// What `check` answers.
+#[derive(Clone, Copy, Debug, PartialEq, Eq)]
+pub enum Checked {
+    /// Yes, with the length of the end state, which is written.
+    Yes {
+        length: usize,
+    },
+    /// The first entry that cannot be made, counted from 0.
+    Fails {
+        index: u64,
+        fault: Fault,
+    },
+    GoalNotMet,
+}
+
+impl fmt::Display for Checked {
+    /// As the outcome files say it: an index without its fault.
+    fn fmt(&self, f: &mut fmt::Formatter<'_>) -> fmt::Result {
+        match self {
+            Checked::Yes { length } => write!(f, "yes {length}"),
+            Checked::Fails { index, .. } => write!(f, "index {index}"),
+            Checked::GoalNotMet => write!(f, "goal not met"),
+        }
+    }
+}
+
 /// What `campaign` answers: the answers of `decide` and of `plan`, or both times the refusal of
 /// `normalise`.
 #[derive(Clone, Copy, Debug, PartialEq, Eq)]

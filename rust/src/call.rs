@@ -25,6 +25,7 @@ pub enum CallKind {
     Blocking,
     Rewrite,
     Place,
+    Check,
     RigRead,
     RigBlock,
     RigNormalise,
@@ -40,6 +41,7 @@ pub enum CallKind {
 pub enum Field {
     Table,
     State,
+    List,
     Windows,
     Durations,
     Index,
@@ -49,7 +51,7 @@ pub enum Field {
 }
 
 impl CallKind {
-    pub const ALL: [CallKind; 19] = [
+    pub const ALL: [CallKind; 20] = [
         CallKind::Read,
         CallKind::Block,
         CallKind::Normalise,
@@ -61,6 +63,7 @@ impl CallKind {
         CallKind::Blocking,
         CallKind::Rewrite,
         CallKind::Place,
+        CallKind::Check,
         CallKind::RigRead,
         CallKind::RigBlock,
         CallKind::RigNormalise,
@@ -72,10 +75,10 @@ impl CallKind {
     ];
 
     /// The calls that the engine exports.
-    pub const EXPORTED: &'static [CallKind] = Self::ALL.split_at(18).0;
+    pub const EXPORTED: &'static [CallKind] = Self::ALL.split_at(19).0;
 
     /// The calls with the rig's limits, and those that they stand beside.
-    pub const RIG: &'static [CallKind] = Self::EXPORTED.split_at(11).1;
+    pub const RIG: &'static [CallKind] = Self::EXPORTED.split_at(12).1;
     const BESIDE_RIG: &'static [CallKind] = Self::ALL.split_at(7).0;
 
     pub fn is_rig(self) -> bool {
@@ -109,6 +112,7 @@ impl CallKind {
             CallKind::Blocking => &[Table, State, Numbers],
             CallKind::Rewrite => &[Table, Room],
             CallKind::Place => &[Windows, Durations, Room],
+            CallKind::Check => &[Table, State, List, Room],
             CallKind::Listing => &[Table, State],
         }
     }
@@ -123,6 +127,7 @@ impl CallKind {
             kind: self,
             table: Vec::new(),
             state: Vec::new(),
+            list: Vec::new(),
             windows: Vec::new(),
             durations: Vec::new(),
             index: 0,
@@ -158,6 +163,7 @@ impl CallKind {
             CallKind::Blocking => records::BLOCKING,
             CallKind::Rewrite => records::REWRITE,
             CallKind::Place => records::PLACE,
+            CallKind::Check => records::CHECK,
             CallKind::RigRead => records::RIG_READ,
             CallKind::RigBlock => records::RIG_BLOCK,
             CallKind::RigNormalise => records::RIG_NORMALISE,
@@ -177,6 +183,8 @@ pub struct Call {
     pub kind: CallKind,
     pub table: Vec<u8>,
     pub state: Vec<u8>,
+    /// Moves, a byte each.
+    pub list: Vec<u8>,
     /// Of a closure day: an opening and a shutting minute each.
     pub windows: Vec<u8>,
     /// Minutes, of each entry to be placed.
@@ -209,6 +217,7 @@ impl Call {
         match field {
             Field::Table => self.table = unhex(text)?,
             Field::State => self.state = unhex(text)?,
+            Field::List => self.list = unhex(text)?,
             Field::Windows => self.windows = unhex(text)?,
             Field::Durations => self.durations = unhex(text)?,
             Field::Index => self.index = number(text)?,
@@ -223,6 +232,7 @@ impl Call {
         match field {
             Field::Table => hex(&self.table),
             Field::State => hex(&self.state),
+            Field::List => hex(&self.list),
             Field::Windows => hex(&self.windows),
             Field::Durations => hex(&self.durations),
             Field::Index => self.index.to_string(),
@@ -276,6 +286,17 @@ mod tests {
             ..CallKind::Place.call()
         };
         assert_eq!(call, bare);
+    }
+
+    #[test]
+    fn a_list_stands_behind_the_state() {
+        let line = "54010001412b0047500045 00 0000ff 1";
+        let call = Call::parse(CallKind::Check, line).expect("four fields");
+        assert_eq!(
+            (&call.state[..], &call.list[..]),
+            (&[0][..], &[0, 0, 255][..])
+        );
+        assert_eq!((call.room, call.to_string()), (1, line.into()));
     }
 
     #[test]

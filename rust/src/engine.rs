@@ -1,11 +1,11 @@
 //! The calls of an engine, so that one harness serves every implementation.
 
-use crate::answer::{Answer, Blocking, Campaign, Decision, Head, Placed, Plan, Refusal};
+use crate::answer::{Answer, Blocking, Campaign, Checked, Decision, Head, Placed, Plan, Refusal};
 use crate::reference::{self, RIG};
 
 /// An implementation of the five calls, the reader, the campaign in one call, the PDDL text, the
-/// goal part that blocks, the rewriter, closure hours and the listing; and of the calls with the
-/// rig's limits.
+/// goal part that blocks, the rewriter, closure hours, the checker of lists and the listing; and of
+/// the calls with the rig's limits.
 ///
 /// A refusal leaves outputs as they were. Layer memory after a refusal holds what the
 /// specification says of that refusal.
@@ -49,6 +49,16 @@ pub trait Engine {
     /// Places a list of entries, of which the durations are given, in the windows of a closure day,
     /// each as early as it can be, and writes their starts.
     fn place(&self, windows: &[u8], durations: &[u8], out: &mut [u8]) -> Result<Placed, Refusal>;
+
+    /// Runs a list of move bytes of a written table from a state: yes with the end state, the first
+    /// entry that cannot be made, or that the goal is not met at the end. Only a yes writes.
+    fn check(
+        &self,
+        table: &[u8],
+        state: &[u8],
+        list: &[u8],
+        out: &mut [u8],
+    ) -> Result<Checked, Refusal>;
 
     /// What the listing program prints; by default made of `campaign`.
     fn listing(&self, task: &[u8], state: &[u8]) -> String {
@@ -139,6 +149,7 @@ pub struct Calls {
     pub blocking: FindBlocking,
     pub rewrite: Rewrite,
     pub place: Place,
+    pub check: Check,
     pub listing: Listing,
     /// The calls with the rig's limits.
     pub rig: Option<&'static Calls>,
@@ -154,6 +165,7 @@ type Pddl = fn(&[u8], &[u8], &mut [u8]) -> Result<usize, Refusal>;
 pub type FindBlocking = fn(&[u8], &[u8], &mut [i64]) -> Result<Blocking, Refusal>;
 pub type Rewrite = fn(&[u8], &mut [u8]) -> Result<usize, Refusal>;
 pub type Place = fn(&[u8], &[u8], &mut [u8]) -> Result<Placed, Refusal>;
+pub type Check = fn(&[u8], &[u8], &[u8], &mut [u8]) -> Result<Checked, Refusal>;
 /// This and the next are given the other calls too.
 pub type Campaigning = fn(&Calls, &[u8], &[u8], Lent) -> Campaign;
 type Listing = fn(&Calls, &[u8], &[u8]) -> String;
@@ -171,6 +183,7 @@ pub const REFERENCE: Calls = Calls {
     blocking: reference::blocking,
     rewrite: reference::rewrite,
     place: reference::place,
+    check: reference::check,
     listing: |_, task, state| reference::listing(task, state),
     rig: Some(&REFERENCE_RIG),
 };
@@ -200,6 +213,7 @@ impl Calls {
         blocking: |_, _, _| absent("blocking"),
         rewrite: |_, _| absent("rewrite"),
         place: |_, _, _| absent("place"),
+        check: |_, _, _, _| absent("check"),
         listing: made_listing,
         rig: None,
     };
@@ -271,6 +285,16 @@ impl Engine for Calls {
 
     fn place(&self, windows: &[u8], durations: &[u8], out: &mut [u8]) -> Result<Placed, Refusal> {
         (self.place)(windows, durations, out)
+    }
+
+    fn check(
+        &self,
+        table: &[u8],
+        state: &[u8],
+        list: &[u8],
+        out: &mut [u8],
+    ) -> Result<Checked, Refusal> {
+        (self.check)(table, state, list, out)
     }
 
     fn listing(&self, task: &[u8], state: &[u8]) -> String {

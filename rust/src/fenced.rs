@@ -3,7 +3,7 @@
 
 #![allow(unsafe_code)]
 
-use crate::answer::{Blocking, Campaign, Decision, Head, Placed, Plan, Refusal};
+use crate::answer::{Blocking, Campaign, Checked, Decision, Head, Placed, Plan, Refusal};
 use crate::engine::{Calls, Engine, Lent};
 use crate::guarded::{Canary, MARGIN};
 use std::ffi::{c_int, c_long, c_void};
@@ -221,6 +221,17 @@ impl Engine for Fenced {
         writing(out, |out| self.0.place(&windows, &durations, out))
     }
 
+    fn check(
+        &self,
+        table: &[u8],
+        state: &[u8],
+        list: &[u8],
+        out: &mut [u8],
+    ) -> Result<Checked, Refusal> {
+        let [table, state, list] = [table, state, list].map(Fence::reading);
+        writing(out, |out| self.0.check(&table, &state, &list, out))
+    }
+
     fn rig(&self) -> Box<dyn Engine> {
         Box::new(Fenced(self.0.on_rig()))
     }
@@ -268,6 +279,26 @@ mod tests {
         });
         let mut out = [1, 2, 3, 4, 5];
         assert!(engine.place(&[1; 8], &[2; 4], &mut out).is_ok());
+        assert_eq!(out, [5, 4, 3, 2, 1]);
+    }
+
+    #[test]
+    fn all_memories_of_a_check_end_at_fences() {
+        let engine = Fenced(Calls {
+            check: |table, state, list, out| {
+                for lent in [table, state, list, out] {
+                    assert_eq!(lent.as_ptr_range().end as usize % PAGE, 0);
+                }
+                assert_eq!(table, [1; 6]);
+                assert_eq!((state, list), (&[2; 5][..], &[3; 7][..]));
+                out.reverse();
+                Ok(Checked::Yes { length: 5 })
+            },
+            ..Calls::NONE
+        });
+        let mut out = [1, 2, 3, 4, 5];
+        let answer = engine.check(&[1; 6], &[2; 5], &[3; 7], &mut out);
+        assert_eq!(answer, Ok(Checked::Yes { length: 5 }));
         assert_eq!(out, [5, 4, 3, 2, 1]);
     }
 

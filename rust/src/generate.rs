@@ -1,6 +1,7 @@
-//! Inputs from a seed: tasks, damaged tables, closure days, bytes at random, and calls.
+//! Inputs from a seed: tasks, damaged tables, closure days, schedules, bytes at random, and calls.
 
 mod blocked;
+mod brink;
 mod call;
 mod closure;
 mod damage;
@@ -8,9 +9,11 @@ mod day;
 mod grid;
 mod helpful;
 mod maker;
+mod moves;
 mod rig;
 mod rng;
 mod scale;
+mod schedule;
 mod sizes;
 mod stored;
 mod task;
@@ -20,6 +23,7 @@ mod waves;
 
 pub use crate::hex::hex;
 pub use blocked::{blocked, long_goal};
+pub use brink::brink;
 pub use call::{
     blocking_call, call, calls_within_rig, campaign_call, normal_length, pddl_call, plan_call,
     rewrite_call, rig_calls, sized_calls,
@@ -41,6 +45,10 @@ pub use maker::{task, task_of};
 pub use rig::{deep, near_ceiling};
 pub use rng::Rng;
 pub use scale::state_for;
+pub use schedule::{
+    check_calls, damaged_check_calls, long_schedule, refused_check_calls, relisted,
+    sound_check_calls,
+};
 pub use sizes::Sizes;
 pub use stored::{long_stored, rewritten_length, stored};
 pub use task::{in_normal_form, Task};

@@ -104,7 +104,7 @@ pub fn compare_over(
     let [expected, got] = match outcomes {
         [Ok(expected), Ok(got)] if expected == got => return Ok(got),
         outcomes => outcomes.map(|outcome| match outcome {
-            Ok(outcome) => outcome.to_string(),
+            Ok(outcome) => outcome.with_fault(),
             Err(error) => format!("error: {error}"),
         }),
     };

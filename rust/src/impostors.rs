@@ -9,6 +9,7 @@ mod idle_moves;
 mod reading;
 mod rewrite;
 mod rig;
+mod schedule;
 mod weight_zero;
 
 use self::blocking::BLOCKING;
@@ -24,10 +25,12 @@ use helpful::HELPFUL;
 use idle_moves::IDLE_MOVES;
 use rewrite::REWRITE;
 use rig::RIGS;
+use schedule::SCHEDULES;
 use weight_zero::WEIGHT_ZERO;
 
 pub use closure::LONG_LISTS;
 pub use rewrite::LIMITS;
+pub use schedule::{FAULTS, LONG_SCHEDULES, LONG_TABLES};
 
 /// The reference, with listings made of its other calls, as its campaigns are.
 pub const HONEST: Calls = Calls {
@@ -66,7 +69,8 @@ pub fn check_found(kinds: &[CallKind], found: impl Fn(CallKind, &dyn Engine) -> 
         &PLACES,
     ];
     let mut missed = Vec::new();
-    for impostor in IMPOSTORS.iter().chain(others.into_iter().flatten()) {
+    let others = others.into_iter().chain(SCHEDULES).flatten();
+    for impostor in IMPOSTORS.iter().chain(others) {
         for kind in impostor.kinds.iter().filter(|kind| kinds.contains(kind)) {
             if !found(*kind, &impostor.engine) {
                 missed.push(format!("{}: {}", impostor.trick, kind.name()));

@@ -5,12 +5,12 @@
 //! | 0 | which call |
 //! | 1 | the block or move; FF is the largest number |
 //! | 2, 3 | bytes of output |
-//! | 4, 5 | numbers of layer memory; of `place`, bytes of the windows |
+//! | 4, 5 | numbers of layer memory; of `place`, bytes of the windows; of `check`, bytes of the list |
 //! | 6, 7 | bytes for the normal form |
 //! | 8 | bytes of the state |
 //!
-//! The state follows, then the table; of `place` the windows, then the durations. Bytes that are
-//! missing are 0.
+//! The state follows, then the table; of `check` the list stands between them; of `place` the windows,
+//! then the durations. Bytes that are missing are 0.
 
 use crate::call::{Call, CallKind, Field};
 
@@ -42,11 +42,17 @@ pub fn decode(input: &[u8]) -> Call {
             ..kind.call()
         };
     }
-    let (state, table) = split(usize::from(at(8)));
+    let (state, behind) = split(usize::from(at(8)));
+    let listed = match kind {
+        CallKind::Check => numbers.min(behind.len()),
+        _ => 0,
+    };
+    let (list, table) = behind.split_at(listed);
     let given = |field, size| if kind.has(field) { size } else { 0 };
     Call {
         table: table.to_vec(),
         state: state[..given(Field::State, state.len())].to_vec(),
+        list: list.to_vec(),
         index: if kind.has(Field::Index) { number } else { 0 },
         normal: given(Field::Normal, normal),
         numbers: given(Field::Numbers, numbers),
@@ -60,14 +66,14 @@ pub fn encode(call: &Call) -> Option<Vec<u8>> {
     let mut input = vec![call.kind as u8, call.index.min(0xFF) as u8];
     let numbers = match call.kind {
         CallKind::Place => call.windows.len(),
+        CallKind::Check => call.list.len(),
         _ => call.numbers,
     };
     for size in [call.room, numbers, call.normal] {
         input.extend((size as u16).to_be_bytes());
     }
     input.push(call.state.len() as u8);
-    for bytes in [&call.state, &call.table, &call.windows, &call.durations] {
-        input.extend(bytes);
-    }
+    input.extend([&call.state[..], &call.list, &call.table].concat());
+    input.extend([&call.windows[..], &call.durations].concat());
     (decode(&input) == *call).then_some(input)
 }

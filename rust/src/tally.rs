@@ -5,6 +5,7 @@ mod closure;
 mod planning;
 mod rewriting;
 mod rig;
+mod schedule;
 mod shares;
 
 pub use shares::Shares;
@@ -31,6 +32,7 @@ pub struct Tally<'e> {
     planning: Shares,
     rewriting: Shares,
     closure: Shares,
+    schedules: Shares,
     rig: Shares,
 }
 
@@ -45,6 +47,7 @@ impl<'e> Tally<'e> {
             planning: Shares::default(),
             rewriting: Shares::default(),
             closure: Shares::default(),
+            schedules: Shares::default(),
             rig: Shares::default(),
         }
     }
@@ -66,6 +69,7 @@ impl<'e> Tally<'e> {
             CallKind::Plan | CallKind::Campaign => self.planning.add_planning(call, &outcome),
             CallKind::Rewrite => self.rewriting.add_rewriting(call),
             CallKind::Place => self.closure.add_closure(call, &outcome),
+            CallKind::Check => self.schedules.add_schedule(call, &outcome),
             kind if kind.is_rig() => self.rig.add_rig(call, &outcome.answer),
             _ => {}
         }
@@ -112,6 +116,11 @@ impl<'e> Tally<'e> {
     /// What calls of `place` had to tell apart.
     pub fn closure(&self) -> &Shares {
         &self.closure
+    }
+
+    /// What calls of `check` had to tell apart.
+    pub fn schedules(&self) -> &Shares {
+        &self.schedules
     }
 
     /// What calls with the rig's limits had to tell apart.

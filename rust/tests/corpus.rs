@@ -6,7 +6,7 @@ use campaign::corpus::kept;
 use campaign::engine::REFERENCE;
 use campaign::fenced::Fenced;
 use campaign::harness::compare;
-use campaign::impostors::check_found;
+use campaign::impostors::{check_found, FAULTS};
 use campaign::proved::PROVED;
 use campaign::tally::Tally;
 
@@ -27,7 +27,8 @@ fn with_more_memory(mut call: Call, output: fn(usize) -> usize) -> Call {
             Field::Normal => call.normal += 1_000,
             Field::Numbers => call.numbers += 1_000,
             Field::Room => call.room = output(call.room),
-            Field::Table | Field::State | Field::Windows | Field::Durations | Field::Index => {}
+            Field::Table | Field::State | Field::List => {}
+            Field::Windows | Field::Durations | Field::Index => {}
         }
     }
     call
@@ -60,4 +61,9 @@ fn impostors_are_found() {
         let mut calls = calls().into_iter().filter(|call| call.kind == kind);
         calls.any(|call| compare(&call, &REFERENCE, engine).is_err())
     });
+    for impostor in &FAULTS {
+        let mut calls = calls().into_iter();
+        let found = calls.any(|call| compare(&call, &REFERENCE, &impostor.engine).is_err());
+        assert!(found, "{}", impostor.trick);
+    }
 }

@@ -2,12 +2,13 @@
 //! the files for other planners are what the engine writes, and stored tables are rewritten.
 
 use crate::common::folder::{examples, pddl_parts, repository, PDDL};
-use campaign::answer::{Head, Reason};
+use campaign::answer::{Checked, Fault, Head, Reason};
 use campaign::engine::{Engine, REFERENCE};
 use campaign::generate::Task;
 use campaign::harness::{rewritten, texted};
 use campaign::proved::{rig, PROVED};
 use campaign::reference;
+use campaign::reference::semantics::{real_run, RealRun};
 use std::fs;
 use std::path::{Path, PathBuf};
 
@@ -73,6 +74,39 @@ fn one_night_has_a_placement_and_the_other_does_not() {
     };
     assert_eq!(placed(&night).map(|placed| placed.end), Ok(280));
     assert_eq!(placed(&short), Err(Reason::NoPlacement.at(7)));
+}
+
+/// One of the lists solves the campaign, and over unlimited whole numbers also the one that leaves the range.
+#[test]
+fn one_bought_list_solves() {
+    let example = repository().join("examples/bought_schedule");
+    let (table, state) = (read(&example, "task.bin"), read(&example, "state.bin"));
+    let text = |name| {
+        let text = String::from_utf8(read(&example, name)).expect("text");
+        let lines = text.lines().filter(|line| !line.starts_with(';'));
+        let words: Vec<&str> = lines.flat_map(str::split_whitespace).collect();
+        let digits = words.iter().map(|word| word.trim_matches(['(', 'a', ')']));
+        let moves = digits.map(|digits| digits.parse().expect("a number"));
+        moves.collect::<Vec<u8>>()
+    };
+    let fails = |index, fault| Checked::Fails { index, fault };
+    for (list, expected, solves) in [
+        (
+            listed(&example, "delivered"),
+            Checked::Yes { length: 19 },
+            true,
+        ),
+        (text("heater_on.txt"), fails(7, Fault::NotAllowed), false),
+        (text("overcharged.txt"), fails(2, Fault::OutOfRange), true),
+        (text("ballast_left.txt"), Checked::GoalNotMet, false),
+    ] {
+        let checked = PROVED.check(&table, &state, &list, &mut vec![0; state.len()]);
+        assert_eq!(checked, Ok(expected));
+        let moves: Vec<u64> = list.into_iter().map(u64::from).collect();
+        let run = real_run(&table, &state, &moves).expect("the campaign is accepted");
+        let solved = matches!(run, RealRun::Finished { goal: true, .. });
+        assert_eq!(solved, solves, "{expected}");
+    }
 }
 
 /// The campaign at the rig's ceiling is taken by the rig's calls, and the one beside it, which has one

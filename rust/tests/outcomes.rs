@@ -61,6 +61,11 @@ fn place() {
 }
 
 #[test]
+fn check() {
+    check_lines(&REFERENCE, CallKind::Check);
+}
+
+#[test]
 fn listing() {
     check_lines(&REFERENCE, CallKind::Listing);
 }

@@ -1,7 +1,7 @@
 //! The program `lapyndo`: every command on every example, every refusal explained, and what it
 //! says of damaged tables.
 //!
-//! A session in `data/tool/` has the files of a folder, as hexadecimal or as the name of an
+//! A session in `data/tool/` has the files of a folder, as hexadecimal, as text or as the name of an
 //! example; then for each `$` line the words given, all that is printed, and `=` with the status.
 //! `cat` with a file's name stands for the file itself, which may be one that was written, and
 //! `hex` for its bytes in hexadecimal.
@@ -69,13 +69,17 @@ fn check_session(folder: &Path, session: &str) -> usize {
     count
 }
 
-/// The folder of a session: a file for each line such as `task ..` behind its first.
+/// The folder of a session: a file for each line such as `task ..` behind its first. A name with an
+/// ending is that of a text, with `\n` for the ends of its lines.
 fn folder_of(session: &str) -> Folder {
     let lines = session.lines().skip(1);
     let lines = lines.take_while(|line| !line.starts_with("$ "));
     lines.fold(Folder::new(), |folder, line| {
-        let (name, digits) = line.split_once(' ').unwrap_or((line, ""));
-        folder.with(&format!("{name}.bin"), &bytes(digits))
+        let (name, text) = line.split_once(' ').unwrap_or((line, ""));
+        match name.contains('.') {
+            true => folder.with(name, text.replace("\\n", "\n").as_bytes()),
+            false => folder.with(&format!("{name}.bin"), &bytes(text)),
+        }
     })
 }
 

@@ -25,7 +25,7 @@ fn copy() -> Folder {
     copy
 }
 
-/// Copies the binary files, and those of the folders inside.
+/// Copies tables, states and lists, and those of the folders inside.
 fn copy_folder(from: &Path, to: &Path) {
     fs::create_dir_all(to).expect("a folder");
     for entry in fs::read_dir(from).expect("a folder") {
@@ -33,7 +33,10 @@ fn copy_folder(from: &Path, to: &Path) {
         let target = to.join(path.file_name().expect("a name"));
         if path.is_dir() {
             copy_folder(&path, &target);
-        } else if path.extension().is_some_and(|kind| kind == "bin") {
+        } else if path
+            .extension()
+            .is_some_and(|kind| kind == "bin" || kind == "txt")
+        {
             fs::copy(&path, &target).expect("a file");
         }
     }
@@ -88,6 +91,7 @@ fn the_readme_shows_what_is_printed() {
             rig,
             rig,
             "timetable",
+            "check",
             "rewrite"
         ]
     );
@@ -184,6 +188,28 @@ fn an_example_shows_a_closure() {
         );
         let named = |line: &str| line.starts_with(&start) && line.ends_with(&end);
         assert!(page.lines().any(named), "{start}..{end}");
+    }
+}
+
+/// One list that was delivered solves the campaign, and three do not, each for another reason.
+#[test]
+fn an_example_shows_bought_lists() {
+    let [page, table, state, list] = files(
+        "bought_schedule",
+        ["README.md", "task.bin", "state.bin", "delivered.bin"],
+    );
+    let page = String::from_utf8(page).expect("text");
+    let copy = copy();
+    assert_eq!(check_shown(&copy, &page), ["check"; 4]);
+    let moves: Vec<u64> = list.iter().map(|mv| u64::from(*mv)).collect();
+    check_solves(&table, &state, &moves);
+    for (line, printed) in sessions(&page) {
+        let words: Vec<&str> = line.split(' ').collect();
+        let solves = words[2].ends_with("/delivered.bin");
+        let status = if solves { 0 } else { 3 };
+        assert_eq!(lapyndo(&copy.0, &words).status, status, "{line}");
+        let answer = if solves { "yes: " } else { "no: " };
+        assert!(printed.contains(&format!("\nanswer    {answer}")), "{line}");
     }
 }
 

@@ -189,6 +189,7 @@ fn commands_that_the_rig_does_not_have() {
         ("why", "--rig why ."),
         ("why", "--rig why"),
         ("why", "why --rig ."),
+        ("check", "--rig check . task.bin"),
         ("timetable", "--rig timetable ."),
         ("pddl", "--rig pddl ."),
         ("rewrite", "--rig rewrite task.bin out.bin"),
@@ -249,7 +250,7 @@ fn help_tells_of_the_rig() {
         assert_eq!(on_rig(&folder, &[name, "--help"]), help);
         assert!(help.out.contains(limits), "{}", help.out);
     }
-    for name in ["why", "timetable", "pddl", "rewrite"] {
+    for name in ["why", "check", "timetable", "pddl", "rewrite"] {
         let help = lapyndo(&folder.0, &[name, "--help"]);
         assert_eq!(on_rig(&folder, &[name, "--help"]), help);
         let no_call = "The rig has no such call: --rig goes with show, decide, plan and step.";

@@ -11,12 +11,13 @@ use std::os::unix::fs::symlink;
 use std::process::{Command, Stdio};
 
 /// The commands, and how each is given.
-const COMMANDS: [(&str, &str); 8] = [
+const COMMANDS: [(&str, &str); 9] = [
     ("show", "[--rig] show FILE"),
     ("decide", "[--rig] decide FOLDER"),
     ("plan", "[--rig] plan FOLDER"),
     ("why", "why FOLDER"),
     ("step", "[--rig] step FOLDER MOVE"),
+    ("check", "check FOLDER LIST"),
     ("timetable", "timetable FOLDER"),
     ("pddl", "pddl FOLDER"),
     ("rewrite", "rewrite FILE OUT"),
@@ -56,6 +57,7 @@ fn help_of_all() {
         "Exit status: 0",
         "1 a refusal",
         "2 wrong use",
+        "of check 0 yes and 3 no",
         "standard output",
     ] {
         assert!(help.contains(said), "{help}");
@@ -157,6 +159,7 @@ fn files_that_cannot_be_read() {
         vec!["plan", "."],
         vec!["why", "."],
         vec!["step", ".", "0"],
+        vec!["check", ".", "task.bin"],
         vec!["timetable", "."],
         vec!["pddl", "."],
     ] {

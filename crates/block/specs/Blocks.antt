@@ -7,7 +7,6 @@ use mathlib.Core.Bool.{Bool, true, false, _&&_, _||_}
 use mathlib.Core.List.{List, [], _∷_}
 use mathlib.Core.Option.{some}
 use borrow.Author.Tests.{eq-eqb, ne-eqb}
-use lib.Dec.{eqb}
 use lib.IntN.{ℤ, natAbs, _+ℤ_}
 use lib.ListN.{length, getD}
 use Rattle.model.specs.Lists.{all, any}
@@ -146,39 +145,27 @@ module _ {A : Type 0} (f : A → Bool) where
 
 -- ---- a block over a state
 
--- the bytes of a state's propositions, and the values of its variables
-pub record StateRow (k : Ranges) (state : List ℕ) (values : List ℤ) (s : State) : Type 0 where
-  pub long : k .props ≤ length state
-  pub has : (p : ℕ) → p < k .props → s .has p ≡ eqb (getD state p 0) 1
+-- a state's propositions, and the values of its variables
+pub record StateRow (k : Ranges) (flags : List Bool) (values : List ℤ) (s : State) : Type 0 where
+  pub long : k .props ≤ length flags
+  pub has : (p : ℕ) → p < k .props → getD flags p false ≡ s .has p
   pub row : Row (k .vars) values (s .val)
 
 -- some block stands behind the part's first byte, over some state
-pub record Testable (part state : List ℕ) (values : List ℤ) : Type 0 where
+pub record Testable (part : List ℕ) (flags : List Bool) (values : List ℤ) : Type 0 where
   pub ranges : Ranges
   pub block : Block
   pub over : State
   pub left : Left ranges part 1 block
-  pub row : StateRow ranges state values over
+  pub row : StateRow ranges flags values over
 
 -- t says whether the sum compares so, in every reading
 pub record IsTest (part : List ℕ) (o : ℕ) (c : ℤ) (from n : ℕ) (values : List ℤ) (t : Bool) : Type 0 where
   pub is : (k : Ranges) (ts : List Term) (f : ℕ → ℤ) (p : Comparison) → Terms k part from n ts → Row (k .vars) values f → comparisonCode p ≡ o → t ≡ compares p (sum f ts) c
 
 -- t says whether the block's conditions hold, in every reading
-pub record IsApplicable (part state : List ℕ) (values : List ℤ) (t : Bool) : Type 0 where
-  pub is : (k : Ranges) (b : Block) (s : State) → Left k part 1 b → StateRow k state values s → t ≡ applicable s b
-
-module _ {k : Ranges} {state : List ℕ} {values : List ℤ} {s : State} (w : StateRow k state values s) where
-  pub need-room : {p : ℕ} → p < k .props → p < length state
-  need-room h = omega (arith, w .long)
-
-  pub need-yes : {p : ℕ} → p < k .props → getD state p 0 ≡ 1 → holds s (need p) ≡ true
-  unfolding holds
-  need-yes {p} h e = w .has p h ∙ eq-eqb (getD state p 0) 1 e
-
-  pub need-no : {p : ℕ} → p < k .props → (getD state p 0 ≡ 1 → ⊥) → holds s (need p) ≡ false
-  unfolding holds
-  need-no {p} h e = w .has p h ∙ ne-eqb (getD state p 0) 1 e
+pub record IsApplicable (part : List ℕ) (flags : List Bool) (values : List ℤ) (t : Bool) : Type 0 where
+  pub is : (k : Ranges) (b : Block) (s : State) → Left k part 1 b → StateRow k flags values s → t ≡ applicable s b
 
 -- a condition's and an effect's constant are small
 pub condition-bound :
@@ -240,14 +227,6 @@ pub record IsLayerTest (part : List ℕ) (c : ℤ) (from n : ℕ) (layer : List 
 
 pub record IsUsable (part : List ℕ) (flags : List Bool) (layer : List ℤ) (t : Bool) : Type 0 where
   pub is : (k : Ranges) (b : Block) (l : Layer) → Left k part 1 b → LayerState k flags layer l → t ≡ usable l b
-
-module _ {k : Ranges} {flags : List Bool} {layer : List ℤ} {l : Layer} (w : LayerState k flags layer l) where
-  pub layer-need-room : {p : ℕ} → p < k .props → p < length flags
-  layer-need-room h = omega (arith, w .long)
-
-  pub layer-need : {p : ℕ} {t : Bool} → p < k .props → getD flags p false ≡ t → holdsIn l (need p) ≡ t
-  unfolding holdsIn
-  layer-need {p} h e = sym (w .has p h) ∙ e
 
 pub layer-summable :
     {k : Ranges} {part : List ℕ} {from n : ℕ} {ts : List Term} {layer : List ℤ} {f : ℕ → Value}

@@ -274,17 +274,17 @@ pub fn condition_reached(part: &[u8], bound: i64, from: usize, n: usize, layer: 
     reaches(sum_layer(part, from, n, layer), bound)
 }
 
-// Do all conditions of the block hold in the state of these propositions' bytes and values?
-pub fn applicable(part: &[u8], state: &[u8], values: &[i64]) -> bool
-    requires { ⌜ Testable (now part) (now state) (now values) ⌝ }
-    ensures { λ r. ⌜ IsApplicable (now (part .entry)) (now (state .entry)) (now (values .entry)) r ⌝ }
+// Do all conditions of the block hold in the state of these propositions and values?
+pub fn applicable(part: &[u8], has: &[bool], values: &[i64]) -> bool
+    requires { ⌜ Testable (now part) (now has) (now values) ⌝ }
+    ensures { λ r. ⌜ IsApplicable (now (part .entry)) (now (has .entry)) (now (values .entry)) r ⌝ }
 {
     let mut at = 1;
     loop {
         let item = next(part, at);
         match item {
             ItemAt::Need { prop, after: _ } => {
-                if state[prop] != 1 {
+                if !has[prop] {
                     return false;
                 }
             }

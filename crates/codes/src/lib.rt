@@ -1,4 +1,5 @@
-// The answers as one 64-bit number each, for hosts (crates/model/specs/Exports.antt; that of closure days in crates/placement/specs/Exports.antt).
+// The answers as one 64-bit number each, for hosts (crates/model/specs/Exports.antt; those of closure days and of the checker in
+// crates/placement/specs/Exports.antt and crates/schedule/specs/Exports.antt).
 ghost use mathlib.Core.Path.{_≡_};
 ghost use Prim.Native.Nat.{_<_, _≤_};
 ghost use Rattle.model.specs.Exports.{refusalCode, readCode, writeCode, decideCode, planCode, planRecordCount, planFirstMoves, blockingCode};
@@ -6,6 +7,8 @@ ghost use Rattle.model.specs.Theorems.Sizes.Answers.{placeLimit, resultLimit, R
 ghost use Rattle.model.specs.Limits.{lastNumber};
 ghost use Rattle.placement.specs.Exports.{placeCode, placeLength, placePlace};
 ghost use Rattle.placement.specs.Theorems.Codes.{PlaceSmall};
+ghost use Rattle.schedule.specs.Exports.{checkCode, checkIndex};
+ghost use Rattle.schedule.specs.Theorems.Codes.{CheckSmall};
 ghost use Rattle.codes.specs.Parts.{partCode};
 use model::BlockingAnswer;
 use model::DecideAnswer;
@@ -14,6 +17,7 @@ use model::ReadAnswer;
 use model::Refusal;
 use model::WriteAnswer;
 use placement::PlaceAnswer;
+use schedule::CheckAnswer;
 
 // Bits 32 to 63 the refusal's number, bits 0 to 31 its place.
 fn refusal_code(r: Refusal) -> u64
@@ -124,6 +128,22 @@ pub fn place_code(a: PlaceAnswer, length: &mut u64, place: &mut u64) -> u64
                 place: 0,
             })
         }
+    }
+}
+
+// Bit 31 tells an answer that is no yes; the index is written with a fault only.
+pub fn check_code(a: CheckAnswer, index: &mut u64) -> u64
+    requires { ⌜ CheckSmall a ⌝ }
+    ensures { λ c. ⌜ (c ≡ checkCode a) × (now (index .exit) ≡ checkIndex a (now (index .entry))) ⌝ }
+{
+    match a {
+        CheckAnswer::Yes { length } => length,
+        CheckAnswer::Fails { index: i, fault } => {
+            *index = i;
+            2147483648 + schedule::fault_number(fault)
+        }
+        CheckAnswer::GoalNotMet => 2147483648,
+        CheckAnswer::Refused(r) => refusal_code(r),
     }
 }
 

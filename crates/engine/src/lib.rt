@@ -9,6 +9,8 @@ ghost use Rattle.model.specs.Rewrite.{rewriteAnswer, rewriteOut};
 ghost use Rattle.model.specs.Theorems.Campaigns.OneCall.{Promise};
 ghost use Rattle.placement.specs.Day.{paperDay};
 ghost use Rattle.placement.specs.Placing.{placeAnswer, placeOut};
+ghost use Rattle.schedule.specs.Check.{checkAnswer, checkOut};
+ghost use Rattle.schedule.specs.Exports.{checkCode, checkIndex};
 ghost use Rattle.placement.specs.Exports.{placeCode, placeLength, placePlace};
 ghost use Rattle.ceiling.specs.Ceiling.{rig, readAnswerUnder, blockPartUnder, blockRefusalUnder, normaliseAnswerUnder, normaliseOutUnder, stepAnswerUnder, stepOutUnder, decideAnswerUnder, decideMemoryUnder, planAnswerUnder, planMemoryUnder, planOutUnder, campaignDecisionUnder, campaignPlanUnder, campaignMemoryUnder, campaignOutUnder};
 ghost use Rattle.ceiling.specs.Theorems.EndToEnd.{PromiseUnder};
@@ -156,6 +158,23 @@ pub extern "C" fn lapyndo_place(
         × (now (place .exit) ≡ placePlace (placeAnswer paperDay (now (windows .entry)) (now (durations .entry)) (now (out .entry))) (now (place .entry))) ⌝ }
 {
     codes::place_code(closure::place(windows, durations, out), length, place)
+}
+
+// Checks a bought list of moves. The result is the length of the end state, or bit 31 and below it 0 ("goal not met") or the number of the
+// fault of the first entry that cannot be made, whose index is written then only.
+#[no_mangle]
+pub extern "C" fn lapyndo_check(
+    table: &[u8],
+    state: &[u8],
+    list: &[u8],
+    out: &mut [u8],
+    index: &mut u64,
+) -> u64
+    ensures { λ c. ⌜ (c ≡ checkCode (checkAnswer paper (now (table .entry)) (now (state .entry)) (now (list .entry)) (now (out .entry))))
+        × (now (out .exit) ≡ checkOut paper (now (table .entry)) (now (state .entry)) (now (list .entry)) (now (out .entry)))
+        × (now (index .exit) ≡ checkIndex (checkAnswer paper (now (table .entry)) (now (state .entry)) (now (list .entry)) (now (out .entry))) (now (index .entry))) ⌝ }
+{
+    codes::check_code(checker::check(table, state, list, out), index)
 }
 
 // ---- The rig's calls: the same under its ceiling, "16 moves, 8 written variables and 2,048 numbers of layer memory". A block's copy, the

@@ -2,6 +2,7 @@
 pub mod Changes
 pub mod Running
 pub mod Walking
-pub mod Answers
+pub mod Values
 pub mod Moving
+pub mod Turns
 pub mod Steps

@@ -7,24 +7,31 @@ ghost use lib.ListN.{length, getD};
 ghost use lib.IntN.{natAbs, pos};
 ghost use Rattle.model.specs.Seen.{kindOf};
 ghost use Rattle.model.specs.Reading.{only, reading};
-ghost use Rattle.model.specs.Move.{changed, real};
+ghost use Rattle.model.specs.Move.{changed};
 ghost use Rattle.model.specs.Limits.{paper, largestValue};
-ghost use Rattle.model.specs.StateTable.{stateOf, stateRefusal};
-ghost use Rattle.model.specs.Calls.{resultOf, stepOf, stepAnswer, stepOut};
-ghost use Rattle.model.specs.Task.{Block, written};
+ghost use Rattle.model.specs.StateTable.{stateOf, stateRefusal, stateBytes};
+ghost use Rattle.model.specs.Calls.{writes, stepOf, stepAnswer, stepOut};
+ghost use Rattle.model.specs.Task.{written};
 ghost use Rattle.state.specs.Storing.{stateIn};
 ghost use Rattle.output.specs.Answers.{Answered};
 ghost use Rattle.transition.specs.Running.{Runnable, Ran};
 ghost use Rattle.transition.specs.Walking.{Changeable, IsResult};
-ghost use Rattle.transition.specs.Answers.{allInRange};
-ghost use Rattle.transition.specs.Moving.{Movable, Valued, Chosen, movedBy};
-ghost use Rattle.transition.specs.Steps.{Read};
+ghost use Rattle.transition.specs.Values.{allInRange};
+ghost use Rattle.transition.specs.Moving.{Putable, Movable, Moved};
+ghost use Rattle.transition.specs.Turns.{Read, Turnable, Turned};
 use block::ItemAt;
 use model::ReadAnswer;
 use model::Refusal;
 use model::WriteAnswer;
+use schedule::Fault;
 use state::StateCheck;
 use table::Wanted;
+
+// What becomes of a move: it is made, or why not.
+pub enum Turn {
+    Made,
+    Fails(Fault),
+}
 
 // "k is 0 := , 1 += , 2 −="
 fn changed(kind: u8, old: i64, z: i64) -> i64
@@ -105,17 +112,17 @@ fn in_range(values: &[i64], vars: usize) -> bool
     true
 }
 
-// The result of a move, if it is in range and fits.
-fn finish(has: &[bool], values: &[i64], props: usize, vars: usize, out: &mut [u8]) -> WriteAnswer
-    requires { ⌜ (props ≤ length (now has)) × (vars ≤ length (now values)) × (props ≤ 120) × (vars ≤ 16) ⌝ }
-    ensures { λ r. ⌜ Answered (resultOf paper props vars (stateIn (now (has .entry)) (now (values .entry)))) (now (out .entry)) (now (out .exit)) r ⌝ }
+// Stores the state that two arrays hold, if it fits.
+pub fn put_state(
+    has: &[bool],
+    values: &[i64; 16],
+    props: usize,
+    vars: usize,
+    out: &mut [u8],
+) -> WriteAnswer
+    requires { ⌜ Putable props vars (now has) (now values) ⌝ }
+    ensures { λ r. ⌜ Answered (writes (stateBytes props vars (stateIn (now (has .entry)) (now (values .entry))))) (now (out .entry)) (now (out .exit)) r ⌝ }
 {
-    if !in_range(values, vars) {
-        return WriteAnswer::Refused(Refusal {
-            number: 12,
-            place: 0,
-        });
-    }
     let size = props + 4 * vars;
     if out.len() < size {
         return WriteAnswer::Refused(Refusal {
@@ -128,7 +135,7 @@ fn finish(has: &[bool], values: &[i64], props: usize, vars: usize, out: &mut [u8
 }
 
 // The propositions of a state.
-fn truths_of(state: &[u8], props: usize) -> [bool; 120]
+pub fn truths_of(state: &[u8], props: usize) -> [bool; 120]
     requires { ⌜ (props ≤ length (now state)) × (props ≤ 120) ⌝ }
     ensures { λ r. ⌜ (length r ≡ 120) × ((p : ℕ) → p < props → getD r p false ≡ stateOf props (now (state .entry)) .has p) ⌝ }
 {
@@ -138,7 +145,7 @@ fn truths_of(state: &[u8], props: usize) -> [bool; 120]
 }
 
 // The values of a state.
-fn values_of(state: &[u8], props: usize, vars: usize) -> [i64; 16]
+pub fn values_of(state: &[u8], props: usize, vars: usize) -> [i64; 16]
     requires { ⌜ (props + 4 * vars ≤ length (now state)) × (vars ≤ 16) ⌝ }
     ensures { λ r. ⌜ (length r ≡ 16) × ((v : ℕ) → v < vars → getD r v (pos 0) ≡ stateOf props (now (state .entry)) .val v) ⌝ }
 {
@@ -147,43 +154,48 @@ fn values_of(state: &[u8], props: usize, vars: usize) -> [i64; 16]
     values
 }
 
-// Runs a move whose conditions hold.
-fn result(
-    part: &[u8],
-    state: &[u8],
-    props: usize,
-    vars: usize,
-    values: &[i64; 16],
-    out: &mut [u8],
-) -> WriteAnswer
-    requires { ⌜ (Movable (now part) (now state) props vars) × (Valued (now state) props vars (now values)) ⌝ }
-    ensures { λ r. ⌜ ((b : Block) → Chosen (now (part .entry)) (now (state .entry)) props vars b → Answered (resultOf paper props vars (real b (stateOf props (now (state .entry))))) (now (out .entry)) (now (out .exit)) r) ⌝ }
+// Makes the move of a part on the state that two arrays hold: "A real move needs its conditions true". Where it fails, nothing is said of the
+// arrays.
+fn make(part: &[u8], vars: usize, has: &mut [bool], values: &mut [i64; 16]) -> Turn
+    requires { ⌜ Movable (now part) vars (now has) (now values) ⌝ }
+    ensures { λ r. ⌜ Moved (now (part .entry)) vars (now (has .entry)) (now (values .entry)) (now (has .exit)) (now (values .exit)) r ⌝ }
 {
-    let mut has = truths_of(state, props);
-    let mut next = values_of(state, props, vars);
-    run(part, values, &mut has, &mut next);
-    finish(&has, &next, props, vars, out)
-}
-
-// "A real move needs its conditions true".
-fn moved(part: &[u8], state: &[u8], props: usize, vars: usize, out: &mut [u8]) -> WriteAnswer
-    requires { ⌜ Movable (now part) (now state) props vars ⌝ }
-    ensures { λ r. ⌜ ((b : Block) → Chosen (now (part .entry)) (now (state .entry)) props vars b → Answered (movedBy props vars (stateOf props (now (state .entry))) b) (now (out .entry)) (now (out .exit)) r) ⌝ }
-{
-    let values = values_of(state, props, vars);
-    if !block::applicable(part, state, &values) {
-        return WriteAnswer::Refused(Refusal {
-            number: 11,
-            place: 0,
-        });
+    if !block::applicable(part, has, values) {
+        return Turn::Fails(Fault::NotAllowed);
     }
-    result(part, state, props, vars, &values, out)
+    let mut next = *values;
+    run(part, values, has, &mut next);
+    if !in_range(&next, vars) {
+        return Turn::Fails(Fault::OutOfRange);
+    }
+    *values = next;
+    Turn::Made
 }
 
-// Makes the chosen move, "no such move" apart.
-fn choose(
+// Makes move `chosen` of an accepted table on the state that two arrays hold.
+pub fn make_move(
     table: &[u8],
     marks: &[usize],
+    vars: usize,
+    moves: usize,
+    chosen: u64,
+    has: &mut [bool],
+    values: &mut [i64; 16],
+) -> Turn
+    requires { ⌜ Turnable (now table) (now marks) vars moves (now has) (now values) ⌝ }
+    ensures { λ r. ⌜ Turned (now (table .entry)) (now (marks .entry)) vars moves chosen (now (has .entry)) (now (values .entry)) (now (has .exit)) (now (values .exit)) r ⌝ }
+{
+    if chosen >= moves as u64 {
+        return Turn::Fails(Fault::Missing);
+    }
+    let part = reader::part(table, marks, chosen as usize);
+    make(part, vars, has, values)
+}
+
+// Makes the chosen move and stores the state after it.
+fn choose(
+    table: &[u8],
+    marks: &[usize; 66],
     props: usize,
     vars: usize,
     moves: usize,
@@ -194,14 +206,15 @@ fn choose(
     requires { ⌜ (Read (now table) (now marks) props vars moves) × (stateRefusal paper props vars (now state) ≡ none) ⌝ }
     ensures { λ r. ⌜ Answered (stepOf paper (reading paper (only written) (now (table .entry))) (now (state .entry)) chosen) (now (out .entry)) (now (out .exit)) r ⌝ }
 {
-    if chosen >= moves as u64 {
-        return WriteAnswer::Refused(Refusal {
-            number: 10,
-            place: 0,
-        });
+    let mut has = truths_of(state, props);
+    let mut values = values_of(state, props, vars);
+    match make_move(table, marks, vars, moves, chosen, &mut has, &mut values) {
+        Turn::Made => put_state(&has, &values, props, vars, out),
+        Turn::Fails(f) => {
+            let number = schedule::fault_number(f);
+            WriteAnswer::Refused(Refusal { number, place: 0 })
+        }
     }
-    let part = reader::part(table, marks, chosen as usize);
-    moved(part, state, props, vars, out)
 }
 
 // Checks the state, and makes the move.

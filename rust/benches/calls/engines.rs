@@ -1,6 +1,7 @@
-//! The proved engine without the canaries around the numbers that `plan`, `campaign` and `place` write.
+//! The proved engine without the canaries around the numbers that `plan`, `campaign`, `place` and `check`
+//! write.
 
-use campaign::answer::{Answer, Campaign, Placed, Plan, Refusal};
+use campaign::answer::{Answer, Campaign, Checked, Placed, Plan, Refusal};
 use campaign::engine::{Calls, Lent};
 use campaign::proved::{self, raw};
 
@@ -15,6 +16,10 @@ pub const PROVED: Calls = Calls {
         let end = raw::place(windows, durations, out, &mut length, &mut place)?.into();
         let length = length as usize;
         Ok(Placed { end, length })
+    },
+    check: |table, state, list, out| {
+        let length = raw::check(table, state, list, out, &mut 0)? as usize;
+        Ok(Checked::Yes { length })
     },
     ..proved::PROVED
 };

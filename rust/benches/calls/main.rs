@@ -11,6 +11,7 @@ mod engines;
 mod helpful;
 mod rewrite;
 mod rig;
+mod schedule;
 mod timing;
 
 use bench::Bench;
@@ -30,6 +31,8 @@ fn main() {
     blocking::layers_table();
     rewrite::bytes_table();
     closure::table();
+    schedule::table();
+    schedule::growth_table();
     rig::table();
 }
 

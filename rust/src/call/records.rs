@@ -1,7 +1,7 @@
 //! The files of recorded outcomes under `tests/data/`, and how many outcomes each has: the newest of
 //! a call, those of the calls of document 01, those from before plan's set held helpful moves, those by
-//! hand on comparisons, on weight 0, on moves that do nothing, on helpful moves and on closure days, and
-//! of calls by hand on the rig's limits, recorded from the reference.
+//! hand on comparisons, on weight 0, on moves that do nothing, on helpful moves, on closure days and on
+//! schedules, and of calls by hand on the rig's limits, recorded from the reference.
 
 pub type Records = &'static [(&'static str, usize)];
 
@@ -81,6 +81,14 @@ pub const REWRITE: Records = &[
 ];
 
 pub const PLACE: Records = &[("place.txt", 157), ("closure/place.txt", 7)];
+
+pub const CHECK: Records = &[
+    ("check.txt", 141),
+    ("schedules/check.txt", 16),
+    ("comparisons/check.txt", 6),
+    ("weights/check.txt", 7),
+    ("idle-moves/check.txt", 11),
+];
 
 pub const RIG_READ: Records = &[("rig/rig_read.txt", 160), ("rig-by-hand/rig_read.txt", 28)];
 

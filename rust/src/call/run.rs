@@ -1,7 +1,7 @@
 //! A call run on an engine, with the whole of every output in its outcome.
 
 use super::{Call, CallKind, Field};
-use crate::answer::{Campaign, Refusal};
+use crate::answer::{Campaign, Checked, Fault, Refusal};
 use crate::engine::{Engine, Lent};
 use crate::generate::Rng;
 use crate::guarded::{Canary, Guarded};
@@ -53,12 +53,17 @@ impl Call {
     /// Runs the call on its buffers. A broken canary, a changed input or a block outside the
     /// table is an error.
     pub fn run_over(&self, engine: &dyn Engine, mut buffers: Buffers) -> Result<Outcome, String> {
-        let answer = match self.kind.is_rig() {
-            true => buffers.answer(&*engine.rig(), self),
-            false => buffers.answer(engine, self),
-        }?;
+        let (answer, fault) = match self.kind {
+            CallKind::Check => buffers.checked(engine),
+            kind if kind.is_rig() => (buffers.answer(&*engine.rig(), self)?, None),
+            _ => (buffers.answer(engine, self)?, None),
+        };
         buffers.check(self)?;
-        Ok(Outcome { answer, buffers })
+        Ok(Outcome {
+            answer,
+            fault,
+            buffers,
+        })
     }
 }
 
@@ -66,6 +71,8 @@ impl Call {
 #[derive(Clone, Debug, PartialEq, Eq)]
 pub struct Outcome {
     pub answer: String,
+    /// Why the entry of an index cannot be made; the files of outcomes do not say it.
+    pub fault: Option<Fault>,
     buffers: Buffers,
 }
 
@@ -78,6 +85,14 @@ impl Outcome {
     /// What the output holds.
     pub fn out(&self) -> &[u8] {
         lent(&self.buffers.out)
+    }
+
+    /// As it is printed, and the fault behind it.
+    pub fn with_fault(&self) -> String {
+        match self.fault {
+            Some(fault) => format!("{self} fault {}", fault.number()),
+            None => self.to_string(),
+        }
     }
 
     /// The same with the first of its numbers of layer memory only.
@@ -110,6 +125,7 @@ impl Display for Outcome {
 pub struct Buffers {
     table: Option<Guarded<u8>>,
     state: Option<Guarded<u8>>,
+    list: Option<Guarded<u8>>,
     windows: Option<Guarded<u8>>,
     durations: Option<Guarded<u8>>,
     normal: Option<Guarded<u8>>,
@@ -127,6 +143,7 @@ impl Buffers {
         Buffers {
             table: input(Field::Table, &call.table),
             state: input(Field::State, &call.state),
+            list: input(Field::List, &call.list),
             windows: input(Field::Windows, &call.windows),
             durations: input(Field::Durations, &call.durations),
             normal: has(Field::Normal).then(|| output(call.normal)),
@@ -140,7 +157,18 @@ impl Buffers {
         lent(&self.layers)
     }
 
-    /// Makes the call and prints its answer.
+    /// Makes the call of `check` and prints its answer; with an index there is a fault.
+    fn checked(&mut self, engine: &dyn Engine) -> (String, Option<Fault>) {
+        let [table, state, list] = [&self.table, &self.state, &self.list].map(lent);
+        let answer = engine.check(table, state, list, lend(&mut self.out));
+        let fault = match answer {
+            Ok(Checked::Fails { fault, .. }) => Some(fault),
+            _ => None,
+        };
+        (shown(answer), fault)
+    }
+
+    /// Makes any other call and prints its answer.
     fn answer(&mut self, engine: &dyn Engine, call: &Call) -> Result<String, String> {
         let [table, state] = [&self.table, &self.state].map(lent);
         let [windows, durations] = [&self.windows, &self.durations].map(lent);
@@ -176,6 +204,7 @@ impl Buffers {
             CallKind::Blocking => shown(engine.blocking(table, state, layers)),
             CallKind::Rewrite => accepted(engine.rewrite(table, out)),
             CallKind::Place => shown(engine.place(windows, durations, out)),
+            CallKind::Check => self.checked(engine).0,
             CallKind::Listing => engine.listing(table, state).replace('\n', "\\n"),
         })
     }
@@ -184,6 +213,7 @@ impl Buffers {
         for (name, lent, given) in [
             ("table", &self.table, &call.table),
             ("state", &self.state, &call.state),
+            ("list", &self.list, &call.list),
             ("windows", &self.windows, &call.windows),
             ("durations", &self.durations, &call.durations),
         ] {
@@ -255,30 +285,36 @@ mod tests {
     /// Of every input of a call.
     #[test]
     fn a_changed_input_is_found() {
-        for kind in [CallKind::Step, CallKind::Place] {
+        for (kind, inputs) in [
+            (CallKind::Step, 2),
+            (CallKind::Place, 2),
+            (CallKind::Check, 3),
+        ] {
             let call = Call {
                 table: vec![1],
                 state: vec![2],
-                windows: vec![3],
-                durations: vec![4],
+                list: vec![3],
+                windows: vec![4],
+                durations: vec![5],
                 ..kind.call()
             };
             let whole = Buffers::of(&call, Fill::Recorded);
             assert_eq!(whole.check(&call), Ok(()));
-            let found = (0..4).filter(|input| {
+            let found = (0..5).filter(|input| {
                 let mut changed = whole.clone();
                 let Buffers {
                     table,
                     state,
+                    list,
                     windows,
                     durations,
                     ..
                 } = &mut changed;
-                let inputs = [table, state, windows, durations];
-                lend(inputs.into_iter().nth(*input).expect("four")).fill(9);
+                let inputs = [table, state, list, windows, durations];
+                lend(inputs.into_iter().nth(*input).expect("five")).fill(9);
                 changed.check(&call).is_err()
             });
-            assert_eq!(found.count(), 2, "{}", kind.name());
+            assert_eq!(found.count(), inputs, "{}", kind.name());
         }
     }
 

@@ -190,7 +190,7 @@ pub fn sized_calls(task: &Task) -> Vec<Call> {
 }
 
 /// What makes an accepted task of a kind.
-type Make = fn(&mut Rng, Kind) -> Task;
+pub(super) type Make = fn(&mut Rng, Kind) -> Task;
 
 /// A table that is mostly accepted and of the given kind, with a state that is now and then
 /// wrong.
@@ -225,7 +225,7 @@ fn any_task(rng: &mut Rng, kind: Kind, make: Make) -> Task {
     task
 }
 
-fn spoilt_task(rng: &mut Rng, kind: Kind, make: Make) -> Task {
+pub(super) fn spoilt_task(rng: &mut Rng, kind: Kind, make: Make) -> Task {
     if rng.chance(1, 5) {
         return command_task(rng);
     }

@@ -322,11 +322,13 @@ pub fn wrong_state(rng: &mut Rng, state: &[u8]) -> Vec<u8> {
     wrong
 }
 
-/// Damages the table, and now and then the state; of `place` the windows or the durations.
+/// Damages the table, now and then the state, and of `check` the list; of `place` the windows or the
+/// durations.
 pub fn damage(rng: &mut Rng, call: &mut Call) {
     let damaged = match call.kind {
         CallKind::Place if rng.chance(1, 2) => &mut call.windows,
         CallKind::Place => &mut call.durations,
+        CallKind::Check if rng.chance(1, 3) => &mut call.list,
         kind if kind.has(Field::State) && rng.chance(1, 4) => &mut call.state,
         _ => &mut call.table,
     };

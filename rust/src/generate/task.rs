@@ -91,6 +91,15 @@ impl Task {
         }
     }
 
+    /// `check` of this task with this list and so many bytes of output.
+    pub fn check(&self, list: &[u8], room: usize) -> Call {
+        Call {
+            list: list.to_vec(),
+            room,
+            ..self.call(CallKind::Check)
+        }
+    }
+
     /// `pddl` of this task with so many bytes of output.
     pub fn pddl(&self, room: usize) -> Call {
         Call {

@@ -4,7 +4,7 @@ use super::HONEST;
 use crate::answer::Refusal;
 use crate::call::CallKind;
 use crate::engine::Calls;
-use crate::reference::{block, blocking, decide, normalise, pddl, plan, read, step};
+use crate::reference::{block, blocking, check, decide, normalise, pddl, plan, read, step};
 
 /// The calls that take a table and check it whole.
 pub const TABLES: &[CallKind] = &[
@@ -18,6 +18,7 @@ pub const TABLES: &[CallKind] = &[
     CallKind::Campaign,
     CallKind::Pddl,
     CallKind::Listing,
+    CallKind::Check,
 ];
 
 /// Those that take a written table.
@@ -48,6 +49,7 @@ pub const fn reading<M: Misreading>() -> Calls {
         normalise: |table, out| normalise(&M::misread(table)?, out),
         step: |table, state, mv, out| step(&M::misread(table)?, state, mv, out),
         pddl: |table, state, out| pddl(&M::misread(table)?, state, out),
+        check: |table, state, list, out| check(&M::misread(table)?, state, list, out),
         decide: |table, state, layers| decide(&M::misread(table)?, state, layers),
         plan: |table, state, layers, out| plan(&M::misread(table)?, state, layers, out),
         blocking: |table, state, layers| blocking(&M::misread(table)?, state, layers),

@@ -256,6 +256,18 @@ extern "C" {
         length: *mut u64,
         place: *mut u64,
     ) -> u64;
+
+    fn lapyndo_check(
+        table: *const u8,
+        table_len: usize,
+        state: *const u8,
+        state_len: usize,
+        list: *const u8,
+        list_len: usize,
+        out: *mut u8,
+        out_len: usize,
+        index: *mut u64,
+    ) -> u64;
 }
 
 pub fn pddl(table: &[u8], state: &[u8], out: &mut [u8]) -> Result<u32, Refusal> {
@@ -308,6 +320,30 @@ pub fn place(
             out.len(),
             length,
             place,
+        )
+    })
+}
+
+/// The length of the end state, or bit 31 and below it 0 ("goal not met") or the number of a fault.
+/// Writes the index with a fault only.
+pub fn check(
+    table: &[u8],
+    state: &[u8],
+    list: &[u8],
+    out: &mut [u8],
+    index: &mut u64,
+) -> Result<u32, Refusal> {
+    answered(unsafe {
+        lapyndo_check(
+            table.as_ptr(),
+            table.len(),
+            state.as_ptr(),
+            state.len(),
+            list.as_ptr(),
+            list.len(),
+            out.as_mut_ptr(),
+            out.len(),
+            index,
         )
     })
 }

@@ -7,6 +7,7 @@
 
 mod blocking;
 mod ceiling;
+mod check;
 mod circle;
 mod closure;
 mod layers;
@@ -22,6 +23,7 @@ mod step;
 pub mod table;
 
 pub use ceiling::{Ceiling, FULL, RIG};
+pub use check::check;
 pub use closure::place;
 pub use listing::{listing, record_line, MEMORY_ROOM, NORMAL_ROOM, PLAN_ROOM};
 pub use normal::{normal_conditions, normal_form};

@@ -4,13 +4,14 @@ use campaign::call::{Call, CallKind, Field};
 use campaign::hex::hex;
 
 /// The calls that take a written table, and those that take a normal one.
-pub const WRITTEN: [CallKind; 7] = [
+pub const WRITTEN: [CallKind; 8] = [
     CallKind::Read,
     CallKind::Block,
     CallKind::Normalise,
     CallKind::Step,
     CallKind::Campaign,
     CallKind::Pddl,
+    CallKind::Check,
     CallKind::Listing,
 ];
 pub const NORMAL: [CallKind; 5] = [

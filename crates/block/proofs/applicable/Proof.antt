@@ -1,8 +1,9 @@
 -- `applicable` meets its contract. The invariant: the items that are left decide. The measure is what is left of the part.
 -- Assumes nothing.
-use Prim.Native.Nat.{ℕ, _-_, _<_}
+use Prim.Native.Nat.{_-_, _<_}
 use native.Mathlib.Omega.{arith}
 use mathlib.Core.Path.{_≡_, refl, sym, _∙_, subst}
+use mathlib.Core.Bool.{Bool}
 use mathlib.Core.List.{List, [], _∷_}
 use types.Run.{miss}
 use mathlib.Core.Logic.{⊎-elim}
@@ -14,21 +15,21 @@ use Rattle.integer.specs.Linear.{back-small}
 use Rattle.model.specs.Lists.{all}
 use Rattle.model.specs.Move.{State, holds, applicable}
 use Rattle.block.specs.Items.{Ranges, readable, next-ahead}
-use Rattle.block.specs.Blocks.{Walk, Passing, walk-start, walk-found, walk-next, walk-stop, next-is, all-true, all-false, StateRow, need-room, need-yes, need-no, condition-bound, summable, condition-test}
+use Rattle.block.specs.Blocks.{Walk, Passing, walk-start, walk-found, walk-next, walk-stop, next-is, all-true, all-false, StateRow, condition-bound, summable, condition-test}
 use Rattle.block.specs.declared.ItemAt.{ItemAt}
 use Rattle.block.proofs.Passed.{no-condition, before-end}
 use Rattle.block.proofs.applicable.Statement.{statement}
 use Rattle.block.proofs.applicable.Tie as tie
 
 -- what the two memories hold
-abbrev Over : List ℕ → List ℤ → Ranges → State → Type 0
-Over state values k s = StateRow k state values s
+abbrev Over : List Bool → List ℤ → Ranges → State → Type 0
+Over has values k s = StateRow k has values s
 
 abbrev Inv-loop : tie.InvT-loop
-Inv-loop part state values at₀ at = Walk part (Over state values) (λ s. all (holds s)) at
+Inv-loop part has values at₀ at = Walk part (Over has values) (λ s. all (holds s)) at
 
 abbrev μ-loop : tie.MeasureT-loop
-μ-loop part state values at₀ at = length part - at
+μ-loop part has values at₀ at = length part - at
 
 loop-holds : tie.Need-loop-holds Inv-loop μ-loop
 loop-holds c = walk-start (Over _ _) (λ s. all (holds s)) (c .before .before .pre .left .bytes .within)
@@ -46,18 +47,17 @@ shared-slice-read-if1 c =
     let m = c .before .before in
     let n = m .before .before in
     let p = n .before .before .before .before .pre in
-    need-room (p .row)
-    (walk-found (Over _ _) (λ s. all (holds s)) (n .before .loop .inv) (p .ranges) (p .block) (p .over) (p .left) (p .row) (next-is (n .next .ensures) (m .item .given .1)) .ok)
+    omega (arith, p .row .long, walk-found (Over _ _) (λ s. all (holds s)) (n .before .loop .inv) (p .ranges) (p .block) (p .over) (p .left) (p .row) (next-is (n .next .ensures) (m .item .given .1)) .ok)
 
 returns : tie.Need-returns Inv-loop μ-loop
-unfolding applicable
+unfolding applicable holds
 returns c =
     let m = c .before .before .before in
     let n = m .before .before in
     record {
       is =
           walk-stop (Over _ _) (λ s. all (holds s)) (n .before .loop .inv) (next-is (n .next .ensures) (m .item .given .1))
-          (λ k s w h. all-false (holds s) (need-no w h (c .if1 .taken)));
+          (λ k s w h. all-false (holds s) (sym (w .has _ h) ∙ not-true _ (c .if1 .taken)));
     }
 
 enum-known-item-2 : tie.Need-enum-known-item-2 Inv-loop μ-loop
@@ -103,14 +103,14 @@ inside c =
 
 -- it does not change the answer
 abbrev Passes : tie.Start Inv-loop μ-loop → ItemAt → Type 0
-Passes c x = Passing (c .args .part .now) (Over (c .args .state .now) (c .args .values .now)) (λ s. all (holds s)) x
+Passes c x = Passing (c .args .part .now) (Over (c .args .has .now) (c .args .values .now)) (λ s. all (holds s)) x
 
 passes : (c : tie.At-match-came Inv-loop μ-loop) → Passes (c .before .before .before .before .before) (c .match .item)
 unfolding holds
 passes c =
     let start = c .before .before .before .before .before in
     ⊎-elim
-    (λ w. subst (Passes start) (sym (w .5)) (λ k s v h. all-true (holds s) (need-yes v h (w .4 .left))))
+    (λ w. subst (Passes start) (sym (w .5)) (λ k s v h. all-true (holds s) (sym (v .has _ h) ∙ not-false _ (w .4 .left))))
     (⊎-elim
     (λ w.
     subst (Passes start) (sym (w .5))

@@ -18,7 +18,7 @@ use Rattle.model.specs.Layer.{Layer, holdsIn}
 use Rattle.model.specs.Theorems.Printing.Items.{itemOperands, closing}
 use Rattle.model.specs.Theorems.Blocking.Parts.{unmetSize}
 use Rattle.block.specs.Items.{Ranges, Left, readable, next-ahead}
-use Rattle.block.specs.Blocks.{Walk, Passing, walk-start, walk-found, walk-next, next-is, LayerState, layer-need-room, layer-need, condition-bound, layer-summable, layer-condition-test}
+use Rattle.block.specs.Blocks.{Walk, Passing, walk-start, walk-found, walk-next, next-is, LayerState, condition-bound, layer-summable, layer-condition-test}
 use Rattle.block.specs.Unmet.{unmet-met, unmet-here, unmet-end}
 use Rattle.block.specs.declared.ItemAt.{ItemAt}
 use Rattle.block.proofs.Passed.{no-condition, before-end}
@@ -51,8 +51,7 @@ shared-slice-read-if1 c =
     let m = c .before .before in
     let n = m .before .before in
     let p = n .before .before .before .before .pre in
-    layer-need-room (p .row)
-    (walk-found (Over _ _) unmetSize (n .before .loop .inv) (p .ranges) (p .block) (p .over) (p .left) (p .row) (next-is (n .next .ensures) (m .item .given .1)) .ok)
+    omega (arith, p .row .long, walk-found (Over _ _) unmetSize (n .before .loop .inv) (p .ranges) (p .block) (p .over) (p .left) (p .row) (next-is (n .next .ensures) (m .item .given .1)) .ok)
 
 -- the proposition that the layer lacks
 lacked :
@@ -62,12 +61,12 @@ lacked :
     Left k (a .part .now) 1 b
     → LayerState k (a .has .now) (a .layer .now) l
     → (2 ≤ m .item .given .0 .1 .0) × (m .item .given .0 .1 .0 - 2 + unmetSize l b ≡ length (a .part .now))
-unfolding closing itemOperands
+unfolding closing itemOperands holdsIn
 lacked c k b l left state =
     let m = c .before .before .before in
     let n = m .before .before in
     let f = walk-found (Over _ _) unmetSize (n .before .loop .inv) k b l left state (next-is (n .next .ensures) (m .item .given .1)) in
-    unmet-here l b (n .before .loop .inv .reading k b l left state) f (layer-need state (f .ok) (not-true _ (c .if1 .taken)))
+    unmet-here l b (n .before .loop .inv .reading k b l left state) f (sym (state .has _ (f .ok)) ∙ not-true _ (c .if1 .taken))
 
 sub-result : tie.Need-sub-result Inv-loop μ-loop
 sub-result c =
@@ -140,7 +139,7 @@ unfolding holdsIn
 passes c =
     let start = c .before .before .before .before .before in
     ⊎-elim
-    (λ w. subst (Passes start) (sym (w .5)) (λ k s v h. unmet-met s (need _) (layer-need v h (not-false _ (w .4 .left)))))
+    (λ w. subst (Passes start) (sym (w .5)) (λ k s v h. unmet-met s (need _) (sym (v .has _ h) ∙ not-false _ (w .4 .left))))
     (⊎-elim
     (λ w.
     subst (Passes start) (sym (w .5))

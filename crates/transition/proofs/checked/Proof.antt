@@ -2,7 +2,8 @@
 use borrow.Author.Needs.{needs}
 use Rattle.state.specs.Checking.{check-accepted, check-refused}
 use Rattle.output.specs.Answers.{answered-refused}
-use Rattle.transition.specs.Steps.{few-props, few-vars, step-state-refused}
+use Rattle.transition.specs.Turns.{few-props, few-vars}
+use Rattle.transition.specs.Steps.{step-state-refused}
 use Rattle.transition.proofs.checked.Statement.{statement}
 use Rattle.transition.proofs.checked.Tie as tie
 
@@ -10,13 +11,13 @@ check-requires : tie.Need-check-requires
 check-requires c κs =
     let s = c .before .before .before in
     let a = s .args in
-    (few-props (s .pre) (a .state .now) (a .chosen), few-vars (s .pre) (a .state .now) (a .chosen))
+    (few-props (s .pre), few-vars (s .pre))
 
 enum-told : tie.Need-enum-told
 enum-told c = search needs
 
 choose-requires : tie.Need-choose-requires
-choose-requires c κs = (c .before .before .before .before .before .before .before .before .pre, check-accepted (c .before .before .before .before .check .ensures) (c .before .before .enum-told .given .1))
+choose-requires c κs = (c .before .before .before .before .before .before .before .pre, check-accepted (c .before .before .before .check .ensures) (c .before .enum-told .given .1))
 
 enum-known-r : tie.Need-enum-known-r
 enum-known-r c = search needs

@@ -11,7 +11,7 @@ use Rattle.integer.specs.Linear.{back}
 use Rattle.model.specs.Limits.{paper}
 use Rattle.model.specs.Lists.{allBelow}
 use Rattle.model.specs.StateTable.{valueInRange}
-use Rattle.transition.specs.Answers.{allInRange, all-next, all-fails}
+use Rattle.transition.specs.Values.{allInRange, all-next, all-fails}
 use Rattle.transition.proofs.in_range.Statement.{statement}
 use Rattle.transition.proofs.in_range.Tie as tie
 

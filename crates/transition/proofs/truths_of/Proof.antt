@@ -1,7 +1,7 @@
 -- `truths_of` meets its contract. Assumes nothing.
 use mathlib.Core.Bool.{false}
 use borrow.Author.Needs.{needs}
-use Rattle.transition.specs.Answers.{loaded}
+use Rattle.transition.specs.Values.{loaded}
 use Rattle.transition.proofs.truths_of.Statement.{statement}
 use Rattle.transition.proofs.truths_of.Tie as tie
 

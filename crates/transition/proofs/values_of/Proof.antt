@@ -2,7 +2,7 @@
 use borrow.Author.Needs.{needs}
 use lib.IntN.{pos}
 use Rattle.model.specs.StateTable.{stateOf}
-use Rattle.transition.specs.Answers.{loaded}
+use Rattle.transition.specs.Values.{loaded}
 use Rattle.transition.proofs.values_of.Statement.{statement}
 use Rattle.transition.proofs.values_of.Tie as tie
 

@@ -2,7 +2,7 @@
 
 use crate::engine::{Engine, FULL, RIG, RIG_MOVES, RIG_NUMBERS, RIG_VARIABLES};
 use crate::outcome::{Done, Misuse, Outcome};
-use crate::{pddl, planning, rewrite, show, step, timetable, why, words};
+use crate::{check, pddl, planning, rewrite, show, step, timetable, why, words};
 use std::ffi::OsString;
 
 pub struct Command {
@@ -33,6 +33,7 @@ const ALL: &[Command] = &[
     planning::PLAN,
     why::WHY,
     step::STEP,
+    check::CHECK,
     timetable::TIMETABLE,
     pddl::PDDL,
     rewrite::REWRITE,
@@ -40,8 +41,8 @@ const ALL: &[Command] = &[
 
 const INTRODUCTION: &str = "\
 lapyndo puts a campaign into words: its table, its plan or why there is none, the state after a
-move, and its timetable in the hours of a closure; writes it as files for other planners; and
-rewrites stored tables.
+move, and its timetable in the hours of a closure; writes it as files for other planners, and
+checks the lists of moves that these deliver; and rewrites stored tables.
 
 A FILE is a table, written (head 54) or normal (head 4E). A FOLDER has the table in task.bin
 and the state in state.bin; timetable also wants windows.bin and durations.bin there.
@@ -51,7 +52,7 @@ list are numbered from 0.
 ";
 
 const STATUS: &str = "\
-Exit status: 0 an answer (\"no plan\" is one), 1 a refusal, 2 wrong use.
+Exit status: 0 an answer (\"no plan\" is one), 1 a refusal, 2 wrong use; of check 0 yes and 3 no.
 Answers and refusals go to standard output, wrong use to standard error.
 A refusal is explained: its number, its place, and what stands there.
 ";

@@ -84,28 +84,41 @@ impl Case<'_> {
     }
 
     fn step_rows(&self, reason: Reason) -> Rows {
+        let why = self.why(reason).into_iter().map(|why| ("why", why));
+        let place = ("where", format!("move a{}", self.mv));
+        [place].into_iter().chain(why).collect()
+    }
+
+    /// Why the move cannot be made in the state: all that stands against it.
+    pub fn why(&self, reason: Reason) -> Vec<String> {
         let scan = Scan::of(self.table);
-        let [_, _, moves] = scan.counts();
-        let mut rows = vec![("where", format!("move a{}", self.mv))];
-        if reason == Reason::NoSuchBlock {
-            let last = moves.checked_sub(1);
-            let named = last.map_or_else(String::new, |last| format!(": a0 to a{last}"));
-            let moves = words::count(moves, "move");
-            rows.push(("why", format!("{} has {moves}{named}", self.file())));
-            return rows;
+        let block = Block::Move(self.mv as usize);
+        match reason {
+            Reason::NoSuchBlock => {
+                let [_, _, moves] = scan.counts();
+                let last = moves.checked_sub(1);
+                let named = last.map_or_else(String::new, |last| format!(": a0 to a{last}"));
+                let moves = words::count(moves, "move");
+                vec![format!("{} has {moves}{named}", self.file())]
+            }
+            Reason::ConditionsFail => self.standing(|standing| failing(&scan, block, standing)),
+            _ => self.standing(|standing| beyond(&scan, block, standing)),
         }
-        let state = State::of(&scan, self.state);
-        let standing = Standing {
+    }
+
+    /// The parts of the goal that fail in the state.
+    pub fn unmet(&self) -> Vec<String> {
+        let scan = Scan::of(self.table);
+        self.standing(|standing| failing(&scan, Block::Goal, standing))
+    }
+
+    /// How things stand in the state.
+    fn standing<T>(&self, asked: impl FnOnce(&Standing) -> T) -> T {
+        let state = State::of(&Scan::of(self.table), self.state);
+        asked(&Standing {
             proposition: &|p| state.propositions[p],
             variable: &|v| Some(state.values[v].into()),
-        };
-        let block = Block::Move(self.mv as usize);
-        let why = match reason {
-            Reason::ConditionsFail => failing(&scan, block, &standing),
-            _ => beyond(&scan, block, &standing),
-        };
-        rows.extend(why.into_iter().map(|why| ("why", why)));
-        rows
+        })
     }
 
     /// Of a layer that did not fit: the numbers up to it.

@@ -1,4 +1,4 @@
-//! The files of a campaign and of a closure.
+//! The files of a campaign, of a closure and of a list.
 
 use crate::outcome::Misuse;
 use std::ffi::OsStr;
@@ -15,6 +15,8 @@ const STATE_LIMIT: usize = 184;
 /// them: a closure has 64 windows, and each entry takes one of its 1,000,000 minutes at least.
 const WINDOWS_LIMIT: usize = 8_000;
 const DURATIONS_LIMIT: usize = 8_000_000;
+/// The longest list that is read. The engine has no such limit.
+const LIST_LIMIT: usize = 16_000_000;
 
 /// What the two files of a campaign are called.
 pub const TASK: &str = "task.bin";
@@ -65,6 +67,11 @@ impl Closure {
 
 pub fn table(file: &Path) -> Result<Vec<u8>, Misuse> {
     bytes(file, TABLE_LIMIT, "no table has more")
+}
+
+/// A list of moves, bytes or text.
+pub fn list(file: &Path) -> Result<Vec<u8>, Misuse> {
+    bytes(file, LIST_LIMIT, "no longer list is read")
 }
 
 /// The bytes of a file, of which no more are read than the limit and one; and what is said of the limit.

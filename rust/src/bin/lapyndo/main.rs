@@ -1,12 +1,13 @@
 //! `lapyndo COMMAND ..`: a campaign's table, plan and steps in words, for people, and as files for
-//! other planners; its timetable in the hours of a closure; and stored tables rewritten. With `--rig`
-//! in front, by the rig's calls.
+//! other planners; lists of theirs checked; its timetable in the hours of a closure; and stored tables
+//! rewritten. With `--rig` in front, by the rig's calls.
 //!
 //! Every answer comes from the proved engine. This program reads and writes files, calls it, and
 //! puts answers and refusals into words.
 
 #![forbid(unsafe_code)]
 
+mod check;
 mod circle;
 mod closure;
 mod commands;
@@ -15,6 +16,7 @@ mod evaluate;
 mod explain;
 mod files;
 mod layer;
+mod list;
 mod outcome;
 mod parts;
 mod pddl;

@@ -10,6 +10,8 @@ pub enum Outcome {
     Answer(String),
     /// A refusal of the engine, explained: exit status 1.
     Refused(String),
+    /// An answer that is no, of a command that asks whether something is so: exit status 3.
+    No(String),
 }
 
 /// Wrong use, in words for standard error: exit status 2.
@@ -23,6 +25,7 @@ pub fn report(done: Done) -> ExitCode {
     let written = match done {
         Ok(Outcome::Answer(text)) => written(&text).map(|()| 0),
         Ok(Outcome::Refused(text)) => written(&text).map(|()| 1),
+        Ok(Outcome::No(text)) => written(&text).map(|()| 3),
         Err(misuse) => Err(misuse),
     };
     written.map_or_else(complain, ExitCode::from)

@@ -19,7 +19,7 @@ The table in FOLDER is a written one. Two files are written beside it, or replac
 has the moves, problem.pddl the state and the goal. docs/PDDL.md describes their text.
 Action an is move n, and a list of actions is a plan of these files exactly when the list of
 moves solves the table from the state. PDDL sets no limit to values; step refuses a move that
-takes one beyond 1000000 or -1000000.
+takes one beyond 1000000 or -1000000, and check finds it in a planner's list.
 A refusal writes no file.
 ",
     run: Run::Full(run),

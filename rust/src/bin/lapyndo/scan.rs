@@ -41,6 +41,8 @@ const fn form(
 
 const WRITTEN: u8 = 0x54;
 pub const NORMAL: u8 = 0x4E;
+/// Ends a table.
+pub const END: u8 = 0x45;
 
 const FORMS: [Form; 11] = [
     form(
@@ -57,7 +59,7 @@ const FORMS: [Form; 11] = [
     ),
     form(0x41, Code::Move, "opens a move", &[]),
     form(0x47, Code::Goal, "opens the goal", &[]),
-    form(0x45, Code::End, "ends the table", &[]),
+    form(END, Code::End, "ends the table", &[]),
     form(0x50, Code::Needs, "needs a proposition", &[("p", 1)]),
     form(0x2B, Code::Adds, "adds a proposition", &[("p", 1)]),
     form(0x2D, Code::Deletes, "deletes a proposition", &[("p", 1)]),

@@ -4,12 +4,12 @@ use crate::commands::{Command, Run};
 use crate::engine::Engine;
 use crate::explain::Case;
 use crate::files::Folder;
+use crate::list;
 use crate::outcome::{Done, Misuse, Outcome};
 use crate::scan::{Block, Scan};
-use crate::state::State;
+use crate::state::{changes, State};
 use crate::words;
 use std::ffi::{OsStr, OsString};
-use std::fmt::Display;
 
 pub const STEP: Command = Command {
     name: "step",
@@ -45,46 +45,11 @@ fn run(engine: &'static Engine, words: &[OsString]) -> Done {
     )))
 }
 
-/// A move's number, with or without its a.
 fn number(word: &OsStr) -> Result<u64, Misuse> {
     let text = word.to_string_lossy();
-    let digits = text.strip_prefix('a').unwrap_or(&text);
-    let is_number = digits.bytes().all(|byte| byte.is_ascii_digit());
-    let number = digits.parse().ok().filter(|_| is_number);
-    number.ok_or_else(|| {
+    list::number(&text).ok_or_else(|| {
         Misuse(format!(
             "'{text}' is no move: a move is a number, such as 3 or a3"
         ))
     })
-}
-
-fn changes(before: &State, after: &State) -> String {
-    let mut text = String::new();
-    let propositions = before.propositions.iter().zip(&after.propositions);
-    for (p, (old, new)) in propositions
-        .enumerate()
-        .filter(|(_, (old, new))| old != new)
-    {
-        text += &line(&format!("p{p}"), old, new);
-    }
-    for (v, (old, new)) in before.values.iter().zip(&after.values).enumerate() {
-        text += &line(&format!("v{v}"), old, new);
-    }
-    let all = after.propositions.iter().enumerate();
-    let held: Vec<String> = all
-        .filter(|(_, held)| **held)
-        .map(|(p, _)| format!("p{p}"))
-        .collect();
-    let held = match held.is_empty() {
-        true => "none".into(),
-        false => held.join(", "),
-    };
-    text + &format!("  true  {held}\n")
-}
-
-fn line<T: Display + PartialEq>(name: &str, old: &T, new: &T) -> String {
-    match old == new {
-        true => format!("  {name:4}  {new}\n"),
-        false => format!("  {name:4}  {old} -> {new}\n"),
-    }
 }

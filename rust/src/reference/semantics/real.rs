@@ -39,7 +39,8 @@ pub fn real_run(table: &[u8], state: &[u8], moves: &[u64]) -> Result<RealRun, Re
 }
 
 impl RealState {
-    pub(super) fn start(table: &Table, state: &State) -> RealState {
+    /// Of a table of either kind.
+    pub fn start(table: &Table, state: &State) -> RealState {
         let values = match table.kind {
             Kind::Written => state.values.clone(),
             Kind::Normal => state.signed_values(),
@@ -50,7 +51,8 @@ impl RealState {
         }
     }
 
-    pub(super) fn meets(&self, block: &Block) -> bool {
+    /// Whether all conditions of a block are true.
+    pub fn meets(&self, block: &Block) -> bool {
         block.required().all(|p| self.propositions[p])
             && block.conditions().all(|c| self.meets_condition(c))
     }
@@ -86,7 +88,8 @@ impl RealState {
         }
     }
 
-    fn after(&self, block: &Block) -> RealState {
+    /// The state after a move, whose conditions are not asked for.
+    pub fn after(&self, block: &Block) -> RealState {
         let mut after = self.clone();
         block.added().for_each(|p| after.propositions[p] = true);
         block.deleted().for_each(|p| after.propositions[p] = false);

@@ -21,6 +21,16 @@ impl Whole {
         }
     }
 
+    /// The number, if it has one digit at most.
+    pub fn small(&self) -> Option<i64> {
+        let size = match self.digits[..] {
+            [] => 0,
+            [digit] => i64::from(digit),
+            _ => return None,
+        };
+        Some(if self.negative { -size } else { size })
+    }
+
     /// The product with a number of one digit.
     pub fn times(&self, factor: i32) -> Whole {
         let mut carry = 0;
@@ -149,6 +159,15 @@ mod tests {
                 let product = Whole::from(a).times(factor);
                 assert_eq!(product, Whole::from(a * i128::from(factor)));
             }
+        }
+    }
+
+    #[test]
+    fn numbers_of_one_digit_are_small() {
+        for number in NUMBERS {
+            let small = i64::try_from(number).ok();
+            let expected = small.filter(|n| n.unsigned_abs() <= 0xFFFF_FFFF);
+            assert_eq!(Whole::from(number).small(), expected, "{number}");
         }
     }
 

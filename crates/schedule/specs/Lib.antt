@@ -1,0 +1,4 @@
+pub mod Run
+pub mod Check
+pub mod Exports
+pub mod Theorems
