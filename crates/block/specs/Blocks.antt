@@ -14,7 +14,7 @@ use Rattle.model.specs.Task.{Term, Comparison, Condition, Effect, Item, need, a
 use Rattle.model.specs.Command.{comparisonCode}
 use Rattle.model.specs.Move.{State, sum, compares, holds, applicable, value}
 use Rattle.model.specs.Layer.{Value, finite, Layer, plus, layerSum, reaches, holdsIn, usable, layerValue}
-use Rattle.block.specs.Items.{Ranges, Left, Terms, Followed, ConditionIs, EffectIs, Found, behind, Moves, Next, next-ahead, bound-small, base-small}
+use Rattle.block.specs.Items.{Ranges, Left, left-end, Terms, Followed, ConditionIs, EffectIs, Found, behind, Moves, Next, next-ahead, bound-small, base-small}
 use Rattle.block.specs.Sums.{Row, Summable, LayerRow, Encoded, LayerSummable, IsValue, IsLayerValue}
 use Rattle.block.specs.declared.ItemAt.{ItemAt}
 use Rattle.block.specs.declared.ItemAt.the-variants.{Need, Add, Delete, Condition as ConditionAt, Effect as EffectAt, End}
@@ -123,6 +123,19 @@ module _ {I X : Type 0} {part : List ℕ} (over : Ranges → I → Type 0) (g : 
         go (ConditionAt c z from n after) h f = reading-stop r (f .followed) (h k s (f .it) o (f .is))
         go (EffectAt kd v z from n after) h f = reading-stop r (f .followed) (h k s (f .it) o (f .var) (f .is))
         go End h f = reading-end r f (h s)
+
+-- at the part's end no item is left
+pub walk-done :
+    {I X : Type 0} {part : List ℕ} (over : Ranges → I → Type 0) (g : I → Block → X) {at : ℕ}
+    → Walk part over g at
+    → length part ≤ at
+    → {x : X}
+    → ((s : I) → g s [] ≡ x)
+    → (k : Ranges) (b : Block) (s : I)
+    → Left k part 1 b
+    → over k s
+    → x ≡ g s b
+walk-done over g w h e k b s l o = let r = w .reading k b s l o in reading-end r (left-end h (r .left)) (e s)
 
 -- ---- how the questions about a block go by its first item
 

@@ -83,6 +83,17 @@ pub pass-room : {k : Ranges} {part : List ℕ} {from n : ℕ} {rest : Block} →
 pass-room p =
     omega (arith, at-length (p .bytes), length-append (termBytes (p .ts)) (closing (p .item) ++ itemsBytes (p .others)), length-append (closing (p .item)) (itemsBytes (p .others)), closing-long (p .item))
 
+-- where a term's command stands, a term is left
+pub pass-more :
+    {k : Ranges} {part : List ℕ} {from n : ℕ} {rest : Block} (p : Passed k part from n rest)
+    → getD part (from + 4 * n) 0 ≡ 0x57
+    → 0 < length (p .ts)
+pass-more {part} {from} {n} p e = go (p .ts) (p .bytes)
+  where
+    go : (ts : List Term) → At part (from + 4 * n) (termBytes ts ++ (closing (p .item) ++ itemsBytes (p .others))) → 0 < length ts
+    go [] a = absurd (unfold termBytes in (closing-head (p .item) (itemsBytes (p .others)) a e))
+    go (t ∷ ts) a = omega arith
+
 pub pass-step :
     {k : Ranges} {part : List ℕ} {from n : ℕ} {rest : Block}
     → Passed k part from n rest
@@ -287,3 +298,20 @@ module _ {k : Ranges} {part : List ℕ} {from n : ℕ} {rest : Block} (closed : 
                 };
             followed = constant-followed (effect q) (q .base) (closed .others) (c .is) (c .ok) (c .oks) number (omega arith);
           }
+
+  -- whose code is 46
+  pub closes-effect :
+      (getD part (from + 4 * n) 0 ≡ 0x50 → ⊥)
+      → (getD part (from + 4 * n) 0 ≡ 0x2B → ⊥)
+      → (getD part (from + 4 * n) 0 ≡ 0x2D → ⊥)
+      → (getD part (from + 4 * n) 0 ≡ 0x43 → ⊥)
+      → getD part (from + 4 * n) 0 ≡ 0x46
+  unfolding closing itemCommand itemOperands codeOf
+  closes-effect h1 h2 h3 h4 = go (closed .item) (closed .by)
+    where
+      go : (i : Item) → ClosedBy k part from n rest i (closed .others) → getD part (from + 4 * n) 0 ≡ 0x46
+      go (need q) c = absurd (h1 (at-head (c .bytes)))
+      go (add q) c = absurd (h2 (at-head (c .bytes)))
+      go (delete q) c = absurd (h3 (at-head (c .bytes)))
+      go (condition q) c = absurd (h4 (at-head (c .bytes)))
+      go (effect q) c = at-head (c .bytes)

@@ -8,4 +8,5 @@ pub mod Terms
 pub mod Remaining
 pub mod Blocks
 pub mod Unmet
+pub mod Streams
 pub mod Parts

@@ -13,9 +13,10 @@ ghost use Rattle.model.specs.Layer.{Value, reaches};
 ghost use Rattle.model.specs.Memory.{encode};
 ghost use Rattle.block.specs.Items.{Ranges, Left, Readable, behind, Next, Moves, Found, TermAt, IsVariable, IsWeight, IsScaled};
 ghost use Rattle.block.specs.Closing.{Closed, Closable};
-ghost use Rattle.block.specs.Sums.{Summable, IsSum, IsValue, LayerSummable, IsLayerSum, IsLayerValue, isMark};
-ghost use Rattle.block.specs.Blocks.{Testable, IsTest, IsApplicable, LayerTestable, IsLayerTest, IsUsable};
+ghost use Rattle.block.specs.Sums.{Summable, IsSum, LayerSummable, IsLayerSum, IsLayerValue, isMark};
+ghost use Rattle.block.specs.Blocks.{Testable, IsApplicable, LayerTestable, IsLayerTest, IsUsable};
 ghost use Rattle.block.specs.Unmet.{IsUnmet};
+ghost use Rattle.block.specs.Streams.{Addable, SumAt, widthBy, Judged, Judgement};
 
 // One item, with the offset behind it. The terms of a condition's or an effect's sum stand from `from` on.
 pub enum ItemAt {
@@ -184,14 +185,6 @@ pub fn sum_real(part: &[u8], from: usize, n: usize, values: &[i64]) -> i64
     total
 }
 
-// An effect's value in a state: its sum and its constant.
-pub fn real_value(part: &[u8], from: usize, n: usize, base: i64, values: &[i64]) -> i64
-    requires { ⌜ (Summable (now part) from n (now values)) × (natAbs base ≤ 1000000) ⌝ }
-    ensures { λ r. ⌜ IsValue (now (part .entry)) from n base (now (values .entry)) r ⌝ }
-{
-    integer::add(sum_real(part, from, n, values), base)
-}
-
 // Is the number the mark for unbounded?
 pub fn is_unbounded(x: i64) -> bool
     ensures { λ r. ⌜ r ≡ isMark x ⌝ }
@@ -251,21 +244,6 @@ pub fn compare(comparison: u8, total: i64, c: i64) -> bool
     }
 }
 
-// Does the condition hold in a state?
-pub fn condition_holds(
-    part: &[u8],
-    comparison: u8,
-    bound: i64,
-    from: usize,
-    n: usize,
-    values: &[i64],
-) -> bool
-    requires { ⌜ Summable (now part) from n (now values) ⌝ }
-    ensures { λ r. ⌜ IsTest (now (part .entry)) comparison bound from n (now (values .entry)) r ⌝ }
-{
-    compare(comparison, sum_real(part, from, n, values), bound)
-}
-
 // Does the condition, a sum of at least `bound`, hold in a layer?
 pub fn condition_reached(part: &[u8], bound: i64, from: usize, n: usize, layer: &[i64]) -> bool
     requires { ⌜ LayerSummable (now part) from n (now layer) ⌝ }
@@ -274,38 +252,70 @@ pub fn condition_reached(part: &[u8], bound: i64, from: usize, n: usize, layer: 
     reaches(sum_layer(part, from, n, layer), bound)
 }
 
-// Do all conditions of the block hold in the state of these propositions and values?
+// A sum over the values of a state: the number of its terms, and what they add up to.
+pub struct Sum {
+    pub terms: usize,
+    pub total: i64,
+}
+
+// The sum of the terms from `from` on, before the command that closes them or has none.
+pub fn sum_at(part: &[u8], from: usize, values: &[i64]) -> Sum
+    requires { ⌜ Addable (now part) from (now values) ⌝ }
+    ensures { λ r. ⌜ SumAt (now (part .entry)) from (now (values .entry)) (r .terms) (r .total) ⌝ }
+{
+    let mut n = 0;
+    let mut total: i64 = 0;
+    while part[from + 4 * n] == 0x57 {
+        let at = from + 4 * n;
+        let v = variable(part, at);
+        let x = values[v];
+        total = integer::add(total, scaled(part, at, x));
+        n += 1;
+    }
+    Sum { terms: n, total }
+}
+
+// The bytes of a command in a block, with its operands.
+pub fn width(command: u8) -> usize
+    ensures { λ r. ⌜ r ≡ widthBy command ⌝ }
+{
+    match command {
+        0x57 => 4,
+        0x43 => 6,
+        0x46 => 7,
+        _ => 2,
+    }
+}
+
+// Is the command behind the `n` terms from `from` on, which add up to `total`, a condition that fails?
+pub fn fails(part: &[u8], from: usize, n: usize, total: i64, has: &[bool]) -> bool
+    requires { ⌜ Judged (now part) from n total (now has) ⌝ }
+    ensures { λ r. ⌜ Judgement (now (part .entry)) from n total (now (has .entry)) r ⌝ }
+{
+    let at = from + 4 * n;
+    match part[at] {
+        0x50 => !has[index(part[at + 1])],
+        0x43 => !compare(part[at + 1], total, integer::i32_at(part, at + 2)),
+        _ => false,
+    }
+}
+
+// Do all conditions of the block hold in the state of these propositions and values? Each term is read once, on the way.
 pub fn applicable(part: &[u8], has: &[bool], values: &[i64]) -> bool
     requires { ⌜ Testable (now part) (now has) (now values) ⌝ }
     ensures { λ r. ⌜ IsApplicable (now (part .entry)) (now (has .entry)) (now (values .entry)) r ⌝ }
 {
-    let mut at = 1;
-    loop {
-        let item = next(part, at);
-        match item {
-            ItemAt::Need { prop, after: _ } => {
-                if !has[prop] {
-                    return false;
-                }
-            }
-            ItemAt::Condition {
-                comparison,
-                bound,
-                from,
-                terms,
-                after: _,
-            } => {
-                if !condition_holds(part, comparison, bound, from, terms, values) {
-                    return false;
-                }
-            }
-            ItemAt::End => {
-                return true;
-            }
-            _ => {}
+    let mut from = 1;
+    while from < part.len() {
+        let sum = sum_at(part, from, values);
+        let n = sum.terms;
+        let total = sum.total;
+        if fails(part, from, n, total, has) {
+            return false;
         }
-        at = behind(item);
+        from = from + 4 * n + width(part[from + 4 * n]);
     }
+    true
 }
 
 // The offset in the part of the first 50 or 43 that the layer of these propositions and values does not meet; the part's length where

@@ -1,5 +1,5 @@
 // Checks a bought list of moves against a written table and a state (document 02, request 9). The table is read once and the state is kept
-// in two arrays, so that an entry costs its block; the lent output is touched by a yes alone.
+// in arrays, so that an entry costs its block; the lent output is touched by a yes alone.
 ghost use mathlib.Core.Path.{_≡_};
 ghost use mathlib.Core.Option.{none};
 ghost use Rattle.model.specs.Limits.{paper};
@@ -25,22 +25,37 @@ enum Walked {
     Stopped { index: usize, fault: Fault },
 }
 
-// Makes the moves of the list, one after the other, on the state that two arrays hold.
+// Makes the moves of the list, one after the other, on the state that two pairs of arrays hold.
 fn walk(
     table: &[u8],
     marks: &[usize],
+    props: usize,
     vars: usize,
     moves: usize,
     list: &[u8],
-    has: &mut [bool],
+    had: &mut [bool; 120],
     values: &mut [i64; 16],
+    has: &mut [bool; 120],
+    next: &mut [i64; 16],
 ) -> Walked
-    requires { ⌜ Turnable (now table) (now marks) vars moves (now has) (now values) ⌝ }
-    ensures { λ r. ⌜ WalkedOut (now (table .entry)) (now (marks .entry)) vars moves (now (list .entry)) (now (has .entry)) (now (values .entry)) (now (has .exit)) (now (values .exit)) r ⌝ }
+    requires { ⌜ Turnable (now table) (now marks) props vars moves (now had) (now values) (now has) (now next) ⌝ }
+    ensures { λ r. ⌜ WalkedOut (now (table .entry)) (now (marks .entry)) props vars moves (now (list .entry)) (now (had .entry)) (now (values .entry)) (now (has .entry)) (now (next .entry)) (now (had .exit)) (now (values .exit)) r ⌝ }
 {
     let mut i = 0;
     while i < list.len() {
-        match transition::make_move(table, marks, vars, moves, list[i] as u64, has, values) {
+        let chosen = list[i] as u64;
+        match transition::make_move(
+            table,
+            marks,
+            props,
+            vars,
+            moves,
+            chosen,
+            had,
+            values,
+            has,
+            next,
+        ) {
             Turn::Made => {
                 i += 1;
             }
@@ -55,7 +70,7 @@ fn walk(
 // The answer in the state after the list: "goal not met", or yes with that state.
 fn finish(
     goal: &[u8],
-    has: &[bool],
+    has: &[bool; 120],
     values: &[i64; 16],
     props: usize,
     vars: usize,
@@ -87,12 +102,26 @@ fn follow(
     requires { ⌜ (Read (now table) (now marks) props vars moves) × (stateRefusal paper props vars (now state) ≡ none) ⌝ }
     ensures { λ r. ⌜ Replied (checkTable paper (reading paper (only written) (now (table .entry))) (now (state .entry)) (now (list .entry))) (now (out .entry)) (now (out .exit)) r ⌝ }
 {
-    let mut has = transition::truths_of(state, props);
+    let mut had = transition::truths_of(state, props);
     let mut values = transition::values_of(state, props, vars);
-    match walk(table, marks, vars, moves, list, &mut has, &mut values) {
+    let mut has = transition::truths_of(state, props);
+    let mut next = transition::values_of(state, props, vars);
+    let walked = walk(
+        table,
+        marks,
+        props,
+        vars,
+        moves,
+        list,
+        &mut had,
+        &mut values,
+        &mut has,
+        &mut next,
+    );
+    match walked {
         Walked::Ended => finish(
             reader::part(table, marks, moves),
-            &has,
+            &had,
             &values,
             props,
             vars,

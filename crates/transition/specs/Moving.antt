@@ -1,4 +1,4 @@
--- One move on the state that two arrays hold: its conditions, its effects, the range of its values. Assumes nothing.
+-- One move on the state that two pairs of arrays hold: its conditions, its effects, the range of its values. Assumes nothing.
 use Prim.Native.Nat.{ℕ, _≤_, _<_}
 use native.Mathlib.Omega.{arith}
 use mathlib.Core.Path.{_≡_, refl, sym, ap, _∙_}
@@ -18,7 +18,7 @@ use Rattle.schedule.specs.declared.Fault.the-variants as fault
 use Rattle.schedule.specs.Check.{rangeFault, blockFault}
 use Rattle.block.specs.Items.{Ranges, Left}
 use Rattle.block.specs.Sums.{Row}
-use Rattle.block.specs.Blocks.{StateRow, Testable, IsApplicable}
+use Rattle.block.specs.Blocks.{StateRow, IsApplicable}
 use Rattle.transition.specs.declared.Turn.{Turn}
 use Rattle.transition.specs.declared.Turn.the-variants as turn
 use Rattle.transition.specs.Running.{Runs, Runnable, Ran, Reached}
@@ -44,6 +44,11 @@ pub record Putable (props vars : ℕ) (has : List Bool) (values : List ℤ) : Ty
   pub state : State
   pub holds : Holds props vars has values state
 
+-- two pairs of arrays hold it
+pub record Twice (props vars : ℕ) (had : List Bool) (values : List ℤ) (has : List Bool) (next : List ℤ) (s : State) : Type 0 where
+  pub old : Holds props vars had values s
+  pub new : Holds props vars has next s
+
 module _ {props vars : ℕ} {has : List Bool} {values : List ℤ} {s : State} (w : Holds props vars has values s) where
   holds-row : Row vars values (s .val)
   holds-row = record { long = w .long-values; same = w .same; size = λ v h. omega (arith, w .small v h) }
@@ -62,114 +67,147 @@ pub record Chosen (part : List ℕ) (props vars : ℕ) (b : Block) : Type 0 wher
   pub once : Once b
 
 -- some block stands there, and the arrays hold some state
-pub record Movable (part : List ℕ) (vars : ℕ) (has : List Bool) (values : List ℤ) : Type 0 where
-  pub props : ℕ
+pub record Movable (part : List ℕ) (props vars : ℕ) (had : List Bool) (values : List ℤ) (has : List Bool) (next : List ℤ) : Type 0 where
   pub block : Block
   pub over : State
   pub chosen : Chosen part props vars block
-  pub holds : Holds props vars has values over
+  pub holds : Twice props vars had values has next over
 
 unfoldable pub turnFault : Turn → Option Fault
 turnFault turn.Made = none
 turnFault (turn.Fails f) = some f
 
 -- what became of block b in state s: its fault, or the arrays hold the state after it
-pub record Became (props vars : ℕ) (s : State) (b : Block) (o : Option Fault) (has : List Bool) (values : List ℤ) (r : Turn) : Type 0 where
+pub record Became (props vars : ℕ) (s : State) (b : Block) (o : Option Fault) (had : List Bool) (values : List ℤ) (has : List Bool) (next : List ℤ) (r : Turn) : Type 0 where
   pub fault : turnFault r ≡ o
-  pub after : turnFault r ≡ none → Holds props vars has values (real b s)
+  pub after : turnFault r ≡ none → Twice props vars had values has next (real b s)
 
 -- in every reading
-pub record Moved (part : List ℕ) (vars : ℕ) (has : List Bool) (values : List ℤ) (has′ : List Bool) (values′ : List ℤ) (r : Turn) : Type 0 where
-  pub is :
-      (props : ℕ) (b : Block) (s : State)
-      → Chosen part props vars b
-      → Holds props vars has values s
-      → Became props vars s b (blockFault paper vars s b) has′ values′ r
+module _ (part : List ℕ) (props vars : ℕ) (had : List Bool) (values : List ℤ) (has : List Bool) (next : List ℤ) where
+  pub record Moved (had′ : List Bool) (values′ : List ℤ) (has′ : List Bool) (next′ : List ℤ) (r : Turn) : Type 0 where
+    pub is :
+        (b : Block) (s : State)
+        → Chosen part props vars b
+        → Twice props vars had values has next s
+        → Became props vars s b (blockFault paper vars s b) had′ values′ has′ next′ r
 
--- ---- its conditions
+-- ---- its run
 
-module _ {part : List ℕ} {vars : ℕ} {has : List Bool} {values : List ℤ} where
-  pub move-testable : Movable part vars has values → Testable part has values
-  move-testable m =
-      record { ranges = rangesOf (m .props) vars; block = m .block; over = m .over; left = m .chosen .left; row = holds-state (m .holds) }
+-- a block is run on `has` and `next`, its conditions over `had` and `values`
+pub record Triable (part : List ℕ) (had : List Bool) (values : List ℤ) (has : List Bool) (next : List ℤ) : Type 0 where
+  pub runnable : Runnable part values has next
+  pub row : StateRow (runnable .ranges) had values (runnable .over)
 
-  module _ {t : Bool} (q : IsApplicable part has values t) where
-    pub move-applicable : {props : ℕ} {b : Block} {s : State} → Chosen part props vars b → Holds props vars has values s → t ≡ applicable s b
-    move-applicable {props} {b} {s} c w = q .is (rangesOf props vars) b s (c .left) (holds-state w)
+-- whether its conditions hold; where they do, it is run
+pub record Tried (part : List ℕ) (had : List Bool) (values : List ℤ) (has : List Bool) (next : List ℤ) (has′ : List Bool) (next′ : List ℤ) (r : Bool) : Type 0 where
+  pub test : IsApplicable part had values r
+  pub ran : r ≡ true → Ran part values has next has′ next′
+
+-- the new values are taken over, if all are in range
+pub record KeptValues (values : List ℤ) (next : List ℤ) (vars : ℕ) (r : Bool) : Type 0 where
+  pub test : r ≡ allInRange next vars
+  pub kept : r ≡ true → (v : ℕ) → v < vars → getD values v (pos 0) ≡ getD next v (pos 0)
+
+module _ {part : List ℕ} {props vars : ℕ} {had : List Bool} {values : List ℤ} {has : List Bool} {next : List ℤ} where
+  move-runs : {b : Block} {s : State} → Chosen part props vars b → Twice props vars had values has next s → Runs part values has next (rangesOf props vars) b s
+  move-runs c w =
+      record {
+        left = c .left;
+        once = c .once;
+        row = holds-row (w .old);
+        truths = w .new .truths;
+        next-row = w .new .same;
+        long-has = w .new .long-has;
+        long-next = w .new .long-values;
+      }
+
+  pub move-triable : Movable part props vars had values has next → Triable part had values has next
+  move-triable m =
+      record {
+        runnable = record { ranges = rangesOf props vars; block = m .block; over = m .over; runs = move-runs (m .chosen) (m .holds) };
+        row = holds-state (m .holds .old);
+      }
+
+  module _ {has′ : List Bool} {next′ : List ℤ} {t : Bool} (q : Tried part had values has next has′ next′ t) where
+    tested : {b : Block} {s : State} → Chosen part props vars b → Twice props vars had values has next s → t ≡ applicable s b
+    tested {b} {s} c w = q .test .is (rangesOf props vars) b s (c .left) (holds-state (w .old))
 
     -- "not allowed"
-    pub moved-refused : t ≡ false → {has′ : List Bool} {values′ : List ℤ} → Moved part vars has values has′ values′ (turn.Fails fault.NotAllowed)
+    pub moved-refused : t ≡ false → {had″ : List Bool} {values″ : List ℤ} {has″ : List Bool} {next″ : List ℤ} → Moved part props vars had values has next had″ values″ has″ next″ (turn.Fails fault.NotAllowed)
     unfolding turnFault blockFault
     moved-refused e =
         record {
-          is = λ props b s c w. record { fault = rw (blockFault, sym (move-applicable c w) ∙ e) refl; after = λ f. absurd (some-none f) };
+          is = λ b s c w. record { fault = rw (blockFault, sym (tested c w) ∙ e) refl; after = λ f. absurd (some-none f) };
         }
       where
         some-none : some fault.NotAllowed ≡ none → ⊥
         some-none f = let z : _≡_ {A = ℕ} 0 1 = cc in omega arith
 
-  -- ---- its run
+    module _ (met : t ≡ true) {values′ : List ℤ} {u : Bool} (p : KeptValues values′ next′ vars u) where
+      reached : {b : Block} {s : State} → Chosen part props vars b → Twice props vars had values has next s → Reached (rangesOf props vars) b s has′ next′
+      reached {b} {s} c w = q .ran met .is (rangesOf props vars) b s (move-runs c w)
 
-  move-runs : {props : ℕ} {b : Block} {s : State} → Chosen part props vars b → Holds props vars has values s → Runs part values has values (rangesOf props vars) b s
-  move-runs c w =
-      record {
-        left = c .left;
-        once = c .once;
-        row = holds-row w;
-        truths = w .truths;
-        next-row = w .same;
-        long-has = w .long-has;
-        long-next = w .long-values;
-      }
+      range-same : {b : Block} {s : State} → Chosen part props vars b → Twice props vars had values has next s → u ≡ allBelow (λ v. valueInRange paper (real b s .val v)) vars
+      unfolding allInRange
+      range-same {b} {s} c w =
+          p .test
+          ∙ all-same (λ v. valueInRange paper (getD next′ v (pos 0))) (λ v. valueInRange paper (real b s .val v)) vars
+          (λ v h. ap (valueInRange paper) (reached c w .values v h))
 
-  pub move-runnable : Movable part vars has values → Runnable part values has values
-  move-runnable m =
-      record { ranges = rangesOf (m .props) vars; block = m .block; over = m .over; runs = move-runs (m .chosen) (m .holds) }
+      fault-is :
+          {b : Block} {s : State}
+          → Chosen part props vars b
+          → Twice props vars had values has next s
+          → blockFault paper vars s b ≡ elim u [ true ↦ none | false ↦ some fault.OutOfRange ]
+      unfolding blockFault rangeFault
+      fault-is c w = rw (blockFault, sym (tested c w) ∙ met, rangeFault, sym (range-same c w)) refl
 
-  -- what the arrays hold afterwards, and whether that is in range
-  module _ {has′ : List Bool} {next : List ℤ} (q : Ran part values has values has′ next) {t : Bool} (a : IsApplicable part has values t) (met : t ≡ true) where
-    reached : {props : ℕ} {b : Block} {s : State} → Chosen part props vars b → Holds props vars has values s → Reached (rangesOf props vars) b s has′ next
-    reached {props} {b} {s} c w = q .is (rangesOf props vars) b s (move-runs c w)
+      -- "out of range"
+      pub moved-beyond : u ≡ false → {had″ : List Bool} {values″ : List ℤ} {has″ : List Bool} {next″ : List ℤ} → Moved part props vars had values has next had″ values″ has″ next″ (turn.Fails fault.OutOfRange)
+      unfolding turnFault
+      moved-beyond e =
+          record {
+            is = λ b s c w. record { fault = sym (fault-is c w ∙ rw e refl); after = λ f. absurd (some-none f) };
+          }
+        where
+          some-none : some fault.OutOfRange ≡ none → ⊥
+          some-none f = let z : _≡_ {A = ℕ} 0 1 = cc in omega arith
 
-    range-same : {props : ℕ} {b : Block} {s : State} → Chosen part props vars b → Holds props vars has values s → allInRange next vars ≡ allBelow (λ v. valueInRange paper (real b s .val v)) vars
-    unfolding allInRange
-    range-same {props} {b} {s} c w =
-        all-same (λ v. valueInRange paper (getD next v (pos 0))) (λ v. valueInRange paper (real b s .val v)) vars
-        (λ v h. ap (valueInRange paper) (reached c w .values v h))
-
-    fault-is :
-        {props : ℕ} {b : Block} {s : State}
-        → Chosen part props vars b
-        → Holds props vars has values s
-        → blockFault paper vars s b ≡ elim (allInRange next vars) [ true ↦ none | false ↦ some fault.OutOfRange ]
-    unfolding blockFault rangeFault
-    fault-is c w = rw (blockFault, sym (move-applicable a c w) ∙ met, rangeFault, range-same c w) refl
-
-    -- "out of range"
-    pub moved-beyond : allInRange next vars ≡ false → {values′ : List ℤ} → Moved part vars has values has′ values′ (turn.Fails fault.OutOfRange)
-    unfolding turnFault
-    moved-beyond e =
-        record {
-          is = λ props b s c w. record { fault = sym (fault-is c w ∙ rw e refl); after = λ f. absurd (some-none f) };
-        }
-      where
-        some-none : some fault.OutOfRange ≡ none → ⊥
-        some-none f = let z : _≡_ {A = ℕ} 0 1 = cc in omega arith
-
-    pub moved-made : allInRange next vars ≡ true → length has′ ≡ length has → length next ≡ length values → Moved part vars has values has′ next turn.Made
-    unfolding turnFault
-    moved-made e lh ln =
-        record {
-          is = λ props b s c w.
-              record {
-                fault = sym (fault-is c w ∙ rw e refl);
-                after = λ f.
-                    record {
-                      long-has = omega (arith, lh, w .long-has);
-                      long-values = omega (arith, ln, w .long-values);
-                      truths = reached c w .truths;
-                      same = reached c w .values;
-                      small = λ v h. rw (sym (reached c w .values v h)) (all-small next vars e v h);
-                    };
-              };
-        }
+      pub moved-made :
+          u ≡ true
+          → {had′ : List Bool}
+          → ((i : ℕ) → i < props → getD had′ i false ≡ getD has′ i false)
+          → length had′ ≡ length had
+          → length values′ ≡ length values
+          → length has′ ≡ length has
+          → length next′ ≡ length next
+          → Moved part props vars had values has next had′ values′ has′ next′ turn.Made
+      unfolding turnFault
+      moved-made e {had′} truths lo lv ln lm =
+          record {
+            is = λ b s c w.
+                let small : (v : ℕ) → v < vars → natAbs (real b s .val v) ≤ 1_000_000 =
+                λ v h. rw (sym (reached c w .values v h)) (all-small next′ vars (sym (p .test) ∙ e) v h) in
+                record {
+                  fault = sym (fault-is c w ∙ rw e refl);
+                  after = λ f.
+                      record {
+                        old =
+                            record {
+                              long-has = omega (arith, lo, w .old .long-has);
+                              long-values = omega (arith, lv, w .old .long-values);
+                              truths = λ i h. truths i h ∙ reached c w .truths i h;
+                              same = λ v h. p .kept e v h ∙ reached c w .values v h;
+                              small = small;
+                            };
+                        new =
+                            record {
+                              long-has = omega (arith, ln, w .new .long-has);
+                              long-values = omega (arith, lm, w .new .long-values);
+                              truths = reached c w .truths;
+                              same = reached c w .values;
+                              small = small;
+                            };
+                      };
+                };
+          }

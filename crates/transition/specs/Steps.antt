@@ -23,7 +23,7 @@ use Rattle.state.specs.Storing.{stateIn}
 use Rattle.output.specs.Answers.{Answered}
 use Rattle.transition.specs.declared.Turn.{Turn}
 use Rattle.transition.specs.declared.Turn.the-variants as turn
-use Rattle.transition.specs.Moving.{Holds, turnFault}
+use Rattle.transition.specs.Moving.{Holds, Twice, turnFault}
 use Rattle.transition.specs.Turns.{Read, Turned}
 
 -- the arrays that an accepted state is loaded into hold it
@@ -67,23 +67,23 @@ module _ {t marks : List ℕ} {props vars moves : ℕ} (h : Read t marks props v
   step-state-refused e = answer-is ∙ ap (stepWithState paper (h .table .task) bs b) e
 
   -- the state is accepted, and the arrays that held it went through the move
-  module _ (e : stateRefusal paper props vars bs ≡ none) {has : List Bool} {values : List ℤ} (w : Holds props vars has values (stateOf props bs))
-      {has′ : List Bool} {values′ : List ℤ} {r : Turn} (q : Turned t marks vars moves b has values has′ values′ r)
+  module _ (e : stateRefusal paper props vars bs ≡ none) {had : List Bool} {values : List ℤ} {has : List Bool} {next : List ℤ} (w : Twice props vars had values has next (stateOf props bs))
+      {had′ : List Bool} {values′ : List ℤ} {has′ : List Bool} {next′ : List ℤ} {r : Turn} (q : Turned t marks props vars moves b had values has next had′ values′ has′ next′ r)
     where
       by-fault : {o : Option Fault} → turnFault r ≡ o → stepOf paper (reading paper (only written) t) bs b ≡ stepOutput o (stateBytes props vars (real (moveAt (h .table .task) b) (stateOf props bs)))
       by-fault {o} f =
           let k = h .table .task in
-          let m = q .is props h (stateOf props bs) w in
+          let m = q .is h (stateOf props bs) w in
           answer-is
           ∙ ap (stepWithState paper k bs b) e
           ∙ step-fault paper k bs b
           ∙ ap₂ (λ (p n : ℕ). stepOutput (faultOf paper k (stateOf p bs) b) (stateBytes p n (real (moveAt k b) (stateOf p bs)))) (sym (h .props-is)) (sym (h .vars-is))
           ∙ ap (λ (x : Option Fault). stepOutput x (stateBytes props vars (real (moveAt k b) (stateOf props bs)))) (sym (m .fault) ∙ f)
 
-      pub step-made : r ≡ turn.Made → writes (stateBytes props vars (stateIn has′ values′)) ≡ stepOf paper (reading paper (only written) t) bs b
+      pub step-made : r ≡ turn.Made → writes (stateBytes props vars (stateIn had′ values′)) ≡ stepOf paper (reading paper (only written) t) bs b
       unfolding turnFault stepOutput
       step-made f =
-          ap writes (put-same (q .is props h (stateOf props bs) w .after (ap turnFault f))) ∙ sym (by-fault (ap turnFault f))
+          ap writes (put-same (q .is h (stateOf props bs) w .after (ap turnFault f) .old)) ∙ sym (by-fault (ap turnFault f))
 
       pub step-fails : {f : Fault} → r ≡ turn.Fails f → stepOf paper (reading paper (only written) t) bs b ≡ turns (record { number = faultNumber f; place = 0 })
       unfolding turnFault stepOutput

@@ -19,26 +19,26 @@ use Rattle.reader.specs.Parts.{PartIn, outline-part}
 use Rattle.block.specs.Parts.{move-left}
 use Rattle.transition.specs.declared.Turn.{Turn}
 use Rattle.transition.specs.declared.Turn.the-variants as turn
-use Rattle.transition.specs.Moving.{Holds, Chosen, Movable, turnFault, Became, Moved}
+use Rattle.transition.specs.Moving.{Twice, Chosen, Movable, turnFault, Became, Moved}
 
 -- an accepted written table, with the offsets of its blocks
 abbrev pub Read : List ℕ → List ℕ → ℕ → ℕ → ℕ → Type 0
 Read t marks props vars moves = HeadRead written t marks props vars moves
 
 -- the table is accepted, and the arrays hold some state
-pub record Turnable (t marks : List ℕ) (vars moves : ℕ) (has : List Bool) (values : List ℤ) : Type 0 where
-  pub props : ℕ
+pub record Turnable (t marks : List ℕ) (props vars moves : ℕ) (had : List Bool) (values : List ℤ) (has : List Bool) (next : List ℤ) : Type 0 where
   pub read : Read t marks props vars moves
   pub over : State
-  pub holds : Holds props vars has values over
+  pub holds : Twice props vars had values has next over
 
 -- what became of move b, in every reading
-pub record Turned (t marks : List ℕ) (vars moves b : ℕ) (has : List Bool) (values : List ℤ) (has′ : List Bool) (values′ : List ℤ) (r : Turn) : Type 0 where
-  pub is :
-      (props : ℕ) (h : Read t marks props vars moves) (s : State)
-      → Holds props vars has values s
-      → let k = h .table .task in
-      Became props vars s (moveAt k b) (faultOf paper k s b) has′ values′ r
+module _ (t marks : List ℕ) (props vars moves b : ℕ) (had : List Bool) (values : List ℤ) (has : List Bool) (next : List ℤ) where
+  pub record Turned (had′ : List Bool) (values′ : List ℤ) (has′ : List Bool) (next′ : List ℤ) (r : Turn) : Type 0 where
+    pub is :
+        (h : Read t marks props vars moves) (s : State)
+        → Twice props vars had values has next s
+        → let k = h .table .task in
+        Became props vars s (moveAt k b) (faultOf paper k s b) had′ values′ has′ next′ r
 
 module _ {t marks : List ℕ} {props vars moves : ℕ} (h : Read t marks props vars moves) where
   pub few-props : props ≤ 120
@@ -62,13 +62,13 @@ module _ {t marks : List ℕ} {props vars moves : ℕ} (h : Read t marks props v
         once = move-ok (h .outline .ok) b (omega (arith, h .count)) .once;
       })
 
-module _ {t marks : List ℕ} {vars moves b : ℕ} {has : List Bool} {values : List ℤ} where
+module _ {t marks : List ℕ} {props vars moves b : ℕ} {had : List Bool} {values : List ℤ} {has : List Bool} {next : List ℤ} where
   -- "missing"
-  pub turned-missing : moves ≤ b → {has′ : List Bool} {values′ : List ℤ} → Turned t marks vars moves b has values has′ values′ (turn.Fails fault.Missing)
+  pub turned-missing : moves ≤ b → {had′ : List Bool} {values′ : List ℤ} {has′ : List Bool} {next′ : List ℤ} → Turned t marks props vars moves b had values has next had′ values′ has′ next′ (turn.Fails fault.Missing)
   unfolding turnFault faultOf
   turned-missing l =
       record {
-        is = λ props h s w.
+        is = λ h s w.
             record {
               fault = sym (rw (faultOf, le-ltb b (length (h .table .task .moves)) (omega (arith, h .count))) refl);
               after = λ f. absurd (some-none f);
@@ -79,30 +79,23 @@ module _ {t marks : List ℕ} {vars moves b : ℕ} {has : List Bool} {values : L
       some-none f = let z : _≡_ {A = ℕ} 0 1 = cc in omega arith
 
   module _ (l : b < moves) {part : List ℕ} (f : part ≡ partAt t marks b) where
-    pub turn-movable : Turnable t marks vars moves has values → Movable part vars has values
+    pub turn-movable : Turnable t marks props vars moves had values has next → Movable part props vars had values has next
     turn-movable m =
-        record {
-          props = m .props;
-          block = moveAt (m .read .table .task) b;
-          over = m .over;
-          chosen = turn-chosen (m .read) b l f;
-          holds = m .holds;
-        }
+        record { block = moveAt (m .read .table .task) b; over = m .over; chosen = turn-chosen (m .read) b l f; holds = m .holds }
 
-    pub turned-moved : {has′ : List Bool} {values′ : List ℤ} {r : Turn} → Moved part vars has values has′ values′ r → Turned t marks vars moves b has values has′ values′ r
+    pub turned-moved :
+        {had′ : List Bool} {values′ : List ℤ} {has′ : List Bool} {next′ : List ℤ} {r : Turn}
+        → Moved part props vars had values has next had′ values′ has′ next′ r
+        → Turned t marks props vars moves b had values has next had′ values′ has′ next′ r
     unfolding faultOf
     turned-moved q =
         record {
-          is = λ props h s w.
-              let k = h .table .task in
-              let m = q .is props (moveAt k b) s (turn-chosen h b l f) w in
-              record {
-                fault = m .fault ∙ known h s;
-                after = m .after;
-              };
+          is = λ h s w.
+              let m = q .is (moveAt (h .table .task) b) s (turn-chosen h b l f) w in
+              record { fault = m .fault ∙ known h s; after = m .after };
         }
       where
-        known : {props : ℕ} (h : Read t marks props vars moves) (s : State) → blockFault paper vars s (moveAt (h .table .task) b) ≡ faultOf paper (h .table .task) s b
+        known : (h : Read t marks props vars moves) (s : State) → blockFault paper vars s (moveAt (h .table .task) b) ≡ faultOf paper (h .table .task) s b
         known h s =
             ap (λ (n : ℕ). blockFault paper n s (moveAt (h .table .task) b)) (h .vars-is)
             ∙ sym (rw (faultOf, lt-ltb b (length (h .table .task .moves)) (omega (arith, h .count))) refl)

@@ -1,20 +1,25 @@
--- Values in range, and what is loaded. Assumes nothing.
+-- Values in range, and what is loaded and copied. Assumes nothing.
 use Prim.Native.Nat.{ℕ, _+_, _≤_, _<_}
+use native.Mathlib.Nat.{not-suc-le-zero}
 use native.Mathlib.Numerals.{add-one}
+use native.Mathlib.Omega.{arith}
+use native.Mathlib.Decide.{ℕ-discrete}
 use mathlib.Core.Path.{_≡_, refl, sym, ap, _∙_, subst}
 use lib.Dec.{T}
 use mathlib.Core.Bool.{Bool, true, false, _&&_}
 use mathlib.Core.List.{List}
 use lib.IntN.{ℤ, pos, natAbs}
-use lib.ListN.{length, getD}
+use lib.ListN.{length, getD, set, length-set}
+use lib.Seq.{getD-set-same}
 use Rattle.model.specs.Limits.{paper}
 use Rattle.model.specs.Lists.{allBelow, tabulate}
 use Rattle.model.specs.Memory.{overwrite}
 use Rattle.state.specs.Overwriting.{length-written, written-at}
 use Rattle.model.specs.StateTable.{valueInRange}
 use Rattle.model.specs.Theorems.Laws.Booleans.{T-true, T-equal, true-T, false-not, not-false}
-use Rattle.model.specs.Theorems.Laws.Searching.{allBelow-at, at-allBelow}
+use Rattle.model.specs.Theorems.Laws.Searching.{below-suc, allBelow-at, at-allBelow}
 use Rattle.state.specs.Checking.{range-size}
+use Rattle.transition.specs.Changes.{at-other}
 
 -- ---- 12: "a result beyond ±1,000,000"
 
@@ -57,3 +62,30 @@ pub loaded :
     → (length new ≡ length old) × ((j : ℕ) → j < n → getD new j d ≡ f j)
 loaded {A} f n old d e h =
     (ap length e ∙ length-written f old n h, λ j l. ap (λ (x : List A). getD x j d) e ∙ written-at f old n j d l)
+
+-- ---- copying
+
+-- the first i of n are copied over those of an array
+pub record Copying {A : Type 0} (d : A) (from : List A) (n : ℕ) (old : List A) (to : List A) (i : ℕ) : Type 0 where
+  pub within : i ≤ n
+  pub kept : length to ≡ length old
+  pub same : (j : ℕ) → j < i → getD to j d ≡ getD from j d
+
+module _ {A : Type 0} (d : A) (from : List A) (n : ℕ) where
+  pub copying-start : (old : List A) → Copying d from n old old 0
+  copying-start old = record { within = omega arith; kept = refl; same = λ j h. absurd (not-suc-le-zero h) }
+
+  pub copying-step : {old to : List A} {i : ℕ} → Copying d from n old to i → i < n → i < length to → Copying d from n old (set to i (getD from i d)) (i + 1)
+  copying-step {old} {to} {i} c h l =
+      record {
+        within = omega arith;
+        kept = length-set to i (getD from i d) ∙ c .kept;
+        same = λ j k. by j k (ℕ-discrete i j);
+      }
+    where
+      apart : (j : ℕ) → j < i + 1 → (i ≡ j → ⊥) → j < i
+      apart j k e = below-suc j i (rw (add-one i) at k) (λ q. q) (λ q. absurd (e (sym q)))
+
+      by : (j : ℕ) → j < i + 1 → Dec (i ≡ j) → getD (set to i (getD from i d)) j d ≡ getD from j d
+      by j k (yes e) = ap (λ (m : ℕ). getD (set to i (getD from i d)) m d) (sym e) ∙ getD-set-same to i (getD from i d) d l ∙ ap (λ (m : ℕ). getD from m d) e
+      by j k (no e) = at-other to i j (getD from i d) d e ∙ c .same j (apart j k e)

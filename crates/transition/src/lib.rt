@@ -14,12 +14,9 @@ ghost use Rattle.model.specs.Calls.{writes, stepOf, stepAnswer, stepOut};
 ghost use Rattle.model.specs.Task.{written};
 ghost use Rattle.state.specs.Storing.{stateIn};
 ghost use Rattle.output.specs.Answers.{Answered};
-ghost use Rattle.transition.specs.Running.{Runnable, Ran};
-ghost use Rattle.transition.specs.Walking.{Changeable, IsResult};
-ghost use Rattle.transition.specs.Values.{allInRange};
-ghost use Rattle.transition.specs.Moving.{Putable, Movable, Moved};
+ghost use Rattle.transition.specs.Walking.{Takable, Taken};
+ghost use Rattle.transition.specs.Moving.{Triable, Tried, KeptValues, Putable, Movable, Moved};
 ghost use Rattle.transition.specs.Turns.{Read, Turnable, Turned};
-use block::ItemAt;
 use model::ReadAnswer;
 use model::Refusal;
 use model::WriteAnswer;
@@ -45,76 +42,92 @@ fn changed(kind: u8, old: i64, z: i64) -> i64
     }
 }
 
-// What an effect makes of its variable: "all effects read the state before it".
-fn result_of(
+// Takes in the command behind the `n` terms from `from` on, which add up to `total`: a proposition is added or deleted, or an effect gives its
+// variable a new value. "all effects read the state before it" Returns the offset behind it.
+fn take_in(
     part: &[u8],
-    kind: u8,
-    var: usize,
-    base: i64,
     from: usize,
-    terms: usize,
+    n: usize,
+    total: i64,
     values: &[i64],
-) -> i64
-    requires { ⌜ Changeable (now part) kind var base from terms (now values) ⌝ }
-    ensures { λ r. ⌜ IsResult (now (part .entry)) kind var base from terms (now (values .entry)) r ⌝ }
+    has: &mut [bool],
+    next: &mut [i64],
+) -> usize
+    requires { ⌜ Takable (now part) from n total (now values) (now has) (now next) ⌝ }
+    ensures { λ r. ⌜ Taken (now (part .entry)) from n total (now (values .entry)) (now (has .entry)) (now (next .entry)) (now (has .exit)) (now (next .exit)) r ⌝ }
 {
-    let z = block::real_value(part, from, terms, base, values);
-    let old = values[var];
-    changed(kind, old, z)
-}
-
-// Takes the items of a move's part in: propositions are added and deleted, each effect gives its variable a new value.
-fn run(part: &[u8], values: &[i64], has: &mut [bool], next: &mut [i64])
-    requires { ⌜ Runnable (now part) (now values) (now has) (now next) ⌝ }
-    ensures { λ r. ⌜ Ran (now (part .entry)) (now (values .entry)) (now (has .entry)) (now (next .entry)) (now (has .exit)) (now (next .exit)) ⌝ }
-{
-    let mut at = 1;
-    loop {
-        let item = block::next(part, at);
-        match item {
-            ItemAt::Add { prop, after: _ } => {
-                has[prop] = true;
-            }
-            ItemAt::Delete { prop, after: _ } => {
-                has[prop] = false;
-            }
-            ItemAt::Effect {
-                kind,
-                var,
-                base,
-                from,
-                terms,
-                after: _,
-            } => {
-                next[var] = result_of(part, kind, var, base, from, terms, values);
-            }
-            ItemAt::End => {
-                return;
-            }
-            _ => {}
+    let at = from + 4 * n;
+    match part[at] {
+        0x2B => {
+            has[part[at + 1] as usize] = true;
+            at + 2
         }
-        at = block::behind(item);
+        0x2D => {
+            has[part[at + 1] as usize] = false;
+            at + 2
+        }
+        0x46 => {
+            let var = part[at + 2] as usize;
+            let z = integer::add(total, integer::i32_at(part, at + 3));
+            next[var] = changed(part[at + 1], values[var], z);
+            at + 7
+        }
+        0x43 => at + 6,
+        _ => at + 2,
     }
 }
 
-// Are all values within ±1,000,000?
-fn in_range(values: &[i64], vars: usize) -> bool
-    requires { ⌜ vars ≤ length (now values) ⌝ }
-    ensures { λ r. ⌜ r ≡ allInRange (now (values .entry)) vars ⌝ }
+// Takes the commands of a move's part in, one after the other, on `has` and `next`; conditions and sums read the state before it, `had` and
+// `values`. False where a condition fails; then nothing is said of `has` and `next`.
+fn run(part: &[u8], had: &[bool], values: &[i64], has: &mut [bool], next: &mut [i64]) -> bool
+    requires { ⌜ Triable (now part) (now had) (now values) (now has) (now next) ⌝ }
+    ensures { λ r. ⌜ Tried (now (part .entry)) (now (had .entry)) (now (values .entry)) (now (has .entry)) (now (next .entry)) (now (has .exit)) (now (next .exit)) r ⌝ }
+{
+    let mut from = 1;
+    while from < part.len() {
+        let sum = block::sum_at(part, from, values);
+        let n = sum.terms;
+        let total = sum.total;
+        if block::fails(part, from, n, total, had) {
+            return false;
+        }
+        from = take_in(part, from, n, total, values, has, next);
+    }
+    true
+}
+
+// Takes the new values over. False at the first that is not within ±1,000,000; then nothing is said of `values`.
+fn keep_values(values: &mut [i64], next: &[i64], vars: usize) -> bool
+    requires { ⌜ (vars ≤ length (now values)) × (vars ≤ length (now next)) ⌝ }
+    ensures { λ r. ⌜ KeptValues (now (values .exit)) (now (next .entry)) vars r ⌝ }
 {
     let mut v = 0;
     while v < vars {
-        if !state::in_range(values[v]) {
+        let x = next[v];
+        if !state::in_range(x) {
             return false;
         }
+        values[v] = x;
         v += 1;
     }
     true
 }
 
+// Takes the new truths over.
+fn keep_truths(had: &mut [bool], has: &[bool], props: usize)
+    requires { ⌜ (props ≤ length (now had)) × (props ≤ length (now has)) ⌝ }
+    ensures { λ r. ⌜ ((p : ℕ) → p < props → getD (now (had .exit)) p false ≡ getD (now (has .entry)) p false) ⌝ }
+{
+    let mut p = 0;
+    while p < props {
+        had[p] = has[p];
+        p += 1;
+    }
+}
+
 // Stores the state that two arrays hold, if it fits.
 pub fn put_state(
-    has: &[bool],
+    has: &[bool; 120],
     values: &[i64; 16],
     props: usize,
     vars: usize,
@@ -154,42 +167,51 @@ pub fn values_of(state: &[u8], props: usize, vars: usize) -> [i64; 16]
     values
 }
 
-// Makes the move of a part on the state that two arrays hold: "A real move needs its conditions true". Where it fails, nothing is said of the
-// arrays.
-fn make(part: &[u8], vars: usize, has: &mut [bool], values: &mut [i64; 16]) -> Turn
-    requires { ⌜ Movable (now part) vars (now has) (now values) ⌝ }
-    ensures { λ r. ⌜ Moved (now (part .entry)) vars (now (has .entry)) (now (values .entry)) (now (has .exit)) (now (values .exit)) r ⌝ }
+// Makes the move of a part on the state that two pairs of arrays hold: "A real move needs its conditions true". Where it fails, nothing is said
+// of the arrays.
+fn make(
+    part: &[u8],
+    props: usize,
+    vars: usize,
+    had: &mut [bool; 120],
+    values: &mut [i64; 16],
+    has: &mut [bool; 120],
+    next: &mut [i64; 16],
+) -> Turn
+    requires { ⌜ Movable (now part) props vars (now had) (now values) (now has) (now next) ⌝ }
+    ensures { λ r. ⌜ Moved (now (part .entry)) props vars (now (had .entry)) (now (values .entry)) (now (has .entry)) (now (next .entry)) (now (had .exit)) (now (values .exit)) (now (has .exit)) (now (next .exit)) r ⌝ }
 {
-    if !block::applicable(part, has, values) {
+    if !run(part, had, values, has, next) {
         return Turn::Fails(Fault::NotAllowed);
     }
-    let mut next = *values;
-    run(part, values, has, &mut next);
-    if !in_range(&next, vars) {
+    if !keep_values(values, next, vars) {
         return Turn::Fails(Fault::OutOfRange);
     }
-    *values = next;
+    keep_truths(had, has, props);
     Turn::Made
 }
 
-// Makes move `chosen` of an accepted table on the state that two arrays hold.
+// Makes move `chosen` of an accepted table on the state that two pairs of arrays hold.
 pub fn make_move(
     table: &[u8],
     marks: &[usize],
+    props: usize,
     vars: usize,
     moves: usize,
     chosen: u64,
-    has: &mut [bool],
+    had: &mut [bool; 120],
     values: &mut [i64; 16],
+    has: &mut [bool; 120],
+    next: &mut [i64; 16],
 ) -> Turn
-    requires { ⌜ Turnable (now table) (now marks) vars moves (now has) (now values) ⌝ }
-    ensures { λ r. ⌜ Turned (now (table .entry)) (now (marks .entry)) vars moves chosen (now (has .entry)) (now (values .entry)) (now (has .exit)) (now (values .exit)) r ⌝ }
+    requires { ⌜ Turnable (now table) (now marks) props vars moves (now had) (now values) (now has) (now next) ⌝ }
+    ensures { λ r. ⌜ Turned (now (table .entry)) (now (marks .entry)) props vars moves chosen (now (had .entry)) (now (values .entry)) (now (has .entry)) (now (next .entry)) (now (had .exit)) (now (values .exit)) (now (has .exit)) (now (next .exit)) r ⌝ }
 {
     if chosen >= moves as u64 {
         return Turn::Fails(Fault::Missing);
     }
     let part = reader::part(table, marks, chosen as usize);
-    make(part, vars, has, values)
+    make(part, props, vars, had, values, has, next)
 }
 
 // Makes the chosen move and stores the state after it.
@@ -206,10 +228,24 @@ fn choose(
     requires { ⌜ (Read (now table) (now marks) props vars moves) × (stateRefusal paper props vars (now state) ≡ none) ⌝ }
     ensures { λ r. ⌜ Answered (stepOf paper (reading paper (only written) (now (table .entry))) (now (state .entry)) chosen) (now (out .entry)) (now (out .exit)) r ⌝ }
 {
-    let mut has = truths_of(state, props);
+    let mut had = truths_of(state, props);
     let mut values = values_of(state, props, vars);
-    match make_move(table, marks, vars, moves, chosen, &mut has, &mut values) {
-        Turn::Made => put_state(&has, &values, props, vars, out),
+    let mut has = truths_of(state, props);
+    let mut next = values_of(state, props, vars);
+    let made = make_move(
+        table,
+        marks,
+        props,
+        vars,
+        moves,
+        chosen,
+        &mut had,
+        &mut values,
+        &mut has,
+        &mut next,
+    );
+    match made {
+        Turn::Made => put_state(&had, &values, props, vars, out),
         Turn::Fails(f) => {
             let number = schedule::fault_number(f);
             WriteAnswer::Refused(Refusal { number, place: 0 })

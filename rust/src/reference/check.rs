@@ -1,11 +1,9 @@
 //! Checking a list of moves: what becomes of it, move by move.
 
-use super::deliver;
 use super::parse::{parse, Wanted};
 use super::state::State;
-use super::table::{
-    Block, Change, Comparison, Condition, Effect, Item, Kind, Table, Term, NUMBER_LIMIT,
-};
+use super::table::{Block, Change, Effect, Kind, Table, NUMBER_LIMIT};
+use super::{deliver, step};
 use crate::answer::{Checked, Fault, Refusal};
 
 /// Runs a list of move bytes of a written table from a state.
@@ -17,108 +15,66 @@ pub fn check(table: &[u8], state: &[u8], list: &[u8], out: &mut [u8]) -> Result<
             return Ok(Checked::Fails { index, fault });
         }
     }
-    if !run.meets(&written.goal) {
+    if !step::holds(&written.goal, &run.state) {
         return Ok(Checked::GoalNotMet);
     }
-    let length = deliver(&State::from(run).encode(), out)?;
+    let length = deliver(&run.state.encode(), out)?;
     Ok(Checked::Yes { length })
 }
 
 /// A state that moves change in place.
-///
-/// All its values are in range, so sums of weighted ones are below 10^10 in size.
 struct Run {
-    propositions: Vec<bool>,
-    values: Vec<i64>,
-    /// Variables with the values that a move gives them: none is set before all are worked out.
-    staged: Vec<(usize, i64)>,
+    state: State,
+    /// Variables with their new values: all are read from the state before any is set.
+    staged: Vec<(usize, i128)>,
 }
 
 impl From<State> for Run {
     fn from(state: State) -> Run {
-        Run {
-            staged: Vec::with_capacity(state.values.len()),
-            propositions: state.propositions,
-            values: state.values.into_iter().map(small).collect(),
-        }
-    }
-}
-
-impl From<Run> for State {
-    fn from(run: Run) -> State {
-        State {
-            propositions: run.propositions,
-            values: run.values.into_iter().map(i128::from).collect(),
-        }
+        let staged = Vec::with_capacity(state.values.len());
+        Run { state, staged }
     }
 }
 
 impl Run {
-    /// Makes the move of this number. After a fault the run is of no use.
+    /// Makes the move of this number; the state is of no use after a fault.
     fn take(&mut self, table: &Table, mv: u8) -> Result<(), Fault> {
         let block = table.moves.get(usize::from(mv)).ok_or(Fault::Missing)?;
-        if !self.meets(block) {
+        if !step::holds(block, &self.state) {
             return Err(Fault::NotAllowed);
         }
-        for item in &block.items {
-            match item {
-                Item::Add(p) => self.propositions[*p] = true,
-                Item::Delete(p) => self.propositions[*p] = false,
-                Item::Effect(effect) => self.stage(effect)?,
-                Item::Require(_) | Item::Condition(_) => {}
-            }
-        }
+        self.stage(block)?;
         for (variable, value) in self.staged.drain(..) {
-            self.values[variable] = value;
+            self.state.values[variable] = value;
         }
+        let propositions = &mut self.state.propositions;
+        block.added().for_each(|p| propositions[p] = true);
+        block.deleted().for_each(|p| propositions[p] = false);
         Ok(())
     }
 
-    /// Whether all conditions of a block are true.
-    fn meets(&self, block: &Block) -> bool {
-        block.items.iter().all(|item| match item {
-            Item::Require(p) => self.propositions[*p],
-            Item::Condition(condition) => self.holds(condition),
-            Item::Add(_) | Item::Delete(_) | Item::Effect(_) => true,
-        })
-    }
-
-    fn holds(&self, condition: &Condition) -> bool {
-        let value = self.sum(&condition.terms);
-        let constant = small(condition.constant);
-        match condition.comparison {
-            Comparison::AtLeast => value >= constant,
-            Comparison::Above => value > constant,
-            Comparison::AtMost => value <= constant,
-            Comparison::Below => value < constant,
-            Comparison::Equal => value == constant,
+    /// Works out all new values.
+    fn stage(&mut self, block: &Block) -> Result<(), Fault> {
+        for effect in block.effects() {
+            let value = changed(effect, &self.state.values);
+            if !(-NUMBER_LIMIT..=NUMBER_LIMIT).contains(&value) {
+                return Err(Fault::OutOfRange);
+            }
+            self.staged.push((effect.variable, value));
         }
-    }
-
-    fn stage(&mut self, effect: &Effect) -> Result<(), Fault> {
-        let old = self.values[effect.variable];
-        let value = self.sum(&effect.terms) + small(effect.constant);
-        let new = match effect.change {
-            Change::Assign => value,
-            Change::Increase => old + value,
-            Change::Decrease => old - value,
-        };
-        if new.abs() > small(NUMBER_LIMIT) {
-            return Err(Fault::OutOfRange);
-        }
-        self.staged.push((effect.variable, new));
         Ok(())
-    }
-
-    fn sum(&self, terms: &[Term]) -> i64 {
-        let term = |t: &Term| small(t.weight) * self.values[t.variable];
-        terms.iter().map(term).sum()
     }
 }
 
-/// A number of an accepted table or state: at most 1,000,000 in size.
-const fn small(number: i128) -> i64 {
-    number as i64
+/// The new value of an effect's variable: below 10^10 in size, as all values are in range.
+fn changed(effect: &Effect, values: &[i128]) -> i128 {
+    let terms = effect.terms.iter().map(|t| t.weight * values[t.variable]);
+    let value = terms.sum::<i128>() + effect.constant;
+    match effect.change {
+        Change::Assign => value,
+        Change::Increase => values[effect.variable] + value,
+        Change::Decrease => values[effect.variable] - value,
+    }
 }
 
 #[cfg(test)]

@@ -1,151 +1,106 @@
 -- `applicable` meets its contract. The invariant: the items that are left decide. The measure is what is left of the part.
 -- Assumes nothing.
-use Prim.Native.Nat.{_-_, _<_}
+use Prim.Native.Nat.{_+_, _-_, _*_, _≤_, _<_}
 use native.Mathlib.Omega.{arith}
-use mathlib.Core.Path.{_≡_, refl, sym, _∙_, subst}
-use mathlib.Core.Bool.{Bool}
-use mathlib.Core.List.{List, [], _∷_}
-use types.Run.{miss}
-use mathlib.Core.Logic.{⊎-elim}
+use mathlib.Core.Path.{_≡_, refl, sym}
 use borrow.Author.Needs.{needs}
-use borrow.Author.Tests.{not-true, not-false}
-use lib.IntN.{ℤ}
-use lib.ListN.{length}
+use lib.ListN.{length, getD}
+use mir.Syntax.{w64}
+use mir.Val.{toZ, ofZ}
 use Rattle.integer.specs.Linear.{back-small}
 use Rattle.model.specs.Lists.{all}
-use Rattle.model.specs.Move.{State, holds, applicable}
-use Rattle.block.specs.Items.{Ranges, readable, next-ahead}
-use Rattle.block.specs.Blocks.{Walk, Passing, walk-start, walk-found, walk-next, walk-stop, next-is, all-true, all-false, StateRow, condition-bound, summable, condition-test}
-use Rattle.block.specs.declared.ItemAt.{ItemAt}
-use Rattle.block.proofs.Passed.{no-condition, before-end}
+use Rattle.model.specs.Move.{applicable}
+use Rattle.block.specs.Items.{Next, next-ahead}
+use Rattle.block.specs.Blocks.{Walk, walk-start, walk-next, walk-stop, walk-done}
+use Rattle.block.specs.Streams.{Addable, widthBy, itemBy, sum-item, sum-behind, Over, Asked, Judged, Verdict, judged-room}
 use Rattle.block.proofs.applicable.Statement.{statement}
 use Rattle.block.proofs.applicable.Tie as tie
 
--- what the two memories hold
-abbrev Over : List Bool → List ℤ → Ranges → State → Type 0
-Over has values k s = StateRow k has values s
-
 abbrev Inv-loop : tie.InvT-loop
-Inv-loop part has values at₀ at = Walk part (Over has values) (λ s. all (holds s)) at
+Inv-loop part has values from₀ from = Walk part (Over has values) Asked from
 
 abbrev μ-loop : tie.MeasureT-loop
-μ-loop part has values at₀ at = length part - at
+μ-loop part has values from₀ from = length part - from
 
 loop-holds : tie.Need-loop-holds Inv-loop μ-loop
-loop-holds c = walk-start (Over _ _) (λ s. all (holds s)) (c .before .before .pre .left .bytes .within)
+loop-holds c = walk-start (Over _ _) Asked (c .before .before .pre .left .bytes .within)
 
-next-requires : tie.Need-next-requires Inv-loop μ-loop
-next-requires c κs =
-    let p = c .before .before .before .pre in
-    readable (c .loop .inv .reading (p .ranges) (p .block) (p .over) (p .left) (p .row) .left)
+-- the items that are left, in the caller's reading
+left-here : (c : tie.In-loop Inv-loop μ-loop) → let a = c .before .before .before .before .args in Addable (a .part .now) (c .before .loop .from) (a .values .now)
+left-here c =
+    let p = c .before .before .before .before .pre in
+    let r = c .before .loop .inv .reading (p .ranges) (p .block) (p .over) (p .left) (p .row) in
+    record { inside = c .loop-test .taken; ranges = p .ranges; rest = r .rest; left = r .left; val = p .over .val; row = p .row .row }
 
-enum-known-item : tie.Need-enum-known-item Inv-loop μ-loop
-enum-known-item c = search needs
+sum-at-requires : tie.Need-sum-at-requires Inv-loop μ-loop
+sum-at-requires c κs = left-here c
 
-shared-slice-read-if1 : tie.Need-shared-slice-read-if1 Inv-loop μ-loop
-shared-slice-read-if1 c =
-    let m = c .before .before in
-    let n = m .before .before in
-    let p = n .before .before .before .before .pre in
-    omega (arith, p .row .long, walk-found (Over _ _) (λ s. all (holds s)) (n .before .loop .inv) (p .ranges) (p .block) (p .over) (p .left) (p .row) (next-is (n .next .ensures) (m .item .given .1)) .ok)
+judged : (c : tie.After-sum-at Inv-loop μ-loop) → let a = c .before .before .before .before .before .args in Judged (a .part .now) (c .before .before .loop .from) (c .sum-at .result .terms) (c .sum-at .result .total) (a .has .now)
+unfolding left-here
+judged c =
+    let p = c .before .before .before .before .before .pre in
+    record { values = c .before .before .before .before .before .args .values .now; addable = left-here (c .before); sum = c .sum-at .ensures; over = p .over; row = p .row }
+
+-- the item, which lies before the part's end
+item-next : (c : tie.After-sum-at Inv-loop μ-loop) → Next (c .before .before .before .before .before .args .part .now) (c .before .before .loop .from) (itemBy (c .before .before .before .before .before .args .part .now) (c .before .before .loop .from) (c .sum-at .result .terms))
+item-next c = sum-item (left-here (c .before)) (c .sum-at .ensures)
+
+-- where the next one stands
+item-ahead :
+    (c : tie.After-sum-at Inv-loop μ-loop)
+    → let part = c .before .before .before .before .before .args .part .now in
+    let from = c .before .before .loop .from in
+    let at = from + 4 * c .sum-at .result .terms in
+    (from < at + widthBy (getD part at 0)) × (at + widthBy (getD part at 0) ≤ length part)
+item-ahead c = rw (sum-behind (left-here (c .before)) (c .sum-at .ensures)) at (next-ahead (c .before .loop-test .taken) (item-next c))
+
+same : (c : tie.After-sum-at Inv-loop μ-loop) → toZ w64 (ofZ w64 (c .sum-at .result .total)) ≡ c .sum-at .result .total
+same c = back-small (c .sum-at .result .total) (omega (arith, c .sum-at .ensures .sum .small))
+
+fails-requires : tie.Need-fails-requires Inv-loop μ-loop
+fails-requires c κs = rw (same (c .before)) (judged (c .before))
+
+-- what the test says of the item
+verdict : (c : tie.After-fails Inv-loop μ-loop) → let a = c .before .before .before .before .before .before .before .args in Verdict (a .part .now) (a .has .now) (a .values .now) (c .fails .result) (itemBy (a .part .now) (c .before .before .before .before .loop .from) (c .before .before .sum-at .result .terms))
+verdict c = rw (same (c .before .before)) at (c .fails .ensures) .is _ (c .before .before .sum-at .ensures)
 
 returns : tie.Need-returns Inv-loop μ-loop
-unfolding applicable holds
-returns c =
-    let m = c .before .before .before in
-    let n = m .before .before in
-    record {
-      is =
-          walk-stop (Over _ _) (λ s. all (holds s)) (n .before .loop .inv) (next-is (n .next .ensures) (m .item .given .1))
-          (λ k s w h. all-false (holds s) (sym (w .has _ h) ∙ not-true _ (c .if1 .taken)));
-    }
-
-enum-known-item-2 : tie.Need-enum-known-item-2 Inv-loop μ-loop
-enum-known-item-2 c = search needs
-
-condition-holds-requires : tie.Need-condition-holds-requires Inv-loop μ-loop
-condition-holds-requires c κs =
-    let m = c .before in
-    let n = m .before .before in
-    let p = n .before .before .before .before .pre in
-    summable
-    (walk-found (Over _ _) (λ s. all (holds s)) (n .before .loop .inv) (p .ranges) (p .block) (p .over) (p .left) (p .row) (next-is (n .next .ensures) (m .item2 .given .1)) .is .terms)
-    (p .row .row)
-
-returns-2 : tie.Need-returns-2 Inv-loop μ-loop
 unfolding applicable
-returns-2 c =
-    let m = c .before .before .before in
-    let n = m .before .before in
-    record {
-      is =
-          walk-stop (Over _ _) (λ s. all (holds s)) (n .before .loop .inv) (next-is (n .next .ensures) (m .item2 .given .1))
-          (λ k s q w h.
-          all-false (holds s)
-          (condition-test s (w .row) h (rw (back-small (m .item2 .given .0 .1 .0) (omega (arith, condition-bound h))) at (c .before .condition-holds .ensures))
-          ∙ not-true (c .before .condition-holds .result) (c .if2 .taken)));
-    }
+returns c = record { is = walk-stop (Over _ _) Asked (c .before .before .before .before .before .loop .inv) (item-next (c .before .before .before)) (verdict (c .before) .0 (c .if1 .taken)) }
 
-behind-requires : tie.Need-behind-requires Inv-loop μ-loop
-behind-requires c κs = search needs
+mul-from : tie.Need-mul-from Inv-loop μ-loop
+mul-from c = omega (arith, judged-room (judged (c .before .before .before)))
 
--- the item that was passed
-same : (c : tie.At-match-came Inv-loop μ-loop) → c .before .next .result ≡ c .match .item
-same c = ⊎-elim (λ w. w .1 .given .1 ∙ sym (w .5)) (⊎-elim (λ w. w .1 .given .1 ∙ sym (w .5)) (λ w. sym (w .1))) (c .match .came)
+add-from : tie.Need-add-from Inv-loop μ-loop
+add-from c = omega (arith, judged-room (judged (c .before .before .before)))
 
--- it stands before the part's end
-inside : (c : tie.At-match-came Inv-loop μ-loop) → c .before .before .loop .at < length (c .before .before .before .before .before .args .part .now)
-inside c =
-    ⊎-elim (λ w. omega (arith, next-is (c .before .next .ensures) (w .1 .given .1) .moves))
-    (⊎-elim (λ w. omega (arith, next-is (c .before .next .ensures) (w .1 .given .1) .moves))
-    (λ w. before-end (1 ∷ 2 ∷ 4 ∷ []) (c .before .next .result) (miss (1 ∷ 2 ∷ 4 ∷ []) 5 tt) (w .0 .keys4) (c .before .next .ensures .moves)))
-    (c .match .came)
+mul-width : tie.Need-mul-width Inv-loop μ-loop
+mul-width c = omega (arith, judged-room (judged (c .before .before .before)))
 
--- it does not change the answer
-abbrev Passes : tie.Start Inv-loop μ-loop → ItemAt → Type 0
-Passes c x = Passing (c .args .part .now) (Over (c .args .has .now) (c .args .values .now)) (λ s. all (holds s)) x
+add-width : tie.Need-add-width Inv-loop μ-loop
+add-width c = omega (arith, judged-room (judged (c .before .before .before)))
 
-passes : (c : tie.At-match-came Inv-loop μ-loop) → Passes (c .before .before .before .before .before) (c .match .item)
-unfolding holds
-passes c =
-    let start = c .before .before .before .before .before in
-    ⊎-elim
-    (λ w. subst (Passes start) (sym (w .5)) (λ k s v h. all-true (holds s) (sym (v .has _ h) ∙ not-false _ (w .4 .left))))
-    (⊎-elim
-    (λ w.
-    subst (Passes start) (sym (w .5))
-    (λ k s q v h.
-    all-true (holds s)
-    (condition-test s (v .row) h (rw (back-small (w .1 .given .0 .1 .0) (omega (arith, condition-bound h))) at (w .3 .ensures))
-    ∙ not-false (w .3 .result) (w .4 .left))))
-    (λ w.
-    subst (Passes start) (sym (w .1))
-    (no-condition (start .args .part .now) (Over _ _) (λ s. all (holds s)) (λ s p. all-true (holds s) refl) (λ s p. all-true (holds s) refl) (λ s e. all-true (holds s) refl) (c .before .next .result) (w .0 .keys4))))
-    (c .match .came)
+shared-slice-read-width : tie.Need-shared-slice-read-width Inv-loop μ-loop
+shared-slice-read-width c = judged-room (judged (c .before .before .before .before))
+
+width-requires : tie.Need-width-requires Inv-loop μ-loop
+width-requires c κs = search needs
+
+add-from-2 : tie.Need-add-from-2 Inv-loop μ-loop
+add-from-2 c = omega (arith, c .width .ensures, item-ahead (c .before .before .before .before .before))
 
 loop-less : tie.Need-loop-less Inv-loop μ-loop
-loop-less c =
-    let n = c .before .before in
-    let t = next-is (n .next .ensures) (same (c .before)) in
-    omega (arith, next-ahead (inside (c .before)) t, c .behind .ensures)
+loop-less c = omega (arith, c .width .ensures, item-ahead (c .before .before .before .before .before))
 
 loop-again : tie.Need-loop-again Inv-loop μ-loop
 loop-again c =
-    let n = c .before .before in
-    subst (Walk _ (Over _ _) (λ s. all (holds s))) (sym (c .behind .ensures))
-    (walk-next (Over _ _) (λ s. all (holds s)) (n .before .loop .inv) (inside (c .before))
-    (next-is (n .next .ensures) (same (c .before))) (passes (c .before)))
+    let s = c .before .before .before .before .before in
+    rw (c .width .ensures, sym (sum-behind (left-here (s .before)) (s .sum-at .ensures)))
+    (walk-next (Over _ _) Asked (s .before .before .loop .inv) (s .before .loop-test .taken) (item-next s) (verdict (c .before .before .before) .1 (c .before .before .if1 .left)))
 
-enum-told : tie.Need-enum-told Inv-loop μ-loop
-enum-told c = search needs
-
-returns-3 : tie.Need-returns-3 Inv-loop μ-loop
+returns-2 : tie.Need-returns-2 Inv-loop μ-loop
 unfolding applicable all
-returns-3 c =
-    let n = c .before .before in
-    record {
-      is = walk-stop (Over _ _) (λ s. all (holds s)) (n .before .loop .inv) (next-is (n .next .ensures) (c .enum-told .given .1)) (λ s. refl);
-    }
+returns-2 c = record { is = walk-done (Over _ _) Asked (c .before .loop .inv) (c .loop-test .left) (λ s. refl) }
 
 pub applicable-spec : {M : Type 1} → statement M
 applicable-spec =
@@ -154,15 +109,16 @@ applicable-spec =
     Inv-loop
     μ-loop
     loop-holds
-    next-requires
-    enum-known-item
-    shared-slice-read-if1
+    sum-at-requires
+    fails-requires
     returns
-    enum-known-item-2
-    condition-holds-requires
-    returns-2
-    enum-told
-    returns-3
-    behind-requires
+    mul-from
+    add-from
+    mul-width
+    add-width
+    shared-slice-read-width
+    width-requires
+    add-from-2
     loop-less
-    loop-again)
+    loop-again
+    returns-2)

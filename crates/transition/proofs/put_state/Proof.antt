@@ -16,25 +16,26 @@ size : (s : tie.Start) → length (stateBytes (s .args .props) (s .args .vars) (
 size s = length-stateBytes (s .args .props) (s .args .vars) (stateIn (s .args .has .now) (s .args .values .now))
 
 mul-size : tie.Need-mul-size
-mul-size c = omega (arith, c .before .before .pre .few-vars)
+mul-size c = omega (arith, c .before .pre .few-vars)
 
 add-size : tie.Need-add-size
-add-size c = omega (arith, c .before .before .pre .few-props, c .before .before .pre .few-vars)
+add-size c = omega (arith, c .before .pre .few-props, c .before .pre .few-vars)
 
 returns : tie.Need-returns
-returns c = answered-short (sym (size (c .before .before .before))) (omega (arith, c .if1 .taken))
+returns c = answered-short (sym (size (c .before .before))) (omega (arith, c .if1 .taken))
 
 store-requires : tie.Need-store-requires
 store-requires c κs =
     let w = c .before .before .before .before .before .pre .holds in
-    (w .long-has, record { room = omega (arith, c .before .before .if1 .left); given = w .long-values; small = holds-small w })
+    (w .long-has, record { room = omega (arith, c .before .before .before .if1 .left); given = w .long-values; small = holds-small w })
 
 same-length : tie.Need-same-length
 same-length c = search needs
 
 returns-2 : tie.Need-returns-2
-returns-2 c = answered-whole (sym (size (c .before .before .before .before .before .before .before .before))) (omega (arith, c .before .before .before .before .before .if1 .left)) (c .before .before .store .ensures)
+returns-2 c = answered-whole (sym (size (c .before .before .before .before .before .before .before .before))) (omega (arith, c .before .before .before .before .before .before .if1 .left)) (c .before .before .store .ensures)
 
 pub put-state-spec : {M : Type 1} → statement M
 put-state-spec =
-    tie.close (tie.spec mul-size add-size returns store-requires same-length returns-2)
+    tie.close
+    (tie.spec mul-size add-size returns store-requires same-length returns-2)

@@ -1,125 +1,117 @@
--- `run` meets its contract. The invariant: in every reading, the items passed are taken in. The measure is what is left of the
--- part. Assumes nothing.
-use Prim.Native.Nat.{_-_, _<_}
+-- `run` meets its contract. The invariant: in every reading, the items that are left decide, and those passed are taken in. The measure is
+-- what is left of the part. Assumes nothing.
+use Prim.Native.Nat.{_-_}
 use native.Mathlib.Omega.{arith}
-use mathlib.Core.Path.{_≡_, sym, ap, _∙_}
-use mathlib.Core.List.{[], _∷_}
-use mathlib.Core.Logic.{⊎-elim}
-use types.Run.{miss}
-use borrow.Author.Needs.{needs}
+use mathlib.Core.Path.{_≡_, refl}
 use lib.ListN.{length}
-use Rattle.integer.specs.Linear.{back, back-small}
-use Rattle.block.specs.Items.{behind, next-ahead}
-use Rattle.block.specs.Blocks.{next-is}
-use Rattle.transition.specs.Walking.{Going, going-start, going-same, going-add, going-delete, going-pass, going-effect, going-end, going-readable, going-add-room, going-delete-room, going-changeable, going-base, going-effect-room}
-use Rattle.block.proofs.Passed.{before-end}
-use Rattle.transition.proofs.Passed.{idle}
+use mir.Syntax.{w64}
+use mir.Val.{toZ, ofZ}
+use Rattle.integer.specs.Linear.{back-small}
+use Rattle.model.specs.Lists.{all}
+use Rattle.model.specs.Move.{applicable}
+use Rattle.model.specs.Theorems.Laws.Booleans.{clash}
+use Rattle.block.specs.Items.{Next, next-ahead}
+use Rattle.block.specs.Blocks.{Walk, walk-start, walk-next, walk-stop, walk-done}
+use Rattle.block.specs.Streams.{Addable, itemBy, sum-item, Over, Asked, Judged, Verdict}
+use Rattle.transition.specs.Walking.{Going, going-start, going-end, Takable}
 use Rattle.transition.proofs.run.Statement.{statement}
 use Rattle.transition.proofs.run.Tie as tie
 
 abbrev Inv-loop : tie.InvT-loop
-Inv-loop part values has₀ next₀ at₀ has next at = Going part values has₀ next₀ at has next
+Inv-loop part had values has₀ next₀ from₀ has next from = Walk part (Over had values) Asked from × Going part values has₀ next₀ from has next
 
 abbrev μ-loop : tie.MeasureT-loop
-μ-loop part values has₀ next₀ at₀ has next at = length part - at
+μ-loop part had values has₀ next₀ from₀ has next from = length part - from
 
 loop-holds : tie.Need-loop-holds Inv-loop μ-loop
-loop-holds c = going-start (c .before .before .pre .runs .left .bytes .within)
+loop-holds c =
+    let within = c .before .before .before .pre .runnable .runs .left .bytes .within in
+    (walk-start (Over _ _) Asked within, going-start within)
 
-next-requires : tie.Need-next-requires Inv-loop μ-loop
-next-requires c κs = going-readable (c .loop .inv) (c .before .before .before .pre)
+-- the items that are left, in the caller's reading
+left-here : (c : tie.In-loop Inv-loop μ-loop) → let a = c .before .before .before .before .before .args in Addable (a .part .now) (c .before .loop .from) (a .values .now)
+left-here c =
+    let o = c .before .before .before .before .before .pre .runnable in
+    let w = c .before .loop .inv .1 .is (o .ranges) (o .block) (o .over) (o .runs) in
+    record { inside = c .loop-test .taken; ranges = o .ranges; rest = w .rest; left = w .left; val = o .over .val; row = o .runs .row }
 
-enum-known-item : tie.Need-enum-known-item Inv-loop μ-loop
-enum-known-item c = search needs
+sum-at-requires : tie.Need-sum-at-requires Inv-loop μ-loop
+sum-at-requires c κs = left-here c
 
-slice-write-has : tie.Need-slice-write-has Inv-loop μ-loop
-slice-write-has c =
-    let n = c .before .before .before in
-    going-add-room (n .before .loop .inv) (n .before .before .before .before .pre) (next-is (n .next .ensures) (c .before .item .given .1))
+judged : (c : tie.After-sum-at Inv-loop μ-loop) → let a = c .before .before .before .before .before .before .args in Judged (a .part .now) (c .before .before .loop .from) (c .sum-at .result .terms) (c .sum-at .result .total) (a .had .now)
+unfolding left-here
+judged c =
+    let p = c .before .before .before .before .before .before .pre in
+    record { values = c .before .before .before .before .before .before .args .values .now; addable = left-here (c .before); sum = c .sum-at .ensures; over = p .runnable .over; row = p .row }
 
-enum-known-item-2 : tie.Need-enum-known-item-2 Inv-loop μ-loop
-enum-known-item-2 c = search needs
+takable : (c : tie.After-sum-at Inv-loop μ-loop) → let a = c .before .before .before .before .before .before .args in Takable (a .part .now) (c .before .before .loop .from) (c .sum-at .result .terms) (c .sum-at .result .total) (a .values .now) (c .before .before .loop .has) (c .before .before .loop .next)
+takable c =
+    record {
+      inside = c .before .loop-test .taken;
+      sum = c .sum-at .ensures;
+      has₀ = _;
+      next₀ = _;
+      going = c .before .before .loop .inv .1;
+      runnable = c .before .before .before .before .before .before .pre .runnable;
+    }
 
-slice-write-has-2 : tie.Need-slice-write-has-2 Inv-loop μ-loop
-slice-write-has-2 c =
-    let n = c .before .before .before in
-    going-delete-room (n .before .loop .inv) (n .before .before .before .before .pre) (next-is (n .next .ensures) (c .before .item2 .given .1))
+item-next : (c : tie.After-sum-at Inv-loop μ-loop) → Next (c .before .before .before .before .before .before .args .part .now) (c .before .before .loop .from) (itemBy (c .before .before .before .before .before .before .args .part .now) (c .before .before .loop .from) (c .sum-at .result .terms))
+item-next c = sum-item (left-here (c .before)) (c .sum-at .ensures)
 
-enum-known-item-3 : tie.Need-enum-known-item-3 Inv-loop μ-loop
-enum-known-item-3 c = search needs
+same : (c : tie.After-sum-at Inv-loop μ-loop) → toZ w64 (ofZ w64 (c .sum-at .result .total)) ≡ c .sum-at .result .total
+same c = back-small (c .sum-at .result .total) (omega (arith, c .sum-at .ensures .sum .small))
 
-result-of-requires : tie.Need-result-of-requires Inv-loop μ-loop
-result-of-requires c κs =
-    let n = c .before .before .before in
-    let i = next-is (n .next .ensures) (c .before .item3 .given .1) in
-    let g = n .before .loop .inv in
-    let p = n .before .before .before .before .pre in
-    rw (back-small (c .before .item3 .given .0 .1 .1 .0) (omega (arith, going-base g p i))) (going-changeable g p i)
+fails-requires : tie.Need-fails-requires Inv-loop μ-loop
+fails-requires c κs = rw (same (c .before)) (judged (c .before))
 
-slice-set-from-next : tie.Need-slice-set-from-next Inv-loop μ-loop
-slice-set-from-next c =
-    let n = c .before .before .before .before in
-    going-effect-room (n .before .loop .inv) (n .before .before .before .before .pre) (next-is (n .next .ensures) (c .before .before .item3 .given .1))
+-- what the test says of the item
+verdict : (c : tie.After-fails Inv-loop μ-loop) → let a = c .before .before .before .before .before .before .before .before .args in Verdict (a .part .now) (a .had .now) (a .values .now) (c .fails .result) (itemBy (a .part .now) (c .before .before .before .before .loop .from) (c .before .before .sum-at .result .terms))
+verdict c = rw (same (c .before .before)) at (c .fails .ensures) .is _ (c .before .before .sum-at .ensures)
 
-mul-t17 : tie.Need-mul-t17 Inv-loop μ-loop
-mul-t17 c = omega (arith, slice-set-from-next c)
+same-length : tie.Need-same-length Inv-loop μ-loop
+same-length c = c .before .before .before .before .before .loop .inv .1 .same-has
 
-behind-requires : tie.Need-behind-requires Inv-loop μ-loop
-behind-requires c κs = tt
+same-length-2 : tie.Need-same-length-2 Inv-loop μ-loop
+same-length-2 c = c .before .before .before .before .before .loop .inv .1 .same-next
 
--- the item that was taken in
-same : (c : tie.At-match-came Inv-loop μ-loop) → c .before .next .result ≡ c .match .item
-same c =
-    ⊎-elim (λ w. w .1 .given .1 ∙ sym (w .5))
-    (⊎-elim (λ w. w .1 .given .1 ∙ sym (w .5)) (⊎-elim (λ w. w .1 .given .1 ∙ sym (w .6)) (λ w. sym (w .3)))) (c .match .came)
+returns : tie.Need-returns Inv-loop μ-loop
+unfolding applicable
+returns c =
+    record {
+      test = record { is = walk-stop (Over _ _) Asked (c .before .before .before .before .before .loop .inv .0) (item-next (c .before .before .before)) (verdict (c .before) .0 (c .if1 .taken)) };
+      ran = λ e. clash cc;
+    }
 
--- it stands before the part's end
-inside : (c : tie.At-match-came Inv-loop μ-loop) → c .before .before .loop .at < length (c .before .before .before .before .before .args .part .now)
-inside c =
-    let there = c .before .next .ensures in
-    ⊎-elim (λ w. omega (arith, next-is there (w .1 .given .1) .moves))
-    (⊎-elim (λ w. omega (arith, next-is there (w .1 .given .1) .moves))
-    (⊎-elim (λ w. omega (arith, next-is there (w .1 .given .1) .moves))
-    (λ w. before-end (0 ∷ 3 ∷ []) (c .before .next .result) (miss (0 ∷ 3 ∷ []) 5 tt) (w .0 .keys5) (there .moves))))
-    (c .match .came)
+take-in-requires : tie.Need-take-in-requires Inv-loop μ-loop
+take-in-requires c κs = rw (same (c .before .before .before .before .before)) (takable (c .before .before .before .before .before))
 
 loop-less : tie.Need-loop-less Inv-loop μ-loop
 loop-less c =
-    let n = c .before .before in
-    omega (arith, next-ahead (inside (c .before)) (next-is (n .next .ensures) (same (c .before))), c .behind .ensures)
+    let s = c .before .before .before .before .before .before .before .before .before in
+    let t = (rw (same s) at (c .before .before .before .take-in .ensures)) .is (s .before .loop-test .taken) (s .sum-at .ensures) _ _ (s .before .before .loop .inv .1) (s .before .before .before .before .before .before .pre .runnable) in
+    omega (arith, t .0, next-ahead (s .before .loop-test .taken) (item-next s))
 
 loop-again : tie.Need-loop-again Inv-loop μ-loop
-unfolding behind
 loop-again c =
-    let n = c .before .before in
-    let g = n .before .loop .inv in
-    let p = n .before .before .before .before .pre in
-    let to = c .behind .ensures ∙ ap behind (sym (same (c .before))) in
-    ⊎-elim
-    (λ w. going-same (going-add g (next-is (n .next .ensures) (w .1 .given .1))) (to ∙ ap behind (w .1 .given .1)) (w .3) (w .4))
-    (⊎-elim
-    (λ w. going-same (going-delete g (next-is (n .next .ensures) (w .1 .given .1))) (to ∙ ap behind (w .1 .given .1)) (w .3) (w .4))
-    (⊎-elim
-    (λ w.
-    let i = next-is (n .next .ensures) (w .1 .given .1) in
-    let result = rw (back-small (w .1 .given .0 .1 .1 .0) (omega (arith, going-base g p i))) at (w .3 .ensures) in
-    going-same (rw (back (w .3 .result) (w .3 .ok)) (going-effect g i result)) (to ∙ ap behind (w .1 .given .1)) (w .4) (w .5))
-    (λ w. going-same (going-pass g (inside (c .before)) (n .next .ensures) (idle (n .next .result) (w .0 .keys5))) to (w .1) (w .2))))
-    (c .before .match .came)
+    let s = c .before .before .before .before .before .before .before .before .before in
+    let t = (rw (same s) at (c .before .before .before .take-in .ensures)) .is (s .before .loop-test .taken) (s .sum-at .ensures) _ _ (s .before .before .loop .inv .1) (s .before .before .before .before .before .before .pre .runnable) in (
+      rw (t .0) (walk-next (Over _ _) Asked (s .before .before .loop .inv .0) (s .before .loop-test .taken) (item-next s) (verdict (c .before .before .before .before .before .before .before) .1 (c .before .before .before .before .before .before .if1 .left))),
+      t .1,
+    )
 
-enum-told : tie.Need-enum-told Inv-loop μ-loop
-enum-told c = search needs
+same-length-3 : tie.Need-same-length-3 Inv-loop μ-loop
+same-length-3 c = c .before .loop .inv .1 .same-has
 
-same-length : tie.Need-same-length Inv-loop μ-loop
-same-length c = c .before .before .before .loop .inv .same-has
+same-length-4 : tie.Need-same-length-4 Inv-loop μ-loop
+same-length-4 c = c .before .loop .inv .1 .same-next
 
-same-length-2 : tie.Need-same-length-2 Inv-loop μ-loop
-same-length-2 c = c .before .before .before .loop .inv .same-next
-
-returns : tie.Need-returns Inv-loop μ-loop
-returns c =
-    let n = c .before .before in
-    going-end (n .before .loop .inv) (next-is (n .next .ensures) (c .enum-told .given .1) .moves)
+returns-2 : tie.Need-returns-2 Inv-loop μ-loop
+unfolding applicable all
+returns-2 c =
+    record {
+      test = record { is = walk-done (Over _ _) Asked (c .before .loop .inv .0) (c .loop-test .left) (λ s. refl) };
+      ran = λ e. going-end (c .before .loop .inv .1) (c .loop-test .left);
+    }
 
 pub run-spec : {M : Type 1} → statement M
 run-spec =
@@ -128,19 +120,14 @@ run-spec =
     Inv-loop
     μ-loop
     loop-holds
-    next-requires
-    enum-known-item
-    slice-write-has
-    enum-known-item-2
-    slice-write-has-2
-    enum-known-item-3
-    result-of-requires
-    mul-t17
-    slice-set-from-next
-    enum-told
+    sum-at-requires
+    fails-requires
     same-length
     same-length-2
     returns
-    behind-requires
+    take-in-requires
     loop-less
-    loop-again)
+    loop-again
+    same-length-3
+    same-length-4
+    returns-2)
