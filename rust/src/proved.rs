@@ -3,11 +3,12 @@
 //! A program links only the functions of the calls that it makes, so a library that lacks
 //! some of them still serves the others: see `Calls`.
 
+mod check;
 pub mod raw;
 
-use crate::answer::{
-    Answer, Blocking, Campaign, Checked, Decision, Fault, Head, Placed, Plan, Refusal,
-};
+pub use check::check;
+
+use crate::answer::{Answer, Blocking, Campaign, Decision, Head, Placed, Plan, Refusal};
 use crate::engine::{Calls, Lent};
 use crate::guarded::Guarded;
 
@@ -43,9 +44,6 @@ pub const PROVED_RIG: Calls = Calls {
 
 /// Marks "no plan" in the result of `decide` and `plan`.
 const NO_PLAN: u32 = 1 << 31;
-
-/// Marks an answer of `check` that is no yes.
-const NO_YES: u32 = 1 << 31;
 
 /// What the two further numbers of plan or place hold before a call; the first also that of check.
 const UNWRITTEN: [u64; 2] = [0x0123_4567_89AB_CDEF, 0xFEDC_BA98_7654_3210];
@@ -129,12 +127,6 @@ pub fn place(windows: &[u8], durations: &[u8], out: &mut [u8]) -> Result<Placed,
     placed(|length, place| raw::place(windows, durations, out, length, place))
 }
 
-/// # Panics
-/// As `checked`.
-pub fn check(table: &[u8], state: &[u8], list: &[u8], out: &mut [u8]) -> Result<Checked, Refusal> {
-    checked(|index| raw::check(table, state, list, out, index))
-}
-
 /// The library copies a block's bytes; the part of the table that has them is handed back.
 ///
 /// # Panics
@@ -203,31 +195,6 @@ fn placed(
             Err(Refusal { place, ..refusal })
         }
     }
-}
-
-/// Check's answer from a call that is lent the index, which it writes with a fault only.
-///
-/// # Panics
-/// If another answer writes the index, a canary beside it changed, or the result has a number that
-/// is no fault's.
-fn checked(call: impl FnOnce(&mut u64) -> Result<u32, Refusal>) -> Result<Checked, Refusal> {
-    let mut index = Guarded::holding(&UNWRITTEN[..1]);
-    let answer = call(&mut index.lend()[0]);
-    let index = number(&index);
-    if let Ok(low) = answer {
-        if low > NO_YES {
-            let known = u8::try_from(low - NO_YES).ok().and_then(Fault::from_number);
-            let fault = known.unwrap_or_else(|| panic!("fault {} is unknown", low - NO_YES));
-            return Ok(Checked::Fails { index, fault });
-        }
-    }
-    assert_eq!(index, UNWRITTEN[0], "an index was written without a fault");
-    answer.map(|low| match low {
-        NO_YES => Checked::GoalNotMet,
-        _ => Checked::Yes {
-            length: low as usize,
-        },
-    })
 }
 
 /// Decide's and plan's answers from a call that is lent all three numbers.
@@ -340,46 +307,6 @@ mod tests {
             *place = 3;
             Err(Reason::NoPlacement.at(3))
         });
-    }
-
-    #[test]
-    fn answers_are_taken_from_a_check() {
-        assert_eq!(checked(|_| Ok(9)), Ok(Checked::Yes { length: 9 }));
-        assert_eq!(checked(|_| Ok(0)), Ok(Checked::Yes { length: 0 }));
-        assert_eq!(checked(|_| Ok(NO_YES)), Ok(Checked::GoalNotMet));
-        assert_eq!(checked(|_| REFUSED), Err(Reason::OutputShort.at(0)));
-        for fault in Fault::ALL {
-            let answer = checked(|index| {
-                *index = 1 << 40;
-                Ok(NO_YES + u32::from(fault.number()))
-            });
-            let index = 1 << 40;
-            assert_eq!(answer, Ok(Checked::Fails { index, fault }));
-        }
-    }
-
-    #[test]
-    #[should_panic(expected = "an index was written without a fault")]
-    fn an_index_written_by_a_yes_is_found() {
-        let _ = checked(|index| {
-            *index = 0;
-            Ok(9)
-        });
-    }
-
-    #[test]
-    #[should_panic(expected = "an index was written without a fault")]
-    fn an_index_written_by_a_refusal_is_found() {
-        let _ = checked(|index| {
-            *index = 0;
-            REFUSED
-        });
-    }
-
-    #[test]
-    #[should_panic(expected = "fault 13 is unknown")]
-    fn an_unknown_fault_is_found() {
-        let _ = checked(|_| Ok(NO_YES + 13));
     }
 
     #[test]
