@@ -1,3 +1,2 @@
--- The specifications of checking a list: its entries one after the other, and the answer.
-pub mod Walking
+-- The specifications of checking a list.
 pub mod Replies

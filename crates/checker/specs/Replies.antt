@@ -19,7 +19,10 @@ use Rattle.model.specs.Calls.{Output, writes, turns, onOutput, fitted, writeAns
 use Rattle.schedule.specs.declared.Fault.{Fault}
 use Rattle.schedule.specs.declared.CheckAnswer.{CheckAnswer}
 use Rattle.schedule.specs.declared.CheckAnswer.the-variants as check
-use Rattle.schedule.specs.Check.{Checked, passes, fails, unmet, goalTested, checkFrom, Reply, yes-with, other, replyOf, checkState, checkTable, fittedReply, checking, replyAnswer, replyOut, checkAnswer, checkOut}
+use Rattle.schedule.specs.Run.{stateAfter}
+use Rattle.schedule.specs.Check.{Checked, passes, unmet, goalTested, checkFrom, Reply, yes-with, other, replyOf, checkState, checkTable, fittedReply, checking, replyAnswer, replyOut, checkAnswer, checkOut}
+use Rattle.schedule.specs.Theorems.Lists.{Made, FirstFault, made-checked}
+use Rattle.schedule.specs.Theorems.Exactly.{fails-exactly}
 use Rattle.schedule.specs.Theorems.Answers.{CheckRight, answer-right}
 use Rattle.state.specs.Storing.{stateIn}
 use Rattle.table.specs.Outlines.{partAt}
@@ -144,25 +147,36 @@ module _ {t marks : List ℕ} {props vars moves : ℕ} (h : Read t marks props v
         ∙ ap (λ (p : ℕ). replyOf k (checkFrom paper k 0 (stateOf p bs) ms)) (sym (h .props-is))
         ∙ ap (replyOf k) l
 
-  pub reply-fails : stateRefusal paper props vars bs ≡ none → {i : ℕ} {f : Fault} → checkFrom paper (h .table .task) 0 (stateOf props bs) ms ≡ fails i f → checkTable paper (reading paper (only written) t) bs ms ≡ other (check.Fails i f)
+  -- an entry cannot be made
+  pub reply-fails :
+      stateRefusal paper props vars bs ≡ none
+      → {i : ℕ} {f : Fault}
+      → FirstFault paper (h .table .task) (stateOf props bs) ms i f
+      → checkTable paper (reading paper (only written) t) bs ms ≡ other (check.Fails i f)
   unfolding replyOf
-  reply-fails e l = reply-checked e l
+  reply-fails e {i} {f} w = reply-checked e (fails-exactly paper (h .table .task) (stateOf props bs) ms i f .1 w)
 
-  pub reply-end : stateRefusal paper props vars bs ≡ none → (s : State) → checkFrom paper (h .table .task) 0 (stateOf props bs) ms ≡ goalTested (h .table .task) s → endReply props vars (h .table .task .goal) s ≡ checkTable paper (reading paper (only written) t) bs ms
+  -- all can
+  pub reply-end :
+      stateRefusal paper props vars bs ≡ none
+      → Made paper (h .table .task) (stateOf props bs) ms (length ms)
+      → let k = h .table .task in
+      endReply props vars (k .goal) (stateAfter k (stateOf props bs) ms) ≡ checkTable paper (reading paper (only written) t) bs ms
   unfolding replyOf endReply goalTested
-  reply-end e s l =
+  reply-end e made =
       let k = h .table .task in
+      let s = stateAfter k (stateOf props bs) ms in
       ap₂ (λ (p n : ℕ). endReply p n (k .goal) s) (h .props-is) (h .vars-is)
-      ∙ by-goal (applicable s (k .goal))
-      ∙ sym (reply-checked e l)
+      ∙ by-goal s (applicable s (k .goal))
+      ∙ sym (reply-checked e (made-checked paper k 0 (stateOf props bs) ms made))
     where
       by-goal :
-          (b : Bool)
+          (s : State) (b : Bool)
           → let k = h .table .task in
           elim b [ true ↦ yes-with (stateBytes (k .props) (k .vars) s) | false ↦ other check.GoalNotMet ]
           ≡ replyOf k (elim b [ true ↦ passes s | false ↦ unmet ])
-      by-goal true = refl
-      by-goal false = refl
+      by-goal s true = refl
+      by-goal s false = refl
 
   -- the goal's part
   pub goal-in : {part : List ℕ} → part ≡ partAt t marks moves → GoalIn part props vars (h .table .task .goal)

@@ -8,64 +8,14 @@ ghost use Rattle.model.specs.Reading.{only, reading};
 ghost use Rattle.model.specs.StateTable.{stateRefusal};
 ghost use Rattle.schedule.specs.Check.{checkTable, checkAnswer, checkOut};
 ghost use Rattle.schedule.specs.Theorems.Answers.{CheckRight};
-ghost use Rattle.transition.specs.Turns.{Read, Turnable};
-ghost use Rattle.checker.specs.Walking.{WalkedOut};
+ghost use Rattle.transition.specs.Turns.{Read};
 ghost use Rattle.checker.specs.Replies.{Replied, Testable, Tested};
 use model::ReadAnswer;
 use model::WriteAnswer;
 use schedule::CheckAnswer;
-use schedule::Fault;
 use state::StateCheck;
 use table::Wanted;
-use transition::Turn;
-
-// Every entry is made, or the first that cannot be.
-enum Walked {
-    Ended,
-    Stopped { index: usize, fault: Fault },
-}
-
-// Makes the moves of the list, one after the other, on the state that two pairs of arrays hold.
-fn walk(
-    table: &[u8],
-    marks: &[usize],
-    props: usize,
-    vars: usize,
-    moves: usize,
-    list: &[u8],
-    had: &mut [bool; 120],
-    values: &mut [i64; 16],
-    has: &mut [bool; 120],
-    next: &mut [i64; 16],
-) -> Walked
-    requires { ⌜ Turnable (now table) (now marks) props vars moves (now had) (now values) (now has) (now next) ⌝ }
-    ensures { λ r. ⌜ WalkedOut (now (table .entry)) (now (marks .entry)) props vars moves (now (list .entry)) (now (had .entry)) (now (values .entry)) (now (has .entry)) (now (next .entry)) (now (had .exit)) (now (values .exit)) r ⌝ }
-{
-    let mut i = 0;
-    while i < list.len() {
-        let chosen = list[i] as u64;
-        match transition::make_move(
-            table,
-            marks,
-            props,
-            vars,
-            moves,
-            chosen,
-            had,
-            values,
-            has,
-            next,
-        ) {
-            Turn::Made => {
-                i += 1;
-            }
-            Turn::Fails(fault) => {
-                return Walked::Stopped { index: i, fault };
-            }
-        }
-    }
-    Walked::Ended
-}
+use transition::Walked;
 
 // The answer in the state after the list: "goal not met", or yes with that state.
 fn finish(
@@ -102,26 +52,22 @@ fn follow(
     requires { ⌜ (Read (now table) (now marks) props vars moves) × (stateRefusal paper props vars (now state) ≡ none) ⌝ }
     ensures { λ r. ⌜ Replied (checkTable paper (reading paper (only written) (now (table .entry))) (now (state .entry)) (now (list .entry))) (now (out .entry)) (now (out .exit)) r ⌝ }
 {
-    let mut had = transition::truths_of(state, props);
-    let mut values = transition::values_of(state, props, vars);
-    let mut has = transition::truths_of(state, props);
-    let mut next = transition::values_of(state, props, vars);
-    let walked = walk(
+    let mut has = [false; 120];
+    let mut values = [0; 16];
+    match transition::walk(
         table,
         marks,
         props,
         vars,
         moves,
+        state,
         list,
-        &mut had,
-        &mut values,
         &mut has,
-        &mut next,
-    );
-    match walked {
+        &mut values,
+    ) {
         Walked::Ended => finish(
             reader::part(table, marks, moves),
-            &had,
+            &has,
             &values,
             props,
             vars,

@@ -1,47 +1,59 @@
--- The answer of a step, by its checks: the table's, the state's, and what becomes of the move. Assumes nothing.
-use Prim.Native.Nat.{ℕ, _≤_, _<_}
+-- The answer of a step, by its checks: the table's, the state's, and what keeps the move from being made. Assumes nothing.
+use Prim.Native.Nat.{ℕ, _≤_}
 use native.Mathlib.Omega.{arith}
 use mathlib.Core.Path.{_≡_, sym, ap, ap₂, _∙_}
 use mathlib.Core.Bool.{Bool, false}
-use mathlib.Core.List.{List}
+use mathlib.Core.List.{List, [], _∷_}
 use mathlib.Core.Option.{Option, none, some}
 use lib.IntN.{ℤ, pos}
-use lib.ListN.{length, getD}
+use lib.ListN.{length}
 use Rattle.model.specs.declared.Refusal.{Refusal}
 use Rattle.model.specs.declared.WriteAnswer.{WriteAnswer}
+use Rattle.model.specs.declared.WriteAnswer.the-variants as write
 use Rattle.model.specs.Limits.{paper}
 use Rattle.model.specs.Task.{written}
 use Rattle.model.specs.Move.{State, real, moveAt}
 use Rattle.model.specs.Reading.{Verdict, refused, only, reading}
-use Rattle.model.specs.StateTable.{stateOf, stateRefusal, stateBytes}
+use Rattle.model.specs.Lists.{tabulate}
+use Rattle.model.specs.Memory.{overwrite}
+use Rattle.model.specs.StateTable.{stateOf, stateValue, stateRefusal, stateBytes}
 use Rattle.model.specs.Calls.{writes, turns, stepWithState, stepOf, stepped, stepAnswer, stepOut}
 use Rattle.model.specs.Theorems.Reading.States.{accepted-state, stateBytes-same}
 use Rattle.schedule.specs.declared.Fault.{Fault}
+use Rattle.schedule.specs.declared.Fault.the-variants as fault
 use Rattle.schedule.specs.Check.{faultOf, faultNumber}
 use Rattle.schedule.specs.Theorems.Moves.{stepOutput, step-fault}
 use Rattle.state.specs.Storing.{stateIn}
 use Rattle.output.specs.Answers.{Answered}
-use Rattle.transition.specs.declared.Turn.{Turn}
-use Rattle.transition.specs.declared.Turn.the-variants as turn
-use Rattle.transition.specs.Moving.{Holds, Twice, turnFault}
-use Rattle.transition.specs.Turns.{Read, Turned}
+use Rattle.transition.specs.Values.{loaded}
+use Rattle.transition.specs.Moving.{Holds}
+use Rattle.transition.specs.Turns.{Read, missing}
+use Rattle.transition.specs.Entries.{AllMade, one-made, one-holds}
 
--- the arrays that an accepted state is loaded into hold it
+-- an accepted state, with counts that are none too large
+pub record Loadable (bs : List ℕ) (props vars : ℕ) : Type 0 where
+  pub accepted : stateRefusal paper props vars bs ≡ none
+  pub few-props : props ≤ 120
+  pub few-vars : vars ≤ 16
+
+-- the arrays that it is loaded into hold it
 pub loaded-holds :
-    {props vars : ℕ} (bs : List ℕ) {has : List Bool} {values : List ℤ}
+    {props vars : ℕ} (bs : List ℕ) (old : List Bool) (before : List ℤ) {has : List Bool} {values : List ℤ}
     → stateRefusal paper props vars bs ≡ none
-    → props ≤ 120
-    → vars ≤ 16
-    → (length has ≡ 120) × ((p : ℕ) → p < props → getD has p false ≡ stateOf props bs .has p)
-    → (length values ≡ 16) × ((v : ℕ) → v < vars → getD values v (pos 0) ≡ stateOf props bs .val v)
+    → has ≡ overwrite (tabulate (stateOf props bs .has) 0 props) old
+    → props ≤ length old
+    → values ≡ overwrite (tabulate (stateValue props bs) 0 vars) before
+    → vars ≤ length before
     → Holds props vars has values (stateOf props bs)
 unfolding stateOf paper
-loaded-holds {props} {vars} bs e few few-values truths values =
+loaded-holds {props} {vars} bs old before e truths long given long-values =
+    let h = loaded (stateOf props bs .has) props old false truths long in
+    let v = loaded (stateValue props bs) vars before (pos 0) given long-values in
     record {
-      long-has = omega (arith, truths .0);
-      long-values = omega (arith, values .0);
-      truths = truths .1;
-      same = values .1;
+      long-has = omega (arith, h .0);
+      long-values = omega (arith, v .0);
+      truths = h .1;
+      same = v .1;
       small = λ v h. accepted-state paper props vars bs e .values v h;
     }
 
@@ -66,30 +78,36 @@ module _ {t marks : List ℕ} {props vars moves : ℕ} (h : Read t marks props v
   unfolding stepWithState
   step-state-refused e = answer-is ∙ ap (stepWithState paper (h .table .task) bs b) e
 
-  -- the state is accepted, and the arrays that held it went through the move
-  module _ (e : stateRefusal paper props vars bs ≡ none) {had : List Bool} {values : List ℤ} {has : List Bool} {next : List ℤ} (w : Twice props vars had values has next (stateOf props bs))
-      {had′ : List Bool} {values′ : List ℤ} {has′ : List Bool} {next′ : List ℤ} {r : Turn} (q : Turned t marks props vars moves b had values has next had′ values′ has′ next′ r)
-    where
-      by-fault : {o : Option Fault} → turnFault r ≡ o → stepOf paper (reading paper (only written) t) bs b ≡ stepOutput o (stateBytes props vars (real (moveAt (h .table .task) b) (stateOf props bs)))
-      by-fault {o} f =
-          let k = h .table .task in
-          let m = q .is h (stateOf props bs) w in
-          answer-is
-          ∙ ap (stepWithState paper k bs b) e
-          ∙ step-fault paper k bs b
-          ∙ ap₂ (λ (p n : ℕ). stepOutput (faultOf paper k (stateOf p bs) b) (stateBytes p n (real (moveAt k b) (stateOf p bs)))) (sym (h .props-is)) (sym (h .vars-is))
-          ∙ ap (λ (x : Option Fault). stepOutput x (stateBytes props vars (real (moveAt k b) (stateOf props bs)))) (sym (m .fault) ∙ f)
+  -- the state is accepted
+  module _ (e : stateRefusal paper props vars bs ≡ none) where
+    by-fault :
+        {o : Option Fault}
+        → faultOf paper (h .table .task) (stateOf props bs) b ≡ o
+        → stepOf paper (reading paper (only written) t) bs b ≡ stepOutput o (stateBytes props vars (real (moveAt (h .table .task) b) (stateOf props bs)))
+    by-fault f =
+        let k = h .table .task in
+        answer-is
+        ∙ ap (stepWithState paper k bs b) e
+        ∙ step-fault paper k bs b
+        ∙ ap₂ (λ (p n : ℕ). stepOutput (faultOf paper k (stateOf p bs) b) (stateBytes p n (real (moveAt k b) (stateOf p bs)))) (sym (h .props-is)) (sym (h .vars-is))
+        ∙ ap (λ (x : Option Fault). stepOutput x (stateBytes props vars (real (moveAt k b) (stateOf props bs)))) f
 
-      pub step-made : r ≡ turn.Made → writes (stateBytes props vars (stateIn had′ values′)) ≡ stepOf paper (reading paper (only written) t) bs b
-      unfolding turnFault stepOutput
-      step-made f =
-          ap writes (put-same (q .is h (stateOf props bs) w .after (ap turnFault f) .old)) ∙ sym (by-fault (ap turnFault f))
+    pub step-fails : {f : Fault} → faultOf paper (h .table .task) (stateOf props bs) b ≡ some f → stepOf paper (reading paper (only written) t) bs b ≡ turns (record { number = faultNumber f; place = 0 })
+    unfolding stepOutput
+    step-fails f = by-fault f
 
-      pub step-fails : {f : Fault} → r ≡ turn.Fails f → stepOf paper (reading paper (only written) t) bs b ≡ turns (record { number = faultNumber f; place = 0 })
-      unfolding turnFault stepOutput
-      step-fails f = by-fault (ap turnFault f)
+    pub step-missing : moves ≤ b → stepOf paper (reading paper (only written) t) bs b ≡ turns (record { number = faultNumber fault.Missing; place = 0 })
+    step-missing l = step-fails (missing h (stateOf props bs) l)
+
+    pub step-made : {has : List Bool} {values : List ℤ} → AllMade props vars (h .table .task) (stateOf props bs) (b ∷ []) has values → writes (stateBytes props vars (stateIn has values)) ≡ stepOf paper (reading paper (only written) t) bs b
+    unfolding stepOutput
+    step-made m = ap writes (put-same (one-holds m)) ∙ sym (by-fault (one-made m))
 
 -- ---- the call
+
+-- the refusal of a move
+abbrev pub refusalOf : Fault → WriteAnswer
+refusalOf f = write.Refused (record { number = faultNumber f; place = 0 })
 
 pub step-answered :
     (t bs : List ℕ) (b : ℕ) {old new : List ℕ} {r : WriteAnswer}

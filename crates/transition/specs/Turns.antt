@@ -49,6 +49,15 @@ module _ {t marks : List ℕ} {props vars moves : ℕ} (h : Read t marks props v
   unfolding paper
   few-vars = omega (arith, h .vars-is, h .outline .ok .vars)
 
+  pub few-moves : moves ≤ 64
+  unfolding paper
+  few-moves = omega (arith, h .count, h .outline .ok .moves)
+
+  -- "missing"
+  pub missing : (s : State) {b : ℕ} → moves ≤ b → faultOf paper (h .table .task) s b ≡ some fault.Missing
+  unfolding faultOf
+  missing s {b} l = rw (faultOf, le-ltb b (length (h .table .task .moves)) (omega (arith, h .count))) refl
+
   -- the offsets of a block
   pub block-in : (b : ℕ) → b ≤ moves → PartIn t marks b
   block-in b l = outline-part (h .outline) b (omega (arith, h .count))
@@ -70,7 +79,7 @@ module _ {t marks : List ℕ} {props vars moves b : ℕ} {had : List Bool} {valu
       record {
         is = λ h s w.
             record {
-              fault = sym (rw (faultOf, le-ltb b (length (h .table .task .moves)) (omega (arith, h .count))) refl);
+              fault = sym (missing h s l);
               after = λ f. absurd (some-none f);
             };
       }

@@ -1,10 +1,10 @@
-// One real move of a written table (document 01, "Moves").
+// Real moves of a written table (document 01, "Moves"): those of a list, and one, which is a list of one.
 ghost use mathlib.Core.Path.{_≡_};
 ghost use mathlib.Core.Bool.{false};
 ghost use mathlib.Core.Option.{none};
 ghost use Prim.Native.Nat.{_+_, _*_, _<_, _≤_, ℕ};
 ghost use lib.ListN.{length, getD};
-ghost use lib.IntN.{natAbs, pos};
+ghost use lib.IntN.{natAbs};
 ghost use Rattle.model.specs.Seen.{kindOf};
 ghost use Rattle.model.specs.Reading.{only, reading};
 ghost use Rattle.model.specs.Move.{changed};
@@ -15,8 +15,10 @@ ghost use Rattle.model.specs.Task.{written};
 ghost use Rattle.state.specs.Storing.{stateIn};
 ghost use Rattle.output.specs.Answers.{Answered};
 ghost use Rattle.transition.specs.Walking.{Takable, Taken};
-ghost use Rattle.transition.specs.Moving.{Triable, Tried, KeptValues, Putable, Movable, Moved};
+ghost use Rattle.transition.specs.Moving.{Holds, Triable, Tried, KeptValues, Putable, Movable, Moved};
 ghost use Rattle.transition.specs.Turns.{Read, Turnable, Turned};
+ghost use Rattle.transition.specs.Entries.{MovesMade, WalkedOut};
+ghost use Rattle.transition.specs.Steps.{Loadable, refusalOf};
 use model::ReadAnswer;
 use model::Refusal;
 use model::WriteAnswer;
@@ -25,9 +27,15 @@ use state::StateCheck;
 use table::Wanted;
 
 // What becomes of a move: it is made, or why not.
-pub enum Turn {
+enum Turn {
     Made,
     Fails(Fault),
+}
+
+// Every move of a list is made, or the first that cannot be.
+pub enum Walked {
+    Ended,
+    Stopped { index: usize, fault: Fault },
 }
 
 // "k is 0 := , 1 += , 2 −="
@@ -147,24 +155,13 @@ pub fn put_state(
     WriteAnswer::Written(size as u64)
 }
 
-// The propositions of a state.
-pub fn truths_of(state: &[u8], props: usize) -> [bool; 120]
-    requires { ⌜ (props ≤ length (now state)) × (props ≤ 120) ⌝ }
-    ensures { λ r. ⌜ (length r ≡ 120) × ((p : ℕ) → p < props → getD r p false ≡ stateOf props (now (state .entry)) .has p) ⌝ }
+// Loads an accepted state into two arrays.
+fn load(state: &[u8], props: usize, vars: usize, has: &mut [bool; 120], values: &mut [i64; 16])
+    requires { ⌜ Loadable (now state) props vars ⌝ }
+    ensures { λ r. ⌜ Holds props vars (now (has .exit)) (now (values .exit)) (stateOf props (now (state .entry))) ⌝ }
 {
-    let mut has = [false; 120];
-    state::load_truths(state, props, &mut has);
-    has
-}
-
-// The values of a state.
-pub fn values_of(state: &[u8], props: usize, vars: usize) -> [i64; 16]
-    requires { ⌜ (props + 4 * vars ≤ length (now state)) × (vars ≤ 16) ⌝ }
-    ensures { λ r. ⌜ (length r ≡ 16) × ((v : ℕ) → v < vars → getD r v (pos 0) ≡ stateOf props (now (state .entry)) .val v) ⌝ }
-{
-    let mut values = [0; 16];
-    state::load_values(state, props, vars, &mut values);
-    values
+    state::load_truths(state, props, has);
+    state::load_values(state, props, vars, values);
 }
 
 // Makes the move of a part on the state that two pairs of arrays hold: "A real move needs its conditions true". Where it fails, nothing is said
@@ -192,13 +189,13 @@ fn make(
 }
 
 // Makes move `chosen` of an accepted table on the state that two pairs of arrays hold.
-pub fn make_move(
+fn make_move(
     table: &[u8],
     marks: &[usize],
     props: usize,
     vars: usize,
     moves: usize,
-    chosen: u64,
+    chosen: usize,
     had: &mut [bool; 120],
     values: &mut [i64; 16],
     has: &mut [bool; 120],
@@ -207,14 +204,100 @@ pub fn make_move(
     requires { ⌜ Turnable (now table) (now marks) props vars moves (now had) (now values) (now has) (now next) ⌝ }
     ensures { λ r. ⌜ Turned (now (table .entry)) (now (marks .entry)) props vars moves chosen (now (had .entry)) (now (values .entry)) (now (has .entry)) (now (next .entry)) (now (had .exit)) (now (values .exit)) (now (has .exit)) (now (next .exit)) r ⌝ }
 {
-    if chosen >= moves as u64 {
+    if chosen >= moves {
         return Turn::Fails(Fault::Missing);
     }
-    let part = reader::part(table, marks, chosen as usize);
+    let part = reader::part(table, marks, chosen);
     make(part, props, vars, had, values, has, next)
 }
 
-// Makes the chosen move and stores the state after it.
+// Makes the moves of a list, one after the other, on the state that two pairs of arrays hold.
+fn make_moves(
+    table: &[u8],
+    marks: &[usize],
+    props: usize,
+    vars: usize,
+    moves: usize,
+    list: &[u8],
+    had: &mut [bool; 120],
+    values: &mut [i64; 16],
+    has: &mut [bool; 120],
+    next: &mut [i64; 16],
+) -> Walked
+    requires { ⌜ Turnable (now table) (now marks) props vars moves (now had) (now values) (now has) (now next) ⌝ }
+    ensures { λ r. ⌜ MovesMade (now (table .entry)) (now (marks .entry)) props vars moves (now (list .entry)) (now (had .entry)) (now (values .entry)) (now (has .entry)) (now (next .entry)) (now (had .exit)) (now (values .exit)) r ⌝ }
+{
+    let mut i = 0;
+    while i < list.len() {
+        let chosen = list[i] as usize;
+        match make_move(
+            table,
+            marks,
+            props,
+            vars,
+            moves,
+            chosen,
+            had,
+            values,
+            has,
+            next,
+        ) {
+            Turn::Made => {
+                i += 1;
+            }
+            Turn::Fails(fault) => {
+                return Walked::Stopped { index: i, fault };
+            }
+        }
+    }
+    Walked::Ended
+}
+
+// Makes the moves of a list from an accepted state; `has` and `values` then hold the state after them. Where one cannot be made, nothing is
+// said of the two.
+pub fn walk(
+    table: &[u8],
+    marks: &[usize; 66],
+    props: usize,
+    vars: usize,
+    moves: usize,
+    state: &[u8],
+    list: &[u8],
+    has: &mut [bool; 120],
+    values: &mut [i64; 16],
+) -> Walked
+    requires { ⌜ (Read (now table) (now marks) props vars moves) × (stateRefusal paper props vars (now state) ≡ none) ⌝ }
+    ensures { λ r. ⌜ WalkedOut (now (table .entry)) (now (marks .entry)) props vars moves (now (state .entry)) (now (list .entry)) (now (has .exit)) (now (values .exit)) r ⌝ }
+{
+    let mut others = [false; 120];
+    let mut next = [0; 16];
+    load(state, props, vars, has, values);
+    load(state, props, vars, &mut others, &mut next);
+    make_moves(
+        table,
+        marks,
+        props,
+        vars,
+        moves,
+        list,
+        has,
+        values,
+        &mut others,
+        &mut next,
+    )
+}
+
+// Step's refusal of a move.
+fn refused(fault: Fault) -> WriteAnswer
+    ensures { λ r. ⌜ r ≡ refusalOf fault ⌝ }
+{
+    WriteAnswer::Refused(Refusal {
+        number: schedule::fault_number(fault),
+        place: 0,
+    })
+}
+
+// Makes the chosen move, a list of one, and stores the state after it.
 fn choose(
     table: &[u8],
     marks: &[usize; 66],
@@ -228,28 +311,25 @@ fn choose(
     requires { ⌜ (Read (now table) (now marks) props vars moves) × (stateRefusal paper props vars (now state) ≡ none) ⌝ }
     ensures { λ r. ⌜ Answered (stepOf paper (reading paper (only written) (now (table .entry))) (now (state .entry)) chosen) (now (out .entry)) (now (out .exit)) r ⌝ }
 {
-    let mut had = truths_of(state, props);
-    let mut values = values_of(state, props, vars);
-    let mut has = truths_of(state, props);
-    let mut next = values_of(state, props, vars);
-    let made = make_move(
+    if chosen >= moves as u64 {
+        return refused(Fault::Missing);
+    }
+    let list = [chosen as u8];
+    let mut has = [false; 120];
+    let mut values = [0; 16];
+    match walk(
         table,
         marks,
         props,
         vars,
         moves,
-        chosen,
-        &mut had,
-        &mut values,
+        state,
+        &list,
         &mut has,
-        &mut next,
-    );
-    match made {
-        Turn::Made => put_state(&had, &values, props, vars, out),
-        Turn::Fails(f) => {
-            let number = schedule::fault_number(f);
-            WriteAnswer::Refused(Refusal { number, place: 0 })
-        }
+        &mut values,
+    ) {
+        Walked::Ended => put_state(&has, &values, props, vars, out),
+        Walked::Stopped { index: _, fault } => refused(fault),
     }
 }
 

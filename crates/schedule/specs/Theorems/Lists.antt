@@ -4,7 +4,7 @@
 use Prim.Native.Nat.{ℕ, zero, suc, _+_, _<_}
 use native.Mathlib.Nat.{not-suc-le-zero}
 use native.Mathlib.Omega.{arith}
-use mathlib.Core.Path.{_≡_, refl, subst}
+use mathlib.Core.Path.{_≡_, refl, ap, _∙_, subst}
 use mathlib.Core.Bool.{Bool, true, false}
 use mathlib.Core.List.{List, [], _∷_}
 use mathlib.Core.Option.{Option, none, some}
@@ -125,6 +125,16 @@ module _ (L : Limits) (k : Task) where
   made-first : (s : State) (b : ℕ) (bs : List ℕ) → Made s (b ∷ bs) (suc (length bs)) → faultOf L k s b ≡ none
   unfolding faultAt stateAfter
   made-first s b bs m = m 0 (omega arith)
+
+  -- where every entry can be made, the goal is tested after the last
+  pub made-checked : (i : ℕ) (s : State) (bs : List ℕ) → Made s bs (length bs) → checkFrom L k i s bs ≡ goalTested k (stateAfter k s bs)
+  unfolding checkFrom checkMove stateAfter
+  made-checked i s [] made = refl
+  made-checked i s (b ∷ bs) made =
+      let can = made-first s b bs made in
+      let to = real (moveAt k b) s in
+      ap (λ (o : Option Fault). checkMove i o (checkFrom L k (suc i) to bs)) can
+      ∙ made-checked (suc i) to bs (made-less s b bs can (length bs) made)
 
   -- entry b can be made where it has no fault
   pub can : (s : State) (b : ℕ) → faultOf L k s b ≡ none → CanMove L k s b
