@@ -31,7 +31,7 @@ use Rattle.block.specs.Parts.{goal-left}
 use Rattle.block.specs.Blocks.{IsApplicable}
 use Rattle.block.specs.Blocks as blocks
 use Rattle.output.specs.Answers.{Answered}
-use Rattle.transition.specs.Moving.{rangesOf, Holds, holds-state}
+use Rattle.real_move.specs.Moving.{rangesOf, Holds, holds-state}
 use Rattle.transition.specs.Turns.{Read}
 use Rattle.transition.specs.Steps.{put-same}
 

@@ -20,11 +20,11 @@ use Rattle.schedule.specs.Run.{stateAfter}
 use Rattle.schedule.specs.Check.{faultOf}
 use Rattle.schedule.specs.Theorems.Lists.{faultAt, Made, FirstFault}
 use Rattle.schedule.specs.Theorems.Steps.{state-next}
-use Rattle.transition.specs.declared.Turn.{Turn}
-use Rattle.transition.specs.declared.Turn.the-variants as turn
+use Rattle.real_move.specs.declared.Turn.{Turn}
+use Rattle.real_move.specs.declared.Turn.the-variants as turn
 use Rattle.transition.specs.declared.Walked.{Walked}
 use Rattle.transition.specs.declared.Walked.the-variants as walked
-use Rattle.transition.specs.Moving.{Holds, Twice, turnFault}
+use Rattle.real_move.specs.Moving.{Holds, Twice, turnFault}
 use Rattle.transition.specs.Turns.{Read, Turnable, Turned}
 
 -- every move is made, and the arrays hold the state after them

@@ -1,12 +1,12 @@
 -- The answer of a step, by its checks: the table's, the state's, and what keeps the move from being made. Assumes nothing.
-use Prim.Native.Nat.{ℕ, _≤_}
+use Prim.Native.Nat.{ℕ, _≤_, _<_}
 use native.Mathlib.Omega.{arith}
 use mathlib.Core.Path.{_≡_, sym, ap, ap₂, _∙_}
 use mathlib.Core.Bool.{Bool, false}
 use mathlib.Core.List.{List, [], _∷_}
 use mathlib.Core.Option.{Option, none, some}
 use lib.IntN.{ℤ, pos}
-use lib.ListN.{length}
+use lib.ListN.{length, getD}
 use Rattle.model.specs.declared.Refusal.{Refusal}
 use Rattle.model.specs.declared.WriteAnswer.{WriteAnswer}
 use Rattle.model.specs.declared.WriteAnswer.the-variants as write
@@ -23,12 +23,23 @@ use Rattle.schedule.specs.declared.Fault.{Fault}
 use Rattle.schedule.specs.declared.Fault.the-variants as fault
 use Rattle.schedule.specs.Check.{faultOf, faultNumber}
 use Rattle.schedule.specs.Theorems.Moves.{stepOutput, step-fault}
+use Rattle.state.specs.Overwriting.{length-written, written-at}
 use Rattle.state.specs.Storing.{stateIn}
 use Rattle.output.specs.Answers.{Answered}
-use Rattle.transition.specs.Values.{loaded}
-use Rattle.transition.specs.Moving.{Holds}
+use Rattle.real_move.specs.Moving.{Holds}
 use Rattle.transition.specs.Turns.{Read, missing}
 use Rattle.transition.specs.Entries.{AllMade, one-made, one-holds}
+
+-- ---- loading
+
+-- a table that was written over the start of an array
+loaded :
+    {A : Type 0} (f : ℕ → A) (n : ℕ) (old : List A) {new : List A} (d : A)
+    → new ≡ overwrite (tabulate f 0 n) old
+    → n ≤ length old
+    → (length new ≡ length old) × ((j : ℕ) → j < n → getD new j d ≡ f j)
+loaded {A} f n old d e h =
+    (ap length e ∙ length-written f old n h, λ j l. ap (λ (x : List A). getD x j d) e ∙ written-at f old n j d l)
 
 -- an accepted state, with counts that are none too large
 pub record Loadable (bs : List ℕ) (props vars : ℕ) : Type 0 where

@@ -17,9 +17,9 @@ use Rattle.schedule.specs.Check.{blockFault, faultOf}
 use Rattle.table.specs.Outlines.{partAt, HeadRead}
 use Rattle.reader.specs.Parts.{PartIn, outline-part}
 use Rattle.block.specs.Parts.{move-left}
-use Rattle.transition.specs.declared.Turn.{Turn}
-use Rattle.transition.specs.declared.Turn.the-variants as turn
-use Rattle.transition.specs.Moving.{Twice, Chosen, Movable, turnFault, Became, Moved}
+use Rattle.real_move.specs.declared.Turn.{Turn}
+use Rattle.real_move.specs.declared.Turn.the-variants as turn
+use Rattle.real_move.specs.Moving.{Twice, Chosen, Movable, turnFault, Became, Moved}
 
 -- an accepted written table, with the offsets of its blocks
 abbrev pub Read : List ℕ → List ℕ → ℕ → ℕ → ℕ → Type 0

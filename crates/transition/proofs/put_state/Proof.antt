@@ -8,7 +8,7 @@ use Rattle.model.specs.StateTable.{stateBytes}
 use Rattle.model.specs.Theorems.Reading.States.{length-stateBytes}
 use Rattle.state.specs.Storing.{stateIn}
 use Rattle.output.specs.Answers.{answered-short, answered-whole}
-use Rattle.transition.specs.Moving.{holds-small}
+use Rattle.real_move.specs.Moving.{holds-small}
 use Rattle.transition.proofs.put_state.Statement.{statement}
 use Rattle.transition.proofs.put_state.Tie as tie
 

@@ -19,10 +19,10 @@ use Rattle.schedule.specs.Check.{rangeFault, blockFault}
 use Rattle.block.specs.Items.{Ranges, Left}
 use Rattle.block.specs.Sums.{Row}
 use Rattle.block.specs.Blocks.{StateRow, IsApplicable}
-use Rattle.transition.specs.declared.Turn.{Turn}
-use Rattle.transition.specs.declared.Turn.the-variants as turn
-use Rattle.transition.specs.Running.{Runs, Runnable, Ran, Reached}
-use Rattle.transition.specs.Values.{allInRange, all-small, all-same}
+use Rattle.real_move.specs.declared.Turn.{Turn}
+use Rattle.real_move.specs.declared.Turn.the-variants as turn
+use Rattle.real_move.specs.Running.{Runs, Runnable, Ran, Reached}
+use Rattle.real_move.specs.Values.{allInRange, all-small, all-same}
 
 abbrev pub rangesOf : ℕ → ℕ → Ranges
 rangesOf props vars = record { form = written; props = props; vars = vars }

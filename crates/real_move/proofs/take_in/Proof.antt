@@ -14,9 +14,9 @@ use Rattle.model.specs.Limits.{largestValue}
 use Rattle.block.specs.Items.{Next}
 use Rattle.block.specs.Streams.{item-add, item-delete, item-effect}
 use Rattle.block.specs.declared.ItemAt.the-variants.{Add, Delete, Effect as EffectAt}
-use Rattle.transition.specs.Walking.{taken-item, taken-room, taken-add, taken-delete, taken-effect, taken-condition, taken-need, going-add-room, going-delete-room, going-base, going-effect-room, going-value-room, going-value-size}
-use Rattle.transition.proofs.take_in.Statement.{statement}
-use Rattle.transition.proofs.take_in.Tie as tie
+use Rattle.real_move.specs.Walking.{taken-item, taken-room, taken-add, taken-delete, taken-effect, taken-condition, taken-need, going-add-room, going-delete-room, going-base, going-effect-room, going-value-room, going-value-size}
+use Rattle.real_move.proofs.take_in.Statement.{statement}
+use Rattle.real_move.proofs.take_in.Tie as tie
 
 mul-at : tie.Need-mul-at
 mul-at c = omega (arith, taken-room (c .before .before .pre))

@@ -13,9 +13,9 @@ use Rattle.model.specs.Theorems.Laws.Booleans.{clash}
 use Rattle.block.specs.Items.{Next, next-ahead}
 use Rattle.block.specs.Blocks.{Walk, walk-start, walk-next, walk-stop, walk-done}
 use Rattle.block.specs.Streams.{Addable, itemBy, sum-item, Over, Asked, Judged, Verdict}
-use Rattle.transition.specs.Walking.{Going, going-start, going-end, Takable}
-use Rattle.transition.proofs.run.Statement.{statement}
-use Rattle.transition.proofs.run.Tie as tie
+use Rattle.real_move.specs.Walking.{Going, going-start, going-end, Takable}
+use Rattle.real_move.proofs.run.Statement.{statement}
+use Rattle.real_move.proofs.run.Tie as tie
 
 abbrev Inv-loop : tie.InvT-loop
 Inv-loop part had values has₀ next₀ from₀ has next from = Walk part (Over had values) Asked from × Going part values has₀ next₀ from has next

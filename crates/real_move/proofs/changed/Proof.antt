@@ -8,9 +8,9 @@ use Rattle.integer.specs.Linear.{back}
 use Rattle.model.specs.Task.{Kind}
 use Rattle.model.specs.Seen.{kindOf}
 use Rattle.model.specs.Move.{changed}
-use Rattle.transition.specs.Walking.{kind-rest}
-use Rattle.transition.proofs.changed.Statement.{statement}
-use Rattle.transition.proofs.changed.Tie as tie
+use Rattle.real_move.specs.Walking.{kind-rest}
+use Rattle.real_move.proofs.changed.Statement.{statement}
+use Rattle.real_move.proofs.changed.Tie as tie
 
 old : (s : tie.Start) → toZ w64 (ofZ w64 (s .args .old)) ≡ s .args .old
 old s = back (s .args .old) (s .fits .old .sfits)

@@ -16,7 +16,7 @@ use Rattle.model.specs.Move.{State, value, changed, real}
 use Rattle.model.specs.Theorems.Reading.WellFormed.{Once}
 use Rattle.block.specs.Items.{Ranges, Left, Followed, ConditionFound, EffectFound}
 use Rattle.block.specs.Sums.{Row}
-use Rattle.transition.specs.Changes.{truthAfter, valueAfter, value-start, truth-add, truth-add-other, truth-delete, truth-delete-other, effect-here, effect-other, no-effect, at-other}
+use Rattle.real_move.specs.Changes.{truthAfter, valueAfter, value-start, truth-add, truth-add-other, truth-delete, truth-delete-other, effect-here, effect-other, no-effect, at-other}
 
 -- ---- a move and what it is run on
 

@@ -12,9 +12,9 @@ use Rattle.model.specs.Limits.{paper}
 use Rattle.model.specs.Lists.{allBelow}
 use Rattle.model.specs.StateTable.{valueInRange}
 use Rattle.model.specs.Theorems.Laws.Booleans.{clash}
-use Rattle.transition.specs.Values.{allInRange, all-next, all-fails, Copying, copying-start, copying-step}
-use Rattle.transition.proofs.keep_values.Statement.{statement}
-use Rattle.transition.proofs.keep_values.Tie as tie
+use Rattle.real_move.specs.Values.{allInRange, all-next, all-fails, Copying, copying-start, copying-step}
+use Rattle.real_move.proofs.keep_values.Statement.{statement}
+use Rattle.real_move.proofs.keep_values.Tie as tie
 
 abbrev Inv-loop : tie.InvT-loop
 Inv-loop values₀ next vars v₀ values v = (Copying (pos 0) next vars values₀ values v) × (allInRange next v ≡ true)

@@ -1,4 +1,4 @@
--- Values in range, and what is loaded and copied. Assumes nothing.
+-- Values in range, and what is copied. Assumes nothing.
 use Prim.Native.Nat.{ℕ, _+_, _≤_, _<_}
 use native.Mathlib.Nat.{not-suc-le-zero}
 use native.Mathlib.Numerals.{add-one}
@@ -12,14 +12,12 @@ use lib.IntN.{ℤ, pos, natAbs}
 use lib.ListN.{length, getD, set, length-set}
 use lib.Seq.{getD-set-same}
 use Rattle.model.specs.Limits.{paper}
-use Rattle.model.specs.Lists.{allBelow, tabulate}
-use Rattle.model.specs.Memory.{overwrite}
-use Rattle.state.specs.Overwriting.{length-written, written-at}
+use Rattle.model.specs.Lists.{allBelow}
 use Rattle.model.specs.StateTable.{valueInRange}
 use Rattle.model.specs.Theorems.Laws.Booleans.{T-true, T-equal, true-T, false-not, not-false}
 use Rattle.model.specs.Theorems.Laws.Searching.{below-suc, allBelow-at, at-allBelow}
 use Rattle.state.specs.Checking.{range-size}
-use Rattle.transition.specs.Changes.{at-other}
+use Rattle.real_move.specs.Changes.{at-other}
 
 -- ---- 12: "a result beyond ±1,000,000"
 
@@ -51,17 +49,6 @@ all-same f g n e =
     T-equal (allBelow f n) (allBelow g n)
     (λ t. at-allBelow g n (λ i h. subst T (e i h) (allBelow-at f n t i h)))
     (λ t. at-allBelow f n (λ i h. subst T (sym (e i h)) (allBelow-at g n t i h)))
-
--- ---- loading
-
--- a table that was written over the start of an array
-pub loaded :
-    {A : Type 0} (f : ℕ → A) (n : ℕ) (old : List A) {new : List A} (d : A)
-    → new ≡ overwrite (tabulate f 0 n) old
-    → n ≤ length old
-    → (length new ≡ length old) × ((j : ℕ) → j < n → getD new j d ≡ f j)
-loaded {A} f n old d e h =
-    (ap length e ∙ length-written f old n h, λ j l. ap (λ (x : List A). getD x j d) e ∙ written-at f old n j d l)
 
 -- ---- copying
 

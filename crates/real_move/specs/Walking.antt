@@ -19,7 +19,7 @@ use Rattle.block.specs.Sums.{Row, IsValue, value-of}
 use Rattle.block.specs.Closing.{Closed, closed-room, closes-effect}
 use Rattle.block.specs.Blocks.{effect-value, effect-base, next-is}
 use Rattle.block.specs.Streams.{Addable, SumAt, itemBy, item-cases, item-add, item-delete, item-effect, sum-item}
-use Rattle.transition.specs.Running.{Runs, Runnable, Ran, Running, running-start, running-need, running-add, running-delete, running-condition, running-effect, running-end}
+use Rattle.real_move.specs.Running.{Runs, Runnable, Ran, Running, running-start, running-need, running-add, running-delete, running-condition, running-effect, running-end}
 
 -- ---- one effect's value
 

@@ -3,9 +3,9 @@
 use Prim.Native.Nat.{_-_}
 use native.Mathlib.Omega.{arith}
 use mathlib.Core.Bool.{false}
-use Rattle.transition.specs.Values.{Copying, copying-start, copying-step}
-use Rattle.transition.proofs.keep_truths.Statement.{statement}
-use Rattle.transition.proofs.keep_truths.Tie as tie
+use Rattle.real_move.specs.Values.{Copying, copying-start, copying-step}
+use Rattle.real_move.proofs.keep_truths.Statement.{statement}
+use Rattle.real_move.proofs.keep_truths.Tie as tie
 
 abbrev Inv-loop : tie.InvT-loop
 Inv-loop had₀ has props p₀ had p = Copying false has props had₀ had p

@@ -1,9 +1,9 @@
 -- `make` meets its contract: its conditions and its run, then the range of the values, then the truths. Assumes nothing.
 use native.Mathlib.Omega.{arith}
 use borrow.Author.Tests.{not-true, not-false}
-use Rattle.transition.specs.Moving.{move-triable, moved-refused, moved-beyond, moved-made}
-use Rattle.transition.proofs.make.Statement.{statement}
-use Rattle.transition.proofs.make.Tie as tie
+use Rattle.real_move.specs.Moving.{move-triable, moved-refused, moved-beyond, moved-made}
+use Rattle.real_move.proofs.make.Statement.{statement}
+use Rattle.real_move.proofs.make.Tie as tie
 
 run-requires : tie.Need-run-requires
 run-requires c κs = move-triable (c .before .before .before .before .before .before .before .pre)
