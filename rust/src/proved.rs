@@ -233,7 +233,7 @@ mod tests {
     use super::*;
     use crate::answer::Reason;
 
-    const REFUSED: Result<u32, Refusal> = Err(Refusal {
+    pub(super) const REFUSED: Result<u32, Refusal> = Err(Refusal {
         reason: Reason::OutputShort,
         place: 0,
     });

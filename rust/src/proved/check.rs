@@ -40,13 +40,9 @@ fn checked(call: impl FnOnce(&mut u64) -> Result<u32, Refusal>) -> Result<Checke
 
 #[cfg(test)]
 mod tests {
+    use super::super::tests::REFUSED;
     use super::*;
     use crate::answer::Reason;
-
-    const REFUSED: Result<u32, Refusal> = Err(Refusal {
-        reason: Reason::OutputShort,
-        place: 0,
-    });
 
     #[test]
     fn answers_are_taken_from_a_check() {
