@@ -19,7 +19,11 @@ from collections import defaultdict
 WORD = re.compile(r"[^\s(){}\[\].,;\"`]+")
 # types in lower case whose spelling is also that of a word or a field, by the file that declares them: turned where it is meant, below
 # lemmas that port.py gave a definition's new name, and where they stand
-LEMMAS = {"head_bytes": ("crates/model/", "crates/ceiling/", "crates/rewrite/"), "in_place": ("crates/model/",), "raised_at": ("crates/targets/",)}
+LEMMAS = {
+    "headBytes": ("head_bytes", ("crates/model/", "crates/ceiling/", "crates/rewrite/")),
+    "inPlace": ("in_place", ("crates/model/",)),
+    "raisedAt": ("raised_at", ("crates/targets/",)),
+}
 TYPES = {"atHead": "AtHead", "comesOut": "ComesOut", "turnsBack": "TurnsBack"}
 
 
@@ -42,29 +46,22 @@ def read(path):
 
 def declared(text):
     """The names that a file declares, each with its kind: type, word, con or field."""
-    lines, inside = text.split("\n"), None
-    for i, line in enumerate(lines):
-        if line.startswith("--") or not line.strip():
+    inside = None
+    for line in text.split("\n"):
+        m = re.match(r"( *)(?:(?:unfoldable|abbrev|pub|pattern) )*(?:(data|record) (\S+)|([^\s:(){}]+(?: [^\s:(){}]+)*)(?: \{[^}]*\})? :(?:\s|$))", line)
+        if not m or line.startswith("use ") or m.group(2) is None and m.group(4).startswith(("--", "let ", "λ ", "→ ")):
             continue
-        m = re.match(r"(?:unfoldable |abbrev |pub |pattern )*(data|record) (\S+)", line)
-        if m:
-            inside = m.group(1)
-            yield m.group(2), "type"
-        elif not line[0].isspace():
+        indent = len(m.group(1))
+        if inside and indent <= inside[0]:
             inside = None
-            m = re.match(r"(?:unfoldable |abbrev |pub |pattern )*([^\s:]+)(?: \{[^}]*\})?\s*:(?:\s|$)", line)
-            if m and not line.startswith("use "):
-                yield m.group(1), "word"
-        elif inside == "data":
-            m = re.match(r"  (?:pub )?([^\s:()]+(?: [^\s:()]+)*) : ", line)
-            if m:
-                for n in m.group(1).split():
-                    yield n, "con"
-        elif inside == "record":
-            m = re.match(r"  (?:pub )?([^\s:()]+(?: [^\s:()]+)*) :(?:\s|$)", line)
-            if m:
-                for n in m.group(1).split():
-                    yield n, "field"
+        if m.group(2) and m.group(3) != "{":
+            inside = indent, m.group(2)
+            yield m.group(3), "type"
+        elif m.group(4) and inside:
+            for n in m.group(4).split():
+                yield n, "con" if inside[1] == "data" else "field"
+        elif m.group(4) and " " not in m.group(4):
+            yield m.group(4), "word"
 
 
 def snake(name):
@@ -91,7 +88,7 @@ def plan():
     for p in files((".antt", ".rt")):
         if os.path.basename(p) == "Proof.antt":
             continue
-        words = words_of(p) - LEMMAS.keys()
+        words = words_of(p) - {l for l, _ in LEMMAS.values()}
         for w in words & new.keys():
             others = {v for v in words if v != w and new.get(v, v) == new[w]}
             if others:
@@ -127,7 +124,7 @@ def turn_prose(text, new):
 
 def turn(path, text, new):
     if not path.endswith(".rt"):
-        new = {l: l + "_lem" for l, where in LEMMAS.items() if path.startswith(where)} | new
+        new = {l: l + "_lem" for d, (l, where) in LEMMAS.items() if d in new and path.startswith(where)} | new
     if path.endswith(".md"):
         return turn_prose(text, new)
     mark = "//" if path.endswith(".rt") else "--"

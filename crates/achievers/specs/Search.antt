@@ -12,13 +12,13 @@ use Rattle.model.specs.Move.{move_at}
 use Rattle.model.specs.Layer.{Value, Layer, reaches, usable, layer_value}
 use Rattle.model.specs.Memory.{encode}
 use Rattle.model.specs.Plan.{adder, demand, achieves, achiever}
-use Rattle.model.specs.Theorems.Laws.Searching.{Searched, searched-next, searched-found, searched-all}
+use Rattle.model.specs.Theorems.Laws.Searching.{Searched, searched_next, searched_found, searched_all}
 use Rattle.table.specs.Outlines.{part_at}
 use Rattle.reader.specs.Parts.{PartIn}
 use Rattle.block.specs.Parts.{ranges_of}
 use Rattle.block.specs.Items.{Ranges, Left, left_end, Followed, EffectFound, EffectIs, Found, behind, Moves, Next}
 use Rattle.block.specs.Sums.{LayerRow, Encoded}
-use Rattle.block.specs.Blocks.{Reading, reading_start, reading-next, reading-stop, reading-end, Passing, any-true, effectOn-here}
+use Rattle.block.specs.Blocks.{Reading, reading_start, reading_next, reading_stop, reading_end, Passing, any_true, effect_on_here}
 use Rattle.block.specs.declared.ItemAt.{ItemAt}
 use Rattle.block.specs.declared.ItemAt.TheVariants.{Need, Add, Delete, Condition as ConditionAt, Effect as EffectAt, End}
 use Rattle.achievers.specs.declared.Adder.{Adder}
@@ -50,11 +50,11 @@ unfolding behind
 reading_skip {k} {part} {whole} {g} {at} {i} r lt t skipped = go i t.moves skipped (t.found k r.rest r.left)
   where
     go : (y : ItemAt) → Moves at (length part) y → Skipped g part y → Found k part r.rest y → Reading k part whole g (behind y)
-    go (Need p after) m h f = reading-next r g f (h k tt tt f.ok)
-    go (Add p after) m h f = reading-next r g f (h k tt tt f.ok)
-    go (Delete p after) m h f = reading-next r g f (h k tt tt f.ok)
-    go (ConditionAt o z from n after) m h f = reading-next r g f.followed (h k tt f.it tt f.is)
-    go (EffectAt kd v z from n after) m h f = reading-next r g f.followed (h k tt f.it tt f.var f.is)
+    go (Need p after) m h f = reading_next r g f (h k tt tt f.ok)
+    go (Add p after) m h f = reading_next r g f (h k tt tt f.ok)
+    go (Delete p after) m h f = reading_next r g f (h k tt tt f.ok)
+    go (ConditionAt o z from n after) m h f = reading_next r g f.followed (h k tt f.it tt f.is)
+    go (EffectAt kd v z from n after) m h f = reading_next r g f.followed (h k tt f.it tt f.var f.is)
     go End m h f = absurd (omega arith)
 
 -- ---- which moves are usable
@@ -97,14 +97,14 @@ IsAdder k l p moves (Move b) = AdderIs k l p moves b
 IsAdder k l p moves None = adder k l p ≡ none
 
 module _ {table marks : List ℕ} {used : List Bool} {moves : ℕ} (x : Searchable table marks used moves) (p : ℕ) where
-  pub adder-found : {b : ℕ} → Searched (adds_at x.task x.over p) moves b → b < moves → adds_at x.task x.over p b ≡ true → AdderIs x.task x.over p moves b
+  pub adder_found : {b : ℕ} → Searched (adds_at x.task x.over p) moves b → b < moves → adds_at x.task x.over p b ≡ true → AdderIs x.task x.over p moves b
   unfolding adder
-  adder-found {b} h lt e =
-      record { lt = lt; is = ap (first_from (adds_at x.task x.over p) 0) x.many ∙ searched-found h lt e }
+  adder_found {b} h lt e =
+      record { lt = lt; is = ap (first_from (adds_at x.task x.over p) 0) x.many ∙ searched_found h lt e }
 
-  pub adder-none : {b : ℕ} → Searched (adds_at x.task x.over p) moves b → moves ≤ b → adder x.task x.over p ≡ none
+  pub adder_none : {b : ℕ} → Searched (adds_at x.task x.over p) moves b → moves ≤ b → adder x.task x.over p ≡ none
   unfolding adder
-  adder-none h le = ap (first_from (adds_at x.task x.over p) 0) x.many ∙ searched-all h le
+  adder_none h le = ap (first_from (adds_at x.task x.over p) 0) x.many ∙ searched_all h le
 
 -- the items of move b before the offset do not add p, nor do the usable moves before b
 pub record AdderAt {table marks : List ℕ} {used : List Bool} {moves : ℕ} (x : Searchable table marks used moves) (p b : ℕ) (part : List ℕ) (at : ℕ) : Type 0 where
@@ -112,33 +112,33 @@ pub record AdderAt {table marks : List ℕ} {used : List Bool} {moves : ℕ} (x 
   pub reading : Reading (ranges_of normal x.task) part (adds p (move_at x.task b)) (any (is_add p)) at
 
 module _ {table marks : List ℕ} {used : List Bool} {moves : ℕ} (x : Searchable table marks used moves) (p : ℕ) {b : ℕ} {part : List ℕ} (lt : b < moves) where
-  pub adder-start : Searched (adds_at x.task x.over p) moves b → part ≡ part_at table marks b → AdderAt x p b part 1
+  pub adder_start : Searched (adds_at x.task x.over p) moves b → part ≡ part_at table marks b → AdderAt x p b part 1
   unfolding adds
-  adder-start h e =
+  adder_start h e =
       record {
         before = h;
         reading = reading_start (any (is_add p)) (subst (λ (l : List ℕ). Left (ranges_of normal x.task) l 1 (move_at x.task b)) (sym e) (part_left x lt));
       }
 
   module _ {at : ℕ} (d : AdderAt x p b part at) where
-    pub adder-skip : {i : ItemAt} → at < length part → Next part at i → Skipped (any (is_add p)) part i → AdderAt x p b part (behind i)
-    adder-skip lt t h = record { before = d.before; reading = reading_skip d.reading lt t h }
+    pub adder_skip : {i : ItemAt} → at < length part → Next part at i → Skipped (any (is_add p)) part i → AdderAt x p b part (behind i)
+    adder_skip lt t h = record { before = d.before; reading = reading_skip d.reading lt t h }
 
-    pub adder-hit :
+    pub adder_hit :
         {after q : ℕ} → get_or used b false ≡ true
         → Followed (ranges_of normal x.task) part after d.reading.rest (add q)
         → q ≡ p
         → AdderIs x.task x.over p moves b
     unfolding is_add
-    adder-hit {q} u f e =
-        adder-found x p d.before lt
-        (passes x (adds p (move_at x.task b)) lt u ∙ sym (reading-stop d.reading f (any-true (is_add p) (eq-eqb q p e))))
+    adder_hit {q} u f e =
+        adder_found x p d.before lt
+        (passes x (adds p (move_at x.task b)) lt u ∙ sym (reading_stop d.reading f (any_true (is_add p) (eq-eqb q p e))))
 
-    pub adder-over : get_or used b false ≡ true → length part ≤ at → Searched (adds_at x.task x.over p) moves (b + 1)
+    pub adder_over : get_or used b false ≡ true → length part ≤ at → Searched (adds_at x.task x.over p) moves (b + 1)
     unfolding any
-    adder-over u end =
-        searched-next d.before lt
-        (passes x (adds p (move_at x.task b)) lt u ∙ sym (reading-end d.reading (left_end end d.reading.left) refl))
+    adder_over u end =
+        searched_next d.before lt
+        (passes x (adds p (move_at x.task b)) lt u ∙ sym (reading_end d.reading (left_end end d.reading.left) refl))
 
 -- ---- "or whose effect on v has value ≥ target T (:=) or > 0 (+=)"
 
@@ -189,9 +189,9 @@ demand_other zero z e = absurd (e refl)
 demand_other (suc n) z e = refl
 
 module _ {table marks : List ℕ} {used : List Bool} {moves : ℕ} (x : Searchable table marks used moves) (v : ℕ) (z : ℤ) where
-  pub achiever-none : {b : ℕ} → Searched (achieves_at x.task x.over v z) moves b → moves ≤ b → achiever x.task x.over v z ≡ none
+  pub achiever_none : {b : ℕ} → Searched (achieves_at x.task x.over v z) moves b → moves ≤ b → achiever x.task x.over v z ≡ none
   unfolding achiever
-  achiever-none h le = ap (first_from (achieves_at x.task x.over v z) 0) x.many ∙ searched-all h le
+  achiever_none h le = ap (first_from (achieves_at x.task x.over v z) 0) x.many ∙ searched_all h le
 
 -- the effects of move b before the offset are on other variables, and no usable move before b achieves
 pub record AchieverAt {table marks : List ℕ} {used : List Bool} {moves : ℕ} (x : Searchable table marks used moves) (v : ℕ) (z : ℤ) (b : ℕ) (part : List ℕ) (at : ℕ) : Type 0 where
@@ -199,23 +199,23 @@ pub record AchieverAt {table marks : List ℕ} {used : List Bool} {moves : ℕ} 
   pub reading : Reading (ranges_of normal x.task) part (effect_on v (move_at x.task b)) (effect_on v) at
 
 module _ {table marks : List ℕ} {used : List Bool} {moves : ℕ} (x : Searchable table marks used moves) (v : ℕ) (z : ℤ) {b : ℕ} {part : List ℕ} (lt : b < moves) where
-  pub achiever-start : Searched (achieves_at x.task x.over v z) moves b → part ≡ part_at table marks b → AchieverAt x v z b part 1
-  achiever-start h e =
+  pub achiever_start : Searched (achieves_at x.task x.over v z) moves b → part ≡ part_at table marks b → AchieverAt x v z b part 1
+  achiever_start h e =
       record {
         before = h;
         reading = reading_start (effect_on v) (subst (λ (l : List ℕ). Left (ranges_of normal x.task) l 1 (move_at x.task b)) (sym e) (part_left x lt));
       }
 
   module _ {at : ℕ} (d : AchieverAt x v z b part at) where
-    pub achiever-skip : {i : ItemAt} → at < length part → Next part at i → Skipped (effect_on v) part i → AchieverAt x v z b part (behind i)
-    achiever-skip lt t h = record { before = d.before; reading = reading_skip d.reading lt t h }
+    pub achiever_skip : {i : ItemAt} → at < length part → Next part at i → Skipped (effect_on v) part i → AchieverAt x v z b part (behind i)
+    achiever_skip lt t h = record { before = d.before; reading = reading_skip d.reading lt t h }
 
-    pub achiever-over : get_or used b false ≡ true → length part ≤ at → Searched (achieves_at x.task x.over v z) moves (b + 1)
+    pub achiever_over : get_or used b false ≡ true → length part ≤ at → Searched (achieves_at x.task x.over v z) moves (b + 1)
     unfolding achieves effect_on
-    achiever-over u end =
-        searched-next d.before lt
+    achiever_over u end =
+        searched_next d.before lt
         (passes x (achieves x.over z (effect_on v (move_at x.task b))) lt u
-        ∙ ap (achieves x.over z) (sym (reading-end d.reading (left_end end d.reading.left) refl)))
+        ∙ ap (achieves x.over z) (sym (reading_end d.reading (left_end end d.reading.left) refl)))
 
     module _ {kd u : ℕ} {c : ℤ} {from n after : ℕ} (f : EffectFound (ranges_of normal x.task) part kd u c from n after d.reading.rest) where
       module _ (same : u ≡ v) {y : ℤ} {t : Bool} (e : Encoded 8_000_000_001_000_000 (layer_value x.over f.it) y) (q : (w : Value) → y ≡ encode w → t ≡ reaches w (demand_by kd z)) where
@@ -223,21 +223,21 @@ module _ {table marks : List ℕ} {used : List Bool} {moves : ℕ} (x : Searchab
         tested = q (layer_value x.over f.it) e.is ∙ ap (reaches (layer_value x.over f.it)) (demand_code f.it.kind z f.is.kind)
 
         found_it : effect_on v (move_at x.task b) ≡ some f.it
-        found_it = sym (reading-stop d.reading f.followed (effectOn-here v f.it (f.var ∙ same)))
+        found_it = sym (reading_stop d.reading f.followed (effect_on_here v f.it (f.var ∙ same)))
 
-        effect-tested : achieves x.over z (effect_on v (move_at x.task b)) ≡ t
+        effect_tested : achieves x.over z (effect_on v (move_at x.task b)) ≡ t
         unfolding achieves
-        effect-tested = ap (achieves x.over z) found_it ∙ sym tested
+        effect_tested = ap (achieves x.over z) found_it ∙ sym tested
 
-        pub achiever-hit : part ≡ part_at table marks b → get_or used b false ≡ true → t ≡ true → AchieverIs table marks x.task x.over v z moves b kd c from n y
+        pub achiever_hit : part ≡ part_at table marks b → get_or used b false ≡ true → t ≡ true → AchieverIs table marks x.task x.over v z moves b kd c from n y
         unfolding achiever
-        achiever-hit p used-b hit =
+        achiever_hit p used-b hit =
             record {
               lt = lt;
               is =
                   ap (first_from (achieves_at x.task x.over v z) 0) x.many
-                  ∙ searched-found d.before lt
-                  (passes x (achieves x.over z (effect_on v (move_at x.task b))) lt used-b ∙ effect-tested ∙ hit);
+                  ∙ searched_found d.before lt
+                  (passes x (achieves x.over z (effect_on v (move_at x.task b))) lt used-b ∙ effect_tested ∙ hit);
               it = f.it;
               found_it = found_it;
               effect = subst (λ (l : List ℕ). EffectIs (ranges_of normal x.task) l kd c from n f.it) p f.is;
@@ -245,7 +245,7 @@ module _ {table marks : List ℕ} {used : List Bool} {moves : ℕ} (x : Searchab
               encoded = e;
             }
 
-        pub achiever-miss : get_or used b false ≡ true → t ≡ false → Searched (achieves_at x.task x.over v z) moves (b + 1)
-        achiever-miss used-b miss =
-            searched-next d.before lt
-            (passes x (achieves x.over z (effect_on v (move_at x.task b))) lt used-b ∙ effect-tested ∙ miss)
+        pub achiever_miss : get_or used b false ≡ true → t ≡ false → Searched (achieves_at x.task x.over v z) moves (b + 1)
+        achiever_miss used-b miss =
+            searched_next d.before lt
+            (passes x (achieves x.over z (effect_on v (move_at x.task b))) lt used-b ∙ effect_tested ∙ miss)

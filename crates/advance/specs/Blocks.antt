@@ -21,10 +21,10 @@ use Rattle.command.specs.declared.Place.TheVariants.{Start, Preamble, InMove, In
 use Rattle.command.specs.Names.{form_of, place_of}
 use Rattle.command.specs.Checks.{miscounted}
 use Rattle.cursor.specs.State.{head_cursor, mark_cursor, Stage, Valid, Passed}
-use Rattle.cursor.specs.Passing.{head-range}
-use Rattle.advance.specs.Stamps.{needs, changes, affects, Stamped, stamped-new}
-use Rattle.advance.specs.Edges.{Drawn, closed-new}
-use Rattle.advance.specs.Marks.{Marks, marks_none, marks-more}
+use Rattle.cursor.specs.Passing.{head_range}
+use Rattle.advance.specs.Stamps.{needs, changes, affects, Stamped, stamped_new}
+use Rattle.advance.specs.Edges.{Drawn, closed_new}
+use Rattle.advance.specs.Marks.{Marks, marks_none, marks_more}
 use Rattle.advance.specs.Tracks.{head_of, Tracks}
 use Rattle.advance.specs.Steps.{Advanced, impossible, elsewhere}
 
@@ -42,9 +42,9 @@ mark_room {t} {c} k v h = go c.place v.stage h
     go Finished g e = impossible (sym (none_finished k) ∙ (unfold place_of in e))
 
 module _ {t : List ℕ} {c : Cursor} (v : Valid t c) (room : c.at + 1 ≤ length t) where
-  mark-valid : (p : code.Place) (o n : ℕ) → Stage p o c.moves (c.marked + 1) → 1 ≤ n → n ≤ c.at + 2 → Valid t (mark_cursor c p o n)
+  mark_valid : (p : code.Place) (o n : ℕ) → Stage p o c.moves (c.marked + 1) → 1 ≤ n → n ≤ c.at + 2 → Valid t (mark_cursor c p o n)
   unfolding mark_cursor
-  mark-valid p o n g a b =
+  mark_valid p o n g a b =
       record {
         inside = room;
         props = v.props;
@@ -59,7 +59,7 @@ module _ {t : List ℕ} {c : Cursor} (v : Valid t c) (room : c.at + 1 ≤ length
       }
 
 module _ {t : List ℕ} {c : Cursor} {nd ch af : List ℕ} {es : List Bool} {mk : List ℕ} {s : Seen} (h : Tracks t c nd ch af es mk s) where
-  mark-tracks :
+  mark_tracks :
       (p : code.Place) (q : Place) (o n : ℕ) (ms : List Block) (b : Block)
       → place_of p ≡ q
       → (q ≡ start → ⊥)
@@ -73,7 +73,7 @@ module _ {t : List ℕ} {c : Cursor} {nd ch af : List ℕ} {es : List Bool} {mk 
       → c.marked < 66
       → Tracks t (mark_cursor c p o n) nd ch af es (set mk c.marked c.at) (with_mark s q ms b)
   unfolding mark_cursor with_mark head_of all any any_below kept
-  mark-tracks p q o n ms b e elsewhere ho hc a d f g empty room =
+  mark_tracks p q o n ms b e elsewhere ho hc a d f g empty room =
       record {
         at = ap (λ (x : ℕ). x + 1) h.at;
         place = e;
@@ -89,7 +89,7 @@ module _ {t : List ℕ} {c : Cursor} {nd ch af : List ℕ} {es : List Bool} {mk 
         affected = f;
         edges = g;
         marked = ap (λ (x : ℕ). x + 1) h.marked ∙ sym (length-append s.marks (s.at ∷ []) ∙ omega arith);
-        marks = subst (λ (x : ℕ). Marks (c.at + 1) (s.marks ++ (x ∷ [])) (set mk c.marked c.at)) h.at (marks-more h.marks c.marked h.marked room);
+        marks = subst (λ (x : ℕ). Marks (c.at + 1) (s.marks ++ (x ∷ [])) (set mk c.marked c.at)) h.at (marks_more h.marks c.marked h.marked room);
         begins = λ x. absurd (elsewhere x);
       }
 
@@ -112,21 +112,21 @@ in_goal_lem InGoal h = refl
 in_goal_lem Finished h = impossible h
 
 module _ {t : List ℕ} {c : Cursor} {nd ch af : List ℕ} {es : List Bool} {mk : List ℕ} (v : Valid t c) where
-  pub advance-move :
+  pub advance_move :
       {r : Cursor} → Passed t c nd ch af open_move → r ≡ mark_cursor c InMove (c.opened + 1) (c.stamp + 1)
       → Advanced t c open_move nd ch af es mk r nd ch af es (set mk c.marked c.at)
   unfolding advance
-  advance-move k f =
+  advance_move k f =
       rw f
       (record {
-        valid = mark-valid v (unfold width in k.uncut) InMove (c.opened + 1) (c.stamp + 1) (stage c.place v.stage k.placed) (omega arith) (omega (arith, v.blocks));
+        valid = mark_valid v (unfold width in k.uncut) InMove (c.opened + 1) (c.stamp + 1) (stage c.place v.stage k.placed) (omega arith) (omega (arith, v.blocks));
         moved = unfold mark_cursor in omega arith;
         tracks = λ s h.
-            mark-tracks h InMove in_move (c.opened + 1) (c.stamp + 1) (closed s.place s.moves s.items) [] (unfold place_of in refl) (not_first in_move (inl refl))
+            mark_tracks h InMove in_move (c.opened + 1) (c.stamp + 1) (closed s.place s.moves s.items) [] (unfold place_of in refl) (not_first in_move (inl refl))
             (ap (λ (x : ℕ). x + 1) h.closes ∙ (unfold opened in omega arith))
             (ap (λ (x : ℕ). x + 1) h.closes ∙ sym (unfold closed in (length-append (closed s.place s.moves s.items) ([] ∷ []) ∙ omega arith)))
-            (stamped-new h.needed) (stamped-new h.changed) (stamped-new h.affected)
-            (record { size = h.edges.size; same = λ u w a b. h.edges.same u w a b ∙ sym (closed-new (item_edge u w) s.place s.moves s.items) })
+            (stamped_new h.needed) (stamped_new h.changed) (stamped_new h.affected)
+            (record { size = h.edges.size; same = λ u w a b. h.edges.same u w a b ∙ sym (closed_new (item_edge u w) s.place s.moves s.items) })
             (λ x. refl)
             (mark_room open_move v k.placed);
       })
@@ -141,43 +141,43 @@ module _ {t : List ℕ} {c : Cursor} {nd ch af : List ℕ} {es : List Bool} {mk 
       stage InGoal g e = absurd (omega (arith, g.1, few))
       stage Finished g e = absurd (omega (arith, g.1, few))
 
-  pub advance-goal :
+  pub advance_goal :
       {r : Cursor} → Passed t c nd ch af open_goal → r ≡ mark_cursor c InGoal c.opened (c.stamp + 1)
       → Advanced t c open_goal nd ch af es mk r nd ch af es (set mk c.marked c.at)
   unfolding advance
-  advance-goal k f =
+  advance_goal k f =
       rw f
       (record {
-        valid = mark-valid v (unfold width in k.uncut) InGoal c.opened (c.stamp + 1) (stage c.place v.stage k.placed) (omega arith) (omega (arith, v.blocks));
+        valid = mark_valid v (unfold width in k.uncut) InGoal c.opened (c.stamp + 1) (stage c.place v.stage k.placed) (omega arith) (omega (arith, v.blocks));
         moved = unfold mark_cursor in omega arith;
         tracks = λ s h.
-            mark-tracks h InGoal in_goal c.opened (c.stamp + 1) (closed s.place s.moves s.items) [] (unfold place_of in refl) (not_first in_goal (inr (inl refl)))
+            mark_tracks h InGoal in_goal c.opened (c.stamp + 1) (closed s.place s.moves s.items) [] (unfold place_of in refl) (not_first in_goal (inr (inl refl)))
             (unfold opened in h.closes)
             (unfold closed in h.closes)
-            (stamped-new h.needed) (stamped-new h.changed) (stamped-new h.affected)
+            (stamped_new h.needed) (stamped_new h.changed) (stamped_new h.affected)
             (unfold closed in h.edges)
             (λ x. refl)
             (mark_room open_goal v k.placed);
       })
     where
-      all-opened : c.moves ≤ c.opened
-      all-opened = ltb-false c.opened c.moves (unfold miscounted in k.counted)
+      all_opened : c.moves ≤ c.opened
+      all_opened = ltb-false c.opened c.moves (unfold miscounted in k.counted)
 
       stage : (p : code.Place) → Stage p c.opened c.moves c.marked → in_place (place_of p) open_goal ≡ true → Stage InGoal c.opened c.moves (c.marked + 1)
-      stage Start g e = (omega (arith, g.0), omega (arith, g.1, all-opened))
-      stage Preamble g e = (omega (arith, g.0), omega (arith, g.1, all-opened))
-      stage InMove g e = (omega (arith, g.0), omega (arith, g.1, all-opened))
+      stage Start g e = (omega (arith, g.0), omega (arith, g.1, all_opened))
+      stage Preamble g e = (omega (arith, g.0), omega (arith, g.1, all_opened))
+      stage InMove g e = (omega (arith, g.0), omega (arith, g.1, all_opened))
       stage InGoal g e = impossible (unfold in_place place_of in e)
       stage Finished g e = impossible (unfold in_place place_of in e)
 
-  pub advance-end :
+  pub advance_end :
       {r : Cursor} → Passed t c nd ch af end_table → r ≡ mark_cursor c Finished c.opened c.stamp
       → Advanced t c end_table nd ch af es mk r nd ch af es (set mk c.marked c.at)
   unfolding advance
-  advance-end k f =
+  advance_end k f =
       rw f
       (record {
-        valid = mark-valid v (unfold width in k.uncut) Finished c.opened c.stamp (stage c.place (in_goal_lem c.place k.placed) v.stage) v.numbered (omega (arith, v.blocks));
+        valid = mark_valid v (unfold width in k.uncut) Finished c.opened c.stamp (stage c.place (in_goal_lem c.place k.placed) v.stage) v.numbered (omega (arith, v.blocks));
         moved = unfold mark_cursor in omega arith;
         tracks = λ s h. ends s h (sym h.place ∙ ap place_of (in_goal_lem c.place k.placed) ∙ (unfold place_of in refl));
       })
@@ -189,7 +189,7 @@ module _ {t : List ℕ} {c : Cursor} {nd ch af : List ℕ} {es : List Bool} {mk 
 
       ends : (s : Seen) (h : Tracks t c nd ch af es mk s) → s.place ≡ in_goal → Tracks t (mark_cursor c Finished c.opened c.stamp) nd ch af es (set mk c.marked c.at) (with_mark s finished s.moves s.items)
       ends s h e =
-          mark-tracks h Finished finished c.opened c.stamp s.moves s.items (unfold place_of in refl) (not_first finished (inr (inr refl)))
+          mark_tracks h Finished finished c.opened c.stamp s.moves s.items (unfold place_of in refl) (not_first finished (inr (inr refl)))
           (h.opens ∙ ap (λ (x : Place). opened x (length s.moves)) e ∙ (unfold opened in refl))
           (h.closes ∙ ap (λ (x : Place). length (closed x s.moves s.items)) e ∙ (unfold closed in refl))
           h.needed h.changed h.affected
@@ -211,12 +211,12 @@ not_preamble : preamble ≡ start → ⊥
 not_preamble e = let z : ◌≡◌ {A = ℕ} 0 1 = cc in omega arith
 
 module _ {t : List ℕ} {c : Cursor} {nd ch af : List ℕ} {es : List Bool} {mk : List ℕ} (v : Valid t c) where
-  head-tracks :
+  head_tracks :
       (f : Form) (a b d : ℕ) (s : Seen) → a ≡ byte_after t s 1 → b ≡ byte_after t s 2 → d ≡ byte_after t s 3
       → s ≡ nothing_seen → Tracks t c nd ch af es mk s
       → Tracks t (head_cursor c f a b d) nd ch af es mk (with_head t s (form_of f))
   unfolding head_cursor with_head head_of place_of opened closed all any any_below kept
-  head-tracks f a b d s ea eb ed e h =
+  head_tracks f a b d s ea eb ed e h =
       record {
         at = ap (λ (x : ℕ). x + width (head (form_of f))) h.at;
         place = refl;
@@ -242,12 +242,12 @@ module _ {t : List ℕ} {c : Cursor} {nd ch af : List ℕ} {es : List Bool} {mk 
       closing : closed s.place s.moves s.items ≡ []
       closing = rw e (unfold nothing_seen closed in refl)
 
-  pub advance-head :
+  pub advance_head :
       (f : Form) (a b d : ℕ) {r : Cursor} → Passed t c nd ch af (head (form_of f))
       → a ≡ get_or t (c.at + 1) 0 → b ≡ get_or t (c.at + 2) 0 → d ≡ get_or t (c.at + 3) 0 → r ≡ head_cursor c f a b d
       → Advanced t c (head (form_of f)) nd ch af es mk r nd ch af es mk
   unfolding advance
-  advance-head f a b d k ea eb ed g =
+  advance_head f a b d k ea eb ed g =
       rw g
       (record {
         valid =
@@ -266,11 +266,11 @@ module _ {t : List ℕ} {c : Cursor} {nd ch af : List ℕ} {es : List Bool} {mk 
             });
         moved = unfold head_cursor in omega (arith, width_positive (head (form_of f)));
         tracks = λ s h.
-            head-tracks f a b d s (ea ∙ byte s h 1) (eb ∙ byte s h 2) (ed ∙ byte s h 3) (h.begins (sym h.place ∙ at_start (form_of f) c.place k.placed)) h;
+            head_tracks f a b d s (ea ∙ byte s h 1) (eb ∙ byte s h 2) (ed ∙ byte s h 3) (h.begins (sym h.place ∙ at_start (form_of f) c.place k.placed)) h;
       })
     where
       ranges : (get_or t (c.at + 1) 0 ≤ 120) × (get_or t (c.at + 2) 0 ≤ 32) × (get_or t (c.at + 3) 0 ≤ 64)
-      ranges = head-range t c (form_of f) k.ranged
+      ranges = head_range t c (form_of f) k.ranged
 
       byte : (s : Seen) → Tracks t c nd ch af es mk s → (i : ℕ) → get_or t (c.at + i) 0 ≡ byte_after t s i
       byte s h i = unfold byte_after in ap (λ (x : ℕ). get_or t (x + i) 0) h.at

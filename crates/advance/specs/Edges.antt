@@ -39,13 +39,13 @@ unfoldable pub draw_term : List ℕ → ℕ → ℕ → List Bool → List Bool
 draw_term t at v es = elim (weightless t at) [ true ↦ es | false ↦ set es (get_or t (at + 1) 0 * 32 + v) true ]
 
 module _ (t : List ℕ) (at v : ℕ) (es : List Bool) where
-  pub draw-weightless : weightless t at ≡ true → es ≡ draw_term t at v es
+  pub draw_weightless : weightless t at ≡ true → es ≡ draw_term t at v es
   unfolding draw_term
-  draw-weightless e = rw (draw_term, e) refl
+  draw_weightless e = rw (draw_term, e) refl
 
-  pub draw-weight : weightless t at ≡ false → set es (get_or t (at + 1) 0 * 32 + v) true ≡ draw_term t at v es
+  pub draw_weight : weightless t at ≡ false → set es (get_or t (at + 1) 0 * 32 + v) true ≡ draw_term t at v es
   unfolding draw_term
-  draw-weight e = rw (draw_term, e) refl
+  draw_weight e = rw (draw_term, e) refl
 
 unfoldable pub draw : List ℕ → ℕ → ℕ → ℕ → List Bool → List Bool
 draw t from v zero es = es
@@ -70,16 +70,16 @@ length_draw t from v (suc n) es = last (weightless t (from + 4 * n)) (length_dra
     last false ih = length-set before edge true ∙ ih
 
 module _ (t : List ℕ) (from v : ℕ) (es : List Bool) (size : length es ≡ 1024) (hv : v < 32) where
-  pub draw-at :
+  pub draw_at :
       (n : ℕ) → ((i : ℕ) → i < n → get_or t (from + 4 * i + 1) 0 < 32) → (u w : ℕ) → u < 32 → w < 32
       → table_edge (draw t from v n es) u w ≡ (table_edge es u w || (eqb v w && any_below (source_is t from u) n))
   unfolding draw draw_term any_below source_is table_edge
-  draw-at zero hs u w hu hw = sym (ap (λ (b : Bool). table_edge es u w || b) (none (eqb v w)) ∙ or-false (table_edge es u w))
+  draw_at zero hs u w hu hw = sym (ap (λ (b : Bool). table_edge es u w || b) (none (eqb v w)) ∙ or-false (table_edge es u w))
     where
       none : (a : Bool) → (a && false) ≡ false
       none true = refl
       none false = refl
-  draw-at (suc n) hs u w hu hw = last (weightless t (from + 4 * n)) (draw-at n (λ i l. hs i (omega arith)) u w hu hw)
+  draw_at (suc n) hs u w hu hw = last (weightless t (from + 4 * n)) (draw_at n (λ i l. hs i (omega arith)) u w hu hw)
     where
       x : ℕ
       x = get_or t (from + 4 * n + 1) 0
@@ -105,10 +105,10 @@ module _ (t : List ℕ) (from v : ℕ) (es : List Bool) (size : length es ≡ 10
           let b : w ≡ v = omega arith in
           h (rw (a, b) (and_both (eqb v v) (eqb x x) (eqb_refl v) (eqb_refl x)))
 
-      drop-last : (a b c : Bool) → (T (a && c) → ⊥) → (a && b) ≡ (a && (b || c))
-      drop-last true b true h = absurd (h tt)
-      drop-last true b false h = sym (or-false b)
-      drop-last false b c h = refl
+      drop_last : (a b c : Bool) → (T (a && c) → ⊥) → (a && b) ≡ (a && (b || c))
+      drop_last true b true h = absurd (h tt)
+      drop_last true b false h = sym (or-false b)
+      drop_last false b c h = refl
 
       miss :
           (T (eqb v w && eqb x u) → ⊥)
@@ -116,7 +116,7 @@ module _ (t : List ℕ) (from v : ℕ) (es : List Bool) (size : length es ≡ 10
           → get_or (set before (x * 32 + v) true) (u * 32 + w) false ≡ (get_or es (u * 32 + w) false || (eqb v w && (seen || eqb x u)))
       miss h ih =
           rw (get_or-set_other before (x * 32 + v) (u * 32 + w) true false (apart h))
-          (ih ∙ ap (λ (b : Bool). get_or es (u * 32 + w) false || b) (drop-last (eqb v w) seen (eqb x u) h))
+          (ih ∙ ap (λ (b : Bool). get_or es (u * 32 + w) false || b) (drop_last (eqb v w) seen (eqb x u) h))
 
       last :
           (b : Bool)
@@ -145,20 +145,20 @@ draw_assign q t from v n es h = rw h refl
 -- ---- the moves as they stand closed
 
 module _ (f : Item → Bool) where
-  pub closed-new : (p : Place) (ms : List Block) (b : Block) → any (λ (m : Block). any f m) (closed in_move (closed p ms b) []) ≡ any (λ (m : Block). any f m) (closed p ms b)
+  pub closed_new : (p : Place) (ms : List Block) (b : Block) → any (λ (m : Block). any f m) (closed in_move (closed p ms b) []) ≡ any (λ (m : Block). any f m) (closed p ms b)
   unfolding any
-  closed-new p ms b = unfold closed in (any_snoc (λ (m : Block). any f m) (closed p ms b) [] ∙ or-false (any (λ (m : Block). any f m) (closed p ms b)))
+  closed_new p ms b = unfold closed in (any_snoc (λ (m : Block). any f m) (closed p ms b) [] ∙ or-false (any (λ (m : Block). any f m) (closed p ms b)))
 
-  pub closed-more : (ms : List Block) (b : Block) (i : Item) → any (λ (m : Block). any f m) (closed in_move ms (b ++ (i ∷ []))) ≡ (any (λ (m : Block). any f m) (closed in_move ms b) || f i)
+  pub closed_more : (ms : List Block) (b : Block) (i : Item) → any (λ (m : Block). any f m) (closed in_move ms (b ++ (i ∷ []))) ≡ (any (λ (m : Block). any f m) (closed in_move ms b) || f i)
   unfolding closed
-  closed-more ms b i =
+  closed_more ms b i =
       any_snoc (λ (m : Block). any f m) ms (b ++ (i ∷ []))
       ∙ ap (λ (x : Bool). any (λ (m : Block). any f m) ms || x) (any_snoc f b i)
       ∙ sym (ap (λ (x : Bool). x || f i) (any_snoc (λ (m : Block). any f m) ms b) ∙ or_assoc (any (λ (m : Block). any f m) ms) (any f b) (f i))
 
-  pub closed-other : (p : Place) (ms : List Block) (b : Block) (i : Item) → f i ≡ false → any (λ (m : Block). any f m) (closed p ms (b ++ (i ∷ []))) ≡ any (λ (m : Block). any f m) (closed p ms b)
-  closed-other start ms b i e = unfold closed in refl
-  closed-other preamble ms b i e = unfold closed in refl
-  closed-other in_move ms b i e = closed-more ms b i ∙ ap (λ (x : Bool). any (λ (m : Block). any f m) (closed in_move ms b) || x) e ∙ or-false (any (λ (m : Block). any f m) (closed in_move ms b))
-  closed-other in_goal ms b i e = unfold closed in refl
-  closed-other finished ms b i e = unfold closed in refl
+  pub closed_other : (p : Place) (ms : List Block) (b : Block) (i : Item) → f i ≡ false → any (λ (m : Block). any f m) (closed p ms (b ++ (i ∷ []))) ≡ any (λ (m : Block). any f m) (closed p ms b)
+  closed_other start ms b i e = unfold closed in refl
+  closed_other preamble ms b i e = unfold closed in refl
+  closed_other in_move ms b i e = closed_more ms b i ∙ ap (λ (x : Bool). any (λ (m : Block). any f m) (closed in_move ms b) || x) e ∙ or-false (any (λ (m : Block). any f m) (closed in_move ms b))
+  closed_other in_goal ms b i e = unfold closed in refl
+  closed_other finished ms b i e = unfold closed in refl

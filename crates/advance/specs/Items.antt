@@ -17,16 +17,16 @@ use Rattle.command.specs.declared.Place as code
 use Rattle.command.specs.declared.Place.TheVariants.{Start, Preamble, InMove, InGoal, Finished}
 use Rattle.command.specs.Names.{place_of}
 use Rattle.cursor.specs.State.{item_cursor, Valid, Passed}
-use Rattle.cursor.specs.Passing.{need-range, add-range, delete-range, effect-range}
-use Rattle.advance.specs.Stamps.{or-false, or-true, needs, changes, affects, Stamped, stamped-other, stamped-here}
-use Rattle.advance.specs.Edges.{Drawn, length_draw, draw-at, closed-more, closed-other}
+use Rattle.cursor.specs.Passing.{need_range, add_range, delete_range, effect_range}
+use Rattle.advance.specs.Stamps.{or-false, or-true, needs, changes, affects, Stamped, stamped_other, stamped_here}
+use Rattle.advance.specs.Edges.{Drawn, length_draw, draw_at, closed_more, closed_other}
 use Rattle.advance.specs.Tracks.{open_from, Tracks}
-use Rattle.advance.specs.Steps.{Advanced, impossible, item-valid, item-moved, item-tracks, no_edge, elsewhere}
+use Rattle.advance.specs.Steps.{Advanced, impossible, item_valid, item_moved, item_tracks, no_edge, elsewhere}
 use Rattle.advance.specs.Edges.{draw_kind}
 
 module _ {t : List ℕ} {c : Cursor} {nd ch af : List ℕ} {es : List Bool} {mk : List ℕ} (v : Valid t c) where
   -- an item that names one proposition
-  prop-item :
+  prop_item :
       (k : Command) (g : ℕ → Item) (p : ℕ) (a : Bool) {r : Cursor} {nd' ch' : List ℕ}
       → Passed t c nd ch af k
       → in_place start k ≡ false
@@ -39,68 +39,68 @@ module _ {t : List ℕ} {c : Cursor} {nd ch af : List ℕ} {es : List Bool} {mk 
       → ((q : ℕ) → affects q (g p) ≡ false)
       → ((u w : ℕ) → item_edge u w (g p) ≡ false)
       → Advanced t c k nd ch af es mk r nd' ch' af es mk
-  prop-item k g p a {r} {nd'} {ch'} pass inner step e f does needed' changed' no_effect edgeless =
+  prop_item k g p a {r} {nd'} {ch'} pass inner step e f does needed' changed' no_effect edgeless =
       rw f
       (record {
-        valid = item-valid v (width k) pass.uncut (width_positive k) a;
-        moved = item-moved v (width k) pass.uncut (width_positive k) a;
+        valid = item_valid v (width k) pass.uncut (width_positive k) a;
+        moved = item_moved v (width k) pass.uncut (width_positive k) a;
         tracks = λ s h.
             subst (λ (d : Seen). Tracks t (item_cursor c (width k) a) nd' ch' af es mk d) (sym (step s ∙ ap (λ (x : ℕ). with_item s (width k) (some (g x))) (sym (here s h))))
-            (item-tracks h (width k) a (g p) (elsewhere h k inner pass.placed) does (needed' s h) (changed' s h)
-            (stamped-other h.affected (g p) no_effect) (no_edge h (g p) edgeless));
+            (item_tracks h (width k) a (g p) (elsewhere h k inner pass.placed) does (needed' s h) (changed' s h)
+            (stamped_other h.affected (g p) no_effect) (no_edge h (g p) edgeless));
       })
     where
       here : (s : Seen) → Tracks t c nd ch af es mk s → p ≡ byte_after t s 1
       here s h = e ∙ (unfold byte_after in ap (λ (x : ℕ). get_or t (x + 1) 0) h.at)
 
-  pub advance-need :
+  pub advance_need :
       (p : ℕ) {r : Cursor} → Passed t c nd ch af need_prop → p ≡ get_or t (c.at + 1) 0 → r ≡ item_cursor c (width need_prop) c.active
       → Advanced t c need_prop nd ch af es mk r (set nd p c.stamp) ch af es mk
   unfolding advance item_at in_place needs changes affects clashes item_edge task.changes
-  advance-need p pass e f =
-      prop-item need_prop need p c.active pass refl (λ s. refl) e f (sym (or-false c.active))
-      (λ s h. stamped-here h.needed (need p) p (λ q. refl) (omega (arith, need-range t c pass.ranged, v.props)))
-      (λ s h. stamped-other h.changed (need p) (λ q. refl)) (λ q. refl) (λ u w. refl)
+  advance_need p pass e f =
+      prop_item need_prop need p c.active pass refl (λ s. refl) e f (sym (or-false c.active))
+      (λ s h. stamped_here h.needed (need p) p (λ q. refl) (omega (arith, need_range t c pass.ranged, v.props)))
+      (λ s h. stamped_other h.changed (need p) (λ q. refl)) (λ q. refl) (λ u w. refl)
 
-  pub advance-add :
+  pub advance_add :
       (p : ℕ) {r : Cursor} → Passed t c nd ch af add_prop → p ≡ get_or t (c.at + 1) 0 → r ≡ item_cursor c (width add_prop) true
       → Advanced t c add_prop nd ch af es mk r nd (set ch p c.stamp) af es mk
   unfolding advance item_at in_place needs changes affects clashes item_edge task.changes
-  advance-add p pass e f =
-      prop-item add_prop add p true pass refl (λ s. refl) e f (sym (or-true c.active))
-      (λ s h. stamped-other h.needed (add p) (λ q. refl))
-      (λ s h. stamped-here h.changed (add p) p (λ q. refl) (omega (arith, add-range t c pass.ranged, v.props)))
+  advance_add p pass e f =
+      prop_item add_prop add p true pass refl (λ s. refl) e f (sym (or-true c.active))
+      (λ s h. stamped_other h.needed (add p) (λ q. refl))
+      (λ s h. stamped_here h.changed (add p) p (λ q. refl) (omega (arith, add_range t c pass.ranged, v.props)))
       (λ q. refl) (λ u w. refl)
 
-  pub advance-delete :
+  pub advance_delete :
       (p : ℕ) {r : Cursor} → Passed t c nd ch af delete_prop → p ≡ get_or t (c.at + 1) 0 → r ≡ item_cursor c (width delete_prop) true
       → Advanced t c delete_prop nd ch af es mk r nd (set ch p c.stamp) af es mk
   unfolding advance item_at in_place needs changes affects clashes item_edge task.changes
-  advance-delete p pass e f =
-      prop-item delete_prop delete p true pass refl (λ s. refl) e f (sym (or-true c.active))
-      (λ s h. stamped-other h.needed (delete p) (λ q. refl))
-      (λ s h. stamped-here h.changed (delete p) p (λ q. refl) (omega (arith, delete-range t c pass.ranged, v.props)))
+  advance_delete p pass e f =
+      prop_item delete_prop delete p true pass refl (λ s. refl) e f (sym (or-true c.active))
+      (λ s h. stamped_other h.needed (delete p) (λ q. refl))
+      (λ s h. stamped_here h.changed (delete p) p (λ q. refl) (omega (arith, delete_range t c pass.ranged, v.props)))
       (λ q. refl) (λ u w. refl)
 
-  pub advance-condition :
+  pub advance_condition :
       {r : Cursor} → Passed t c nd ch af close_condition → r ≡ item_cursor c (width close_condition) c.active
       → Advanced t c close_condition nd ch af es mk r nd ch af es mk
   unfolding advance item_at in_place
-  advance-condition k f =
+  advance_condition k f =
       rw f
       (record {
-        valid = item-valid v (width close_condition) k.uncut (width_positive close_condition) c.active;
-        moved = item-moved v (width close_condition) k.uncut (width_positive close_condition) c.active;
+        valid = item_valid v (width close_condition) k.uncut (width_positive close_condition) c.active;
+        moved = item_moved v (width close_condition) k.uncut (width_positive close_condition) c.active;
         tracks = λ s h. closes s h (record { terms = s.terms; comparison = comparison_of (byte_after t s 1); bound = number_after 4 t s 2 });
       })
     where
       closes : (s : Seen) → Tracks t c nd ch af es mk s → (d : Condition) → Tracks t (item_cursor c (width close_condition) c.active) nd ch af es mk (with_item s (width close_condition) (some (condition d)))
       closes s h d =
-          item-tracks h (width close_condition) c.active (condition d) (elsewhere h close_condition refl k.placed)
+          item_tracks h (width close_condition) c.active (condition d) (elsewhere h close_condition refl k.placed)
           (unfold task.changes in (sym (or-false c.active)))
-          (stamped-other h.needed (condition d) (λ q. unfold needs clashes in refl))
-          (stamped-other h.changed (condition d) (λ q. unfold changes clashes in refl))
-          (stamped-other h.affected (condition d) (λ q. unfold affects clashes in refl))
+          (stamped_other h.needed (condition d) (λ q. unfold needs clashes in refl))
+          (stamped_other h.changed (condition d) (λ q. unfold changes clashes in refl))
+          (stamped_other h.affected (condition d) (λ q. unfold affects clashes in refl))
           (no_edge h (condition d) (λ u w. unfold item_edge in refl))
 
 -- ---- effects
@@ -114,10 +114,10 @@ in_move_lem InGoal h = impossible h
 in_move_lem Finished h = impossible h
 
 module _ {t : List ℕ} {c : Cursor} {nd ch af : List ℕ} {es : List Bool} {mk : List ℕ} (v : Valid t c) where
-  effect-drawn :
+  effect_drawn :
       (s : Seen) (h : Tracks t c nd ch af es mk s) (q p : ℕ) (z : ℤ) → p < 32 → s.place ≡ in_move
       → Drawn (closed s.place s.moves (s.items ++ (effect (record { kind = kind_of q; var = p; terms = s.terms; base = z }) ∷ []))) (draw_kind q t (open_from c) p c.terms es)
-  effect-drawn s h q p z small here = rw here (go q)
+  effect_drawn s h q p z small here = rw here (go q)
     where
       e : ℕ → Effect
       e x = record { kind = kind_of x; var = p; terms = s.terms; base = z }
@@ -131,46 +131,46 @@ module _ {t : List ℕ} {c : Cursor} {nd ch af : List ℕ} {es : List Bool} {mk 
           (record {
             size = length_draw t (open_from c) p c.terms es ∙ h.edges.size;
             same = λ u w a b.
-                draw-at t (open_from c) p es h.edges.size small c.terms v.sources u w a b
+                draw_at t (open_from c) p es h.edges.size small c.terms v.sources u w a b
                 ∙ ap₂ (λ (x y : Bool). x || (eqb p w && y)) (before.same u w a b) (sym (h.sources u))
-                ∙ sym (closed-more (item_edge u w) s.moves s.items (effect (e zero)) ∙ (unfold item_edge kind_of is_assign in refl));
+                ∙ sym (closed_more (item_edge u w) s.moves s.items (effect (e zero)) ∙ (unfold item_edge kind_of is_assign in refl));
           })
       go (suc x) =
           unfold draw_kind in
           (record {
             size = h.edges.size;
-            same = λ u w a b. before.same u w a b ∙ sym (closed-other (item_edge u w) in_move s.moves s.items (effect (e (suc x))) (none x u w));
+            same = λ u w a b. before.same u w a b ∙ sym (closed_other (item_edge u w) in_move s.moves s.items (effect (e (suc x))) (none x u w));
           })
         where
           none : (y u w : ℕ) → item_edge u w (effect (e (suc y))) ≡ false
           none zero u w = unfold item_edge kind_of is_assign in refl
           none (suc y) u w = unfold item_edge kind_of is_assign in refl
 
-  pub advance-effect :
+  pub advance_effect :
       (q p : ℕ) {r : Cursor} {es' : List Bool} → Passed t c nd ch af close_effect → q ≡ get_or t (c.at + 1) 0 → p ≡ get_or t (c.at + 2) 0
       → es' ≡ draw_kind q t (open_from c) p c.terms es → r ≡ item_cursor c (width close_effect) true
       → Advanced t c close_effect nd ch af es mk r nd ch (set af p c.stamp) es' mk
   unfolding advance item_at in_place byte_after
-  advance-effect q p k eq ep ed f =
+  advance_effect q p k eq ep ed f =
       rw (f, ed)
       (record {
-        valid = item-valid v (width close_effect) k.uncut (width_positive close_effect) true;
-        moved = item-moved v (width close_effect) k.uncut (width_positive close_effect) true;
+        valid = item_valid v (width close_effect) k.uncut (width_positive close_effect) true;
+        moved = item_moved v (width close_effect) k.uncut (width_positive close_effect) true;
         tracks = λ s h.
             subst₂ (λ (x y : ℕ). Tracks t (item_cursor c (width close_effect) true) nd ch (set af p c.stamp) (draw_kind q t (open_from c) p c.terms es) mk (with_item s (width close_effect) (some (effect (record { kind = kind_of x; var = y; terms = s.terms; base = number_after 4 t s 3 })))))
             (eq ∙ ap (λ (x : ℕ). get_or t (x + 1) 0) h.at) (ep ∙ ap (λ (x : ℕ). get_or t (x + 2) 0) h.at) (closes s h (number_after 4 t s 3));
       })
     where
       small : p < 32
-      small = omega (arith, effect-range t c k.ranged, v.vars)
+      small = omega (arith, effect_range t c k.ranged, v.vars)
 
       closes :
           (s : Seen) → Tracks t c nd ch af es mk s → (z : ℤ)
           → Tracks t (item_cursor c (width close_effect) true) nd ch (set af p c.stamp) (draw_kind q t (open_from c) p c.terms es) mk (with_item s (width close_effect) (some (effect (record { kind = kind_of q; var = p; terms = s.terms; base = z }))))
       closes s h z =
-          item-tracks h (width close_effect) true (effect (record { kind = kind_of q; var = p; terms = s.terms; base = z })) (elsewhere h close_effect refl k.placed)
+          item_tracks h (width close_effect) true (effect (record { kind = kind_of q; var = p; terms = s.terms; base = z })) (elsewhere h close_effect refl k.placed)
           (unfold task.changes in (sym (or-true c.active)))
-          (stamped-other h.needed _ (λ x. unfold needs clashes in refl))
-          (stamped-other h.changed _ (λ x. unfold changes clashes in refl))
-          (stamped-here h.affected _ p (λ x. unfold affects clashes in refl) small)
-          (effect-drawn s h q p z small (sym h.place ∙ in_move_lem c.place k.placed))
+          (stamped_other h.needed _ (λ x. unfold needs clashes in refl))
+          (stamped_other h.changed _ (λ x. unfold changes clashes in refl))
+          (stamped_here h.affected _ p (λ x. unfold affects clashes in refl) small)
+          (effect_drawn s h q p z small (sym h.place ∙ in_move_lem c.place k.placed))

@@ -22,8 +22,8 @@ marks_none at a e =
     }
 
 module _ {at : ℕ} {ms a : List ℕ} (h : Marks at ms a) where
-  pub marks-later : (to : ℕ) → at ≤ to → Marks to ms a
-  marks-later to l =
+  pub marks_later : (to : ℕ) → at ≤ to → Marks to ms a
+  marks_later to l =
       record {
         size = h.size;
         same = h.same;
@@ -37,20 +37,20 @@ module _ {at : ℕ} {ms a : List ℕ} (h : Marks at ms a) where
   snoc_new : (b : ℕ) → b ≡ length ms → get_or (ms ++ (at ∷ [])) b 0 ≡ at
   snoc_new b e = rw e (get_or-append_seam ms at [] 0)
 
-  size-snoc : length (ms ++ (at ∷ [])) ≡ suc (length ms)
-  size-snoc = length-append ms (at ∷ []) ∙ omega arith
+  size_snoc : length (ms ++ (at ∷ [])) ≡ suc (length ms)
+  size_snoc = length-append ms (at ∷ []) ∙ omega arith
 
-  pub marks-more : (n : ℕ) → n ≡ length ms → n < 66 → Marks (at + 1) (ms ++ (at ∷ [])) (set a n at)
-  marks-more n e l =
+  pub marks_more : (n : ℕ) → n ≡ length ms → n < 66 → Marks (at + 1) (ms ++ (at ∷ [])) (set a n at)
+  marks_more n e l =
       record {
         size = length-set a n at ∙ h.size;
-        same = λ b k. below_suc b (length ms) (omega (arith, size-snoc))
+        same = λ b k. below_suc b (length ms) (omega (arith, size_snoc))
             (λ i. get_or-set_other a n b at 0 (λ f. omega arith) ∙ h.same b i ∙ sym (snoc_old b i))
             (λ f. let g : b ≡ n = omega arith in rw (snoc_new b f, g) (get_or-set_same a n at 0 (omega (arith, h.size))));
-        before = λ b k. below_suc b (length ms) (omega (arith, size-snoc))
+        before = λ b k. below_suc b (length ms) (omega (arith, size_snoc))
             (λ i. rw (snoc_old b i) (omega (arith, h.before b i)))
             (λ f. rw (snoc_new b f) (omega arith));
-        rising = λ b k. below_suc (suc b) (length ms) (omega (arith, size-snoc))
+        rising = λ b k. below_suc (suc b) (length ms) (omega (arith, size_snoc))
             (λ i. rw (snoc_old (suc b) i, snoc_old b (omega arith)) (h.rising b i))
             (λ f. rw (snoc_new (suc b) f, snoc_old b (omega arith)) (h.before b (omega arith)));
       }

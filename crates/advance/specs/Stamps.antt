@@ -55,9 +55,9 @@ pub record Stamped (names : ℕ → Item → Bool) (n stamp : ℕ) (b : Block) (
 
 module _ {names : ℕ → Item → Bool} {n stamp : ℕ} {b : Block} {a : List ℕ} (h : Stamped names n stamp b a) where
   -- a block opens
-  pub stamped-new : Stamped names n (stamp + 1) [] a
+  pub stamped_new : Stamped names n (stamp + 1) [] a
   unfolding any
-  stamped-new =
+  stamped_new =
       record {
         size = h.size;
         same = λ p. ne_eqb (get_or a p 0) (stamp + 1) (λ e. omega (arith, h.old p));
@@ -65,8 +65,8 @@ module _ {names : ℕ → Item → Bool} {n stamp : ℕ} {b : Block} {a : List �
       }
 
   -- an item that names nothing of this kind
-  pub stamped-other : (i : Item) → ((p : ℕ) → names p i ≡ false) → Stamped names n stamp (b ++ (i ∷ [])) a
-  stamped-other i k =
+  pub stamped_other : (i : Item) → ((p : ℕ) → names p i ≡ false) → Stamped names n stamp (b ++ (i ∷ [])) a
+  stamped_other i k =
       record {
         size = h.size;
         same = λ p. h.same p ∙ sym (any_snoc (names p) b i ∙ ap (λ (x : Bool). any (names p) b || x) (k p) ∙ or-false (any (names p) b));
@@ -74,12 +74,12 @@ module _ {names : ℕ → Item → Bool} {n stamp : ℕ} {b : Block} {a : List �
       }
 
   -- an item that names q
-  pub stamped-here : (i : Item) (q : ℕ) → ((p : ℕ) → names p i ≡ eqb q p) → q < n → Stamped names n stamp (b ++ (i ∷ [])) (set a q stamp)
-  stamped-here i q k l =
+  pub stamped_here : (i : Item) (q : ℕ) → ((p : ℕ) → names p i ≡ eqb q p) → q < n → Stamped names n stamp (b ++ (i ∷ [])) (set a q stamp)
+  stamped_here i q k l =
       record {
         size = length-set a q stamp ∙ h.size;
         same = λ p. T-cases (eqb q p) (λ t. hit p (eqb→eq q p t)) (λ f. miss p f);
-        old = λ p. T-cases (eqb q p) (λ t. hit-old p (eqb→eq q p t)) (λ f. miss-old p f);
+        old = λ p. T-cases (eqb q p) (λ t. hit_old p (eqb→eq q p t)) (λ f. miss_old p f);
       }
     where
       inside : q < length a
@@ -91,8 +91,8 @@ module _ {names : ℕ → Item → Bool} {n stamp : ℕ} {b : Block} {a : List �
           (T_true (eqb stamp stamp) (eqb_refl stamp)
           ∙ sym (any_snoc (names q) b i ∙ ap (λ (x : Bool). any (names q) b || x) (k q ∙ T_true (eqb q q) (eqb_refl q)) ∙ or-true (any (names q) b)))
 
-      hit-old : (p : ℕ) → q ≡ p → get_or (set a q stamp) p 0 ≤ stamp
-      hit-old p e = rw (← e, get_or-set_same a q stamp 0 inside) (omega arith)
+      hit_old : (p : ℕ) → q ≡ p → get_or (set a q stamp) p 0 ≤ stamp
+      hit_old p e = rw (← e, get_or-set_same a q stamp 0 inside) (omega arith)
 
       apart : (p : ℕ) → (T (eqb q p) → ⊥) → p ≡ q → ⊥
       apart p f e = f (subst (λ (x : ℕ). T (eqb q x)) (sym e) (eqb_refl q))
@@ -102,8 +102,8 @@ module _ {names : ℕ → Item → Bool} {n stamp : ℕ} {b : Block} {a : List �
           rw (get_or-set_other a q p stamp 0 (apart p f))
           (h.same p ∙ sym (any_snoc (names p) b i ∙ ap (λ (x : Bool). any (names p) b || x) (k p ∙ not-false (eqb q p) f) ∙ or-false (any (names p) b)))
 
-      miss-old : (p : ℕ) → (T (eqb q p) → ⊥) → get_or (set a q stamp) p 0 ≤ stamp
-      miss-old p f = rw (get_or-set_other a q p stamp 0 (apart p f)) (h.old p)
+      miss_old : (p : ℕ) → (T (eqb q p) → ⊥) → get_or (set a q stamp) p 0 ≤ stamp
+      miss_old p f = rw (get_or-set_other a q p stamp 0 (apart p f)) (h.old p)
 
 -- ---- as check 5 asks
 

@@ -17,8 +17,8 @@ use Rattle.command.specs.declared.Place.TheVariants.{Start, Preamble, InMove, In
 use Rattle.command.specs.Names.{place_of}
 use Rattle.cursor.specs.State.{item_cursor, Valid}
 use Rattle.advance.specs.Stamps.{needs, changes, affects, Stamped, any_snoc}
-use Rattle.advance.specs.Edges.{Drawn, closed-other}
-use Rattle.advance.specs.Marks.{marks-later}
+use Rattle.advance.specs.Edges.{Drawn, closed_other}
+use Rattle.advance.specs.Marks.{marks_later}
 use Rattle.advance.specs.Tracks.{head_of, Tracks}
 
 pub record Advanced (t : List ℕ) (c : Cursor) (k : Command) (nd ch af : List ℕ) (es : List Bool) (mk : List ℕ) (c' : Cursor) (nd' ch' af' : List ℕ) (es' : List Bool) (mk' : List ℕ) : Type 0 where
@@ -56,9 +56,9 @@ unfolding active
 active_snoc b i = any_snoc task.changes b i
 
 module _ {t : List ℕ} {c : Cursor} (v : Valid t c) (n : ℕ) (room : c.at + n ≤ length t) (wide : 0 < n) (active : Bool) where
-  pub item-valid : Valid t (item_cursor c n active)
+  pub item_valid : Valid t (item_cursor c n active)
   unfolding item_cursor
-  item-valid =
+  item_valid =
       record {
         inside = room;
         props = v.props;
@@ -72,13 +72,13 @@ module _ {t : List ℕ} {c : Cursor} (v : Valid t c) (n : ℕ) (room : c.at + n 
         blocks = omega (arith, v.blocks);
       }
 
-  pub item-moved : c.at < (item_cursor c n active).at
+  pub item_moved : c.at < (item_cursor c n active).at
   unfolding item_cursor
-  item-moved = omega (arith, wide)
+  item_moved = omega (arith, wide)
 
 module _ {t : List ℕ} {c : Cursor} {nd ch af : List ℕ} {es : List Bool} {mk : List ℕ} {s : Seen} (h : Tracks t c nd ch af es mk s) where
   -- an item, with what it names and draws entered
-  pub item-tracks :
+  pub item_tracks :
       (n : ℕ) (a : Bool) (i : Item) {nd' ch' af' : List ℕ} {es' : List Bool}
       → (s.place ≡ start → ⊥)
       → a ≡ (c.active || task.changes i)
@@ -88,7 +88,7 @@ module _ {t : List ℕ} {c : Cursor} {nd ch af : List ℕ} {es : List Bool} {mk 
       → Drawn (closed s.place s.moves (s.items ++ (i ∷ []))) es'
       → Tracks t (item_cursor c n a) nd' ch' af' es' mk (with_item s n (some i))
   unfolding item_cursor with_item head_of all any any_below kept
-  item-tracks n x i elsewhere does a b d e =
+  item_tracks n x i elsewhere does a b d e =
       record {
         at = ap (λ (x : ℕ). x + n) h.at;
         place = h.place;
@@ -104,7 +104,7 @@ module _ {t : List ℕ} {c : Cursor} {nd ch af : List ℕ} {es : List Bool} {mk 
         affected = d;
         edges = e;
         marked = h.marked;
-        marks = marks-later h.marks (c.at + n) (omega arith);
+        marks = marks_later h.marks (c.at + n) (omega arith);
         begins = λ f. absurd (elsewhere f);
       }
 
@@ -113,7 +113,7 @@ module _ {t : List ℕ} {c : Cursor} {nd ch af : List ℕ} {es : List Bool} {mk 
   no_edge i k =
       record {
         size = h.edges.size;
-        same = λ u w a b. h.edges.same u w a b ∙ sym (closed-other (item_edge u w) s.place s.moves s.items i (k u w));
+        same = λ u w a b. h.edges.same u w a b ∙ sym (closed_other (item_edge u w) s.place s.moves s.items i (k u w));
       }
 
   pub elsewhere : (k : Command) → in_place start k ≡ false → in_place (place_of c.place) k ≡ true → s.place ≡ start → ⊥

@@ -17,10 +17,10 @@ use Rattle.model.specs.Theorems.Laws.Searching.{below_suc}
 use Rattle.model.specs.Theorems.Reading.Commands.{width_positive}
 use Rattle.cursor.specs.declared.Cursor.{Cursor}
 use Rattle.cursor.specs.State.{term_cursor, source_at, Valid, repeated, Passed}
-use Rattle.cursor.specs.Passing.{term-range}
+use Rattle.cursor.specs.Passing.{term_range}
 use Rattle.advance.specs.Stamps.{or-false, or_assoc}
 use Rattle.advance.specs.Edges.{weightless, source_is}
-use Rattle.advance.specs.Marks.{marks-later}
+use Rattle.advance.specs.Marks.{marks_later}
 use Rattle.advance.specs.Tracks.{head_of, open_from, Tracks}
 use Rattle.advance.specs.Steps.{Advanced, impossible, elsewhere}
 
@@ -83,9 +83,9 @@ module _ {t : List ℕ} {c : Cursor} (v : Valid t c) where
   unfolding term_cursor width
   same_from p = omega (arith, v.behind)
 
-  term-valid : {nd ch af : List ℕ} (p : ℕ) → Passed t c nd ch af term → p ≡ get_or t (c.at + 1) 0 → Valid t (term_cursor c p)
+  term_valid : {nd ch af : List ℕ} (p : ℕ) → Passed t c nd ch af term → p ≡ get_or t (c.at + 1) 0 → Valid t (term_cursor c p)
   unfolding term_cursor width
-  term-valid p k e =
+  term_valid p k e =
       record {
         inside = k.uncut;
         props = v.props;
@@ -96,7 +96,7 @@ module _ {t : List ℕ} {c : Cursor} (v : Valid t c) where
         behind = omega (arith, v.behind);
         sources = λ i l. below_suc i c.terms (omega arith)
             (λ m. subst (λ (x : ℕ). get_or t x 0 < 32) (shift i) (v.sources i m))
-            (λ m. subst (λ (x : ℕ). get_or t x 0 < 32) (last i m) (omega (arith, term-range t c k.ranged, v.vars)));
+            (λ m. subst (λ (x : ℕ). get_or t x 0 < 32) (last i m) (omega (arith, term_range t c k.ranged, v.vars)));
         numbered = v.numbered;
         blocks = omega (arith, v.blocks);
       }
@@ -107,9 +107,9 @@ module _ {t : List ℕ} {c : Cursor} (v : Valid t c) where
       last : (i : ℕ) → i ≡ c.terms → c.at + 1 ≡ c.at + 4 - 4 * (c.terms + 1) + 4 * i + 1
       last i m = omega (arith, v.behind)
 
-  term-tracks : {nd ch af : List ℕ} {es : List Bool} {mk : List ℕ} (p : ℕ) (s : Seen) → Passed t c nd ch af term → p ≡ get_or t (c.at + 1) 0 → Tracks t c nd ch af es mk s → (z : ℤ) → z ≡ signed (take 2 (drop (c.at + 2) t)) → Tracks t (term_cursor c p) nd ch af es mk (with_term s (record { var = p; weight = z }))
+  term_tracks : {nd ch af : List ℕ} {es : List Bool} {mk : List ℕ} (p : ℕ) (s : Seen) → Passed t c nd ch af term → p ≡ get_or t (c.at + 1) 0 → Tracks t c nd ch af es mk s → (z : ℤ) → z ≡ signed (take 2 (drop (c.at + 2) t)) → Tracks t (term_cursor c p) nd ch af es mk (with_term s (record { var = p; weight = z }))
   unfolding term_cursor with_term head_of width
-  term-tracks p s k e h z weight =
+  term_tracks p s k e h z weight =
       record {
         at = ap (λ (x : ℕ). x + 4) h.at;
         place = h.place;
@@ -125,7 +125,7 @@ module _ {t : List ℕ} {c : Cursor} (v : Valid t c) where
         affected = h.affected;
         edges = h.edges;
         marked = h.marked;
-        marks = marks-later h.marks (c.at + 4) (omega arith);
+        marks = marks_later h.marks (c.at + 4) (omega arith);
         begins = λ f. absurd (elsewhere h term (unfold in_place in refl) k.placed f);
       }
     where
@@ -137,15 +137,15 @@ module _ {t : List ℕ} {c : Cursor} (v : Valid t c) where
           unfold source_is weightless in
           (rw (weight, e) (ap (λ (x : ℕ). not (eqb (nat_abs (signed (take 2 (drop (x + 2) t)))) 0) && eqb (get_or t (x + 1) 0) u) spot))
 
-  pub advance-term :
+  pub advance_term :
       {nd ch af : List ℕ} {es : List Bool} {mk : List ℕ} (p : ℕ) {r : Cursor} → Passed t c nd ch af term → p ≡ get_or t (c.at + 1) 0 → r ≡ term_cursor c p
       → Advanced t c term nd ch af es mk r nd ch af es mk
   unfolding advance term_at byte_after
-  advance-term {nd} {ch} {af} {es} {mk} p k e f =
+  advance_term {nd} {ch} {af} {es} {mk} p k e f =
       rw f
       (record {
-        valid = term-valid p k e;
+        valid = term_valid p k e;
         moved = unfold term_cursor in omega (arith, width_positive term);
         tracks = λ s h.
-            subst (λ (x : ℕ). Tracks t (term_cursor c p) nd ch af es mk (with_term s (record { var = x; weight = number_after 2 t s 2 }))) (e ∙ ap (λ (x : ℕ). get_or t (x + 1) 0) h.at) (term-tracks p s k e h (number_after 2 t s 2) (unfold number_after in ap (λ (x : ℕ). signed (take 2 (drop (x + 2) t))) (sym h.at)));
+            subst (λ (x : ℕ). Tracks t (term_cursor c p) nd ch af es mk (with_term s (record { var = x; weight = number_after 2 t s 2 }))) (e ∙ ap (λ (x : ℕ). get_or t (x + 1) 0) h.at) (term_tracks p s k e h (number_after 2 t s 2) (unfold number_after in ap (λ (x : ℕ). signed (take 2 (drop (x + 2) t))) (sym h.at)));
       })

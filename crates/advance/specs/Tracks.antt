@@ -87,45 +87,45 @@ same_idle w finished x b e = elsewhere (checks16 w) (not x)
 
 module _ {t : List ℕ} {c : Cursor} {needed changed affected : List ℕ} {edges : List Bool} {marks : List ℕ} {s : Seen}
     (h : Tracks t c needed changed affected edges marks s) where
-  same-3 : (w : Wanted) (k : Command) → misplaced w (place_of c.place) c.terms k ≡ wrong3 w s k
+  same_3 : (w : Wanted) (k : Command) → misplaced w (place_of c.place) c.terms k ≡ wrong3 w s k
   unfolding misplaced wrong3 leaves_open
-  same-3 w k = rw (h.place, h.terms) refl
+  same_3 w k = rw (h.place, h.terms) refl
 
-  same-2 : (k : Command) → ltb (length t) (c.at + width k) ≡ wrong2 t s k
+  same_2 : (k : Command) → ltb (length t) (c.at + width k) ≡ wrong2 t s k
   unfolding wrong2
-  same-2 k = rw h.at refl
+  same_2 k = rw h.at refl
 
-  moves-are : c.moves ≡ s.header.moves
+  moves_are : c.moves ≡ s.header.moves
   unfolding head_of
-  moves-are = ap (λ (x : Head). x.moves) h.header
+  moves_are = ap (λ (x : Head). x.moves) h.header
 
-  same-6 : (k : Command) → miscounted c.moves c.opened k ≡ wrong6 s k
+  same_6 : (k : Command) → miscounted c.moves c.opened k ≡ wrong6 s k
   unfolding miscounted wrong6
-  same-6 (head f) = refl
-  same-6 open_move = rw (moves-are, h.opens) refl
-  same-6 open_goal = rw (moves-are, h.opens) refl
-  same-6 end_table = refl
-  same-6 need_prop = refl
-  same-6 add_prop = refl
-  same-6 delete_prop = refl
-  same-6 term = refl
-  same-6 close_condition = refl
-  same-6 close_effect = refl
-  same-6 unknown = refl
+  same_6 (head f) = refl
+  same_6 open_move = rw (moves_are, h.opens) refl
+  same_6 open_goal = rw (moves_are, h.opens) refl
+  same_6 end_table = refl
+  same_6 need_prop = refl
+  same_6 add_prop = refl
+  same_6 delete_prop = refl
+  same_6 term = refl
+  same_6 close_condition = refl
+  same_6 close_effect = refl
+  same_6 unknown = refl
 
-  same-16 : (w : Wanted) (k : Command) → closes_idle w (place_of c.place) c.active k ≡ wrong16 w s k
+  same_16 : (w : Wanted) (k : Command) → closes_idle w (place_of c.place) c.active k ≡ wrong16 w s k
   unfolding closes_idle wrong16
-  same-16 w (head f) = refl
-  same-16 w open_move = rw h.place (same_idle w s.place c.active s.items h.active)
-  same-16 w open_goal = rw h.place (same_idle w s.place c.active s.items h.active)
-  same-16 w end_table = refl
-  same-16 w need_prop = refl
-  same-16 w add_prop = refl
-  same-16 w delete_prop = refl
-  same-16 w term = refl
-  same-16 w close_condition = refl
-  same-16 w close_effect = refl
-  same-16 w unknown = refl
+  same_16 w (head f) = refl
+  same_16 w open_move = rw h.place (same_idle w s.place c.active s.items h.active)
+  same_16 w open_goal = rw h.place (same_idle w s.place c.active s.items h.active)
+  same_16 w end_table = refl
+  same_16 w need_prop = refl
+  same_16 w add_prop = refl
+  same_16 w delete_prop = refl
+  same_16 w term = refl
+  same_16 w close_condition = refl
+  same_16 w close_effect = refl
+  same_16 w unknown = refl
 
   -- the operands as the cursor sees them
   same_operands : (k : Command) → operands paper t (view_at c.at (form_of c.form) c.props c.vars) k ≡ operands paper t s k
@@ -133,27 +133,27 @@ module _ {t : List ℕ} {c : Cursor} {needed changed affected : List ℕ} {edges
   same_operands k =
       ap₂ (λ (p : ℕ) (x : Head). operands paper t (view_at p x.form x.props x.vars) k) h.at h.header ∙ sym (operands_view paper t s k)
 
-  same-4 : (k : Command) → refused_offset c.at (wrong_at t c k) ≡ refused_operand s.at (first_wrong (operands paper t s k))
+  same_4 : (k : Command) → refused_offset c.at (wrong_at t c k) ≡ refused_operand s.at (first_wrong (operands paper t s k))
   unfolding wrong_at wrong_operand
-  same-4 k =
+  same_4 k =
       operands_refused c.at paper t (view_at c.at (form_of c.form) c.props c.vars) k
       ∙ ap₂ (λ p x. refused_operand p (first_wrong x)) h.at (same_operands k)
 
-  same-5 : (k : Command) → repeated t c needed changed affected k ≡ wrong5 paper t s k
+  same_5 : (k : Command) → repeated t c needed changed affected k ≡ wrong5 paper t s k
   unfolding repeated wrong5 named_again item_at byte_after
-  same-5 (head f) = refl
-  same-5 open_move = refl
-  same-5 open_goal = refl
-  same-5 end_table = refl
-  same-5 need_prop = rw (← h.at) (h.needed.same (get_or t (c.at + 1) 0) ∙ needs_clash (get_or t (c.at + 1) 0) s.items)
-  same-5 add_prop = rw (← h.at) (h.changed.same (get_or t (c.at + 1) 0) ∙ changes_add (get_or t (c.at + 1) 0) s.items)
-  same-5 delete_prop = rw (← h.at) (h.changed.same (get_or t (c.at + 1) 0) ∙ changes_delete (get_or t (c.at + 1) 0) s.items)
-  same-5 term = rw (← h.at, h.rising (get_or t (c.at + 1) 0), ← h.terms) refl
-  same-5 close_condition = refl
-  same-5 close_effect = rw (← h.at) (h.affected.same (get_or t (c.at + 2) 0) ∙ affects_effect _ s.items)
-  same-5 unknown = refl
+  same_5 (head f) = refl
+  same_5 open_move = refl
+  same_5 open_goal = refl
+  same_5 end_table = refl
+  same_5 need_prop = rw (← h.at) (h.needed.same (get_or t (c.at + 1) 0) ∙ needs_clash (get_or t (c.at + 1) 0) s.items)
+  same_5 add_prop = rw (← h.at) (h.changed.same (get_or t (c.at + 1) 0) ∙ changes_add (get_or t (c.at + 1) 0) s.items)
+  same_5 delete_prop = rw (← h.at) (h.changed.same (get_or t (c.at + 1) 0) ∙ changes_delete (get_or t (c.at + 1) 0) s.items)
+  same_5 term = rw (← h.at, h.rising (get_or t (c.at + 1) 0), ← h.terms) refl
+  same_5 close_condition = refl
+  same_5 close_effect = rw (← h.at) (h.affected.same (get_or t (c.at + 2) 0) ∙ affects_effect _ s.items)
+  same_5 unknown = refl
 
   -- the code's checks are model's
-  pub tracks-refusal : (w : Wanted) (k : Command) → cursor_refusal w t c needed changed affected k ≡ refusal paper w t s k
+  pub tracks_refusal : (w : Wanted) (k : Command) → cursor_refusal w t c needed changed affected k ≡ refusal paper w t s k
   unfolding cursor_refusal in_order refusal
-  tracks-refusal w k = together _ _ _ _ _ _ _ _ _ _ _ _ _ _ h.at (same-3 w k) (same-2 k) (same-6 k) (same-16 w k) (same-4 k) (same-5 k)
+  tracks_refusal w k = together _ _ _ _ _ _ _ _ _ _ _ _ _ _ h.at (same_3 w k) (same_2 k) (same_6 k) (same_16 w k) (same_4 k) (same_5 k)

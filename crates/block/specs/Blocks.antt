@@ -27,16 +27,16 @@ reading_start {b} g l = record { rest = b; left = l; same = refl }
 
 module _ {X : Type 0} {k : Ranges} {part : List ℕ} {whole : X} {g : Block → X} {at : ℕ} (r : Reading k part whole g at) where
   -- the first item is passed
-  pub reading-next : {after : ℕ} {i : Item} (h : Block → X) → Followed k part after r.rest i → ((o : Block) → g (i ∷ o) ≡ h o) → Reading k part whole h after
-  reading-next h f e = record { rest = f.others; left = f.left; same = r.same ∙ ap g f.is ∙ e f.others }
+  pub reading_next : {after : ℕ} {i : Item} (h : Block → X) → Followed k part after r.rest i → ((o : Block) → g (i ∷ o) ≡ h o) → Reading k part whole h after
+  reading_next h f e = record { rest = f.others; left = f.left; same = r.same ∙ ap g f.is ∙ e f.others }
 
   -- what the whole is at an item that decides it
-  pub reading-stop : {after : ℕ} {i : Item} {x : X} → Followed k part after r.rest i → ((o : Block) → g (i ∷ o) ≡ x) → x ≡ whole
-  reading-stop f e = sym (r.same ∙ ap g f.is ∙ e f.others)
+  pub reading_stop : {after : ℕ} {i : Item} {x : X} → Followed k part after r.rest i → ((o : Block) → g (i ∷ o) ≡ x) → x ≡ whole
+  reading_stop f e = sym (r.same ∙ ap g f.is ∙ e f.others)
 
   -- what the whole is at the end
-  pub reading-end : {x : X} → r.rest ≡ [] → g [] ≡ x → x ≡ whole
-  reading-end n e = sym (r.same ∙ ap g n ∙ e)
+  pub reading_end : {x : X} → r.rest ≡ [] → g [] ≡ x → x ≡ whole
+  reading_end n e = sym (r.same ∙ ap g n ∙ e)
 
 -- the next item, once its case is known
 pub next_is : {part : List ℕ} {at : ℕ} {r x : ItemAt} → Next part at r → r ≡ x → Next part at x
@@ -71,16 +71,16 @@ module _ {I X : Type 0} {part : List ℕ} (over : Ranges → I → Type 0) (g : 
   walk_start h = record { within = h; reading = λ k b s l o. reading_start (g s) l }
 
   module _ {at : ℕ} (w : Walk part over g at) where
-    pub walk-found :
+    pub walk_found :
         {x : ItemAt} (k : Ranges) (b : Block) (s : I) (l : Left k part 1 b) (o : over k s)
         → Next part at x
         → Found k part (w.reading k b s l o).rest x
-    walk-found k b s l o t = let r = w.reading k b s l o in t.found k r.rest r.left
+    walk_found k b s l o t = let r = w.reading k b s l o in t.found k r.rest r.left
 
-    pub walk-next : {x : ItemAt} → at < length part → Next part at x → Passing part over g x → Walk part over g (behind x)
+    pub walk_next : {x : ItemAt} → at < length part → Next part at x → Passing part over g x → Walk part over g (behind x)
     unfolding behind
-    walk-next {x} lt t q =
-        record { within = (next_ahead lt t).1; reading = λ k b s l o. go x t.moves q k b s l o (walk-found k b s l o t) }
+    walk_next {x} lt t q =
+        record { within = (next_ahead lt t).1; reading = λ k b s l o. go x t.moves q k b s l o (walk_found k b s l o t) }
       where
         go :
             (y : ItemAt)
@@ -89,16 +89,16 @@ module _ {I X : Type 0} {part : List ℕ} (over : Ranges → I → Type 0) (g : 
             → (k : Ranges) (b : Block) (s : I) (l : Left k part 1 b) (o : over k s)
             → Found k part (w.reading k b s l o).rest y
             → Reading k part (g s b) (g s) (behind y)
-        go (Need p after) m h k b s l o f = reading-next (w.reading k b s l o) (g s) f (h k s o f.ok)
-        go (Add p after) m h k b s l o f = reading-next (w.reading k b s l o) (g s) f (h k s o f.ok)
-        go (Delete p after) m h k b s l o f = reading-next (w.reading k b s l o) (g s) f (h k s o f.ok)
+        go (Need p after) m h k b s l o f = reading_next (w.reading k b s l o) (g s) f (h k s o f.ok)
+        go (Add p after) m h k b s l o f = reading_next (w.reading k b s l o) (g s) f (h k s o f.ok)
+        go (Delete p after) m h k b s l o f = reading_next (w.reading k b s l o) (g s) f (h k s o f.ok)
         go (ConditionAt c z from n after) m h k b s l o f =
-            reading-next (w.reading k b s l o) (g s) f.followed (h k s f.it o f.is)
+            reading_next (w.reading k b s l o) (g s) f.followed (h k s f.it o f.is)
         go (EffectAt kd v z from n after) m h k b s l o f =
-            reading-next (w.reading k b s l o) (g s) f.followed (h k s f.it o f.var f.is)
+            reading_next (w.reading k b s l o) (g s) f.followed (h k s f.it o f.var f.is)
         go End m h k b s l o f = absurd (omega arith)
 
-    pub walk-stop :
+    pub walk_stop :
         {x : ItemAt} {y : X}
         → Next part at x
         → Deciding part over g y x
@@ -106,18 +106,18 @@ module _ {I X : Type 0} {part : List ℕ} (over : Ranges → I → Type 0) (g : 
         → Left k part 1 b
         → over k s
         → y ≡ g s b
-    walk-stop {x} {y} t q k b s l o = go x q (walk-found k b s l o t)
+    walk_stop {x} {y} t q k b s l o = go x q (walk_found k b s l o t)
       where
         r : Reading k part (g s b) (g s) at
         r = w.reading k b s l o
 
         go : (u : ItemAt) → Deciding part over g y u → Found k part r.rest u → y ≡ g s b
-        go (Need p after) h f = reading-stop r f (h k s o f.ok)
-        go (Add p after) h f = reading-stop r f (h k s o f.ok)
-        go (Delete p after) h f = reading-stop r f (h k s o f.ok)
-        go (ConditionAt c z from n after) h f = reading-stop r f.followed (h k s f.it o f.is)
-        go (EffectAt kd v z from n after) h f = reading-stop r f.followed (h k s f.it o f.var f.is)
-        go End h f = reading-end r f (h s)
+        go (Need p after) h f = reading_stop r f (h k s o f.ok)
+        go (Add p after) h f = reading_stop r f (h k s o f.ok)
+        go (Delete p after) h f = reading_stop r f (h k s o f.ok)
+        go (ConditionAt c z from n after) h f = reading_stop r f.followed (h k s f.it o f.is)
+        go (EffectAt kd v z from n after) h f = reading_stop r f.followed (h k s f.it o f.var f.is)
+        go End h f = reading_end r f (h s)
 
 -- at the part's end no item is left
 pub walk_done :
@@ -130,7 +130,7 @@ pub walk_done :
     → Left k part 1 b
     → over k s
     → x ≡ g s b
-walk_done over g w h e k b s l o = let r = w.reading k b s l o in reading-end r (left_end h r.left) (e s)
+walk_done over g w h e k b s l o = let r = w.reading k b s l o in reading_end r (left_end h r.left) (e s)
 
 -- ---- how the questions about a block go by its first item
 
@@ -139,13 +139,13 @@ module _ {A : Type 0} (f : A → Bool) where
   unfolding all
   all_true e xs = ap (λ (t : Bool). t && all f xs) e
 
-  pub all-false : {x : A} → f x ≡ false → (xs : List A) → all f (x ∷ xs) ≡ false
+  pub all_false : {x : A} → f x ≡ false → (xs : List A) → all f (x ∷ xs) ≡ false
   unfolding all
-  all-false e xs = ap (λ (t : Bool). t && all f xs) e
+  all_false e xs = ap (λ (t : Bool). t && all f xs) e
 
-  pub any-true : {x : A} → f x ≡ true → (xs : List A) → any f (x ∷ xs) ≡ true
+  pub any_true : {x : A} → f x ≡ true → (xs : List A) → any f (x ∷ xs) ≡ true
   unfolding any
-  any-true e xs = ap (λ (t : Bool). t || any f xs) e
+  any_true e xs = ap (λ (t : Bool). t || any f xs) e
 
   pub any_false : {x : A} → f x ≡ false → (xs : List A) → any f (x ∷ xs) ≡ any f xs
   unfolding any
@@ -196,13 +196,13 @@ pub summable :
 summable {k} {ts} {f} h w = record { ranges = k; ts = ts; val = f; terms = h; row = w }
 
 module _ (s : State) {k : Ranges} {part : List ℕ} {from n : ℕ} {values : List ℤ} (w : Row k.vars values s.val) where
-  pub condition-test :
+  pub condition_test :
       {o : ℕ} {z : ℤ} {c : Condition} {t : Bool}
       → ConditionIs k part o z from n c
       → IsTest part o z from n values t
       → holds s (condition c) ≡ t
   unfolding holds
-  condition-test {c} g q =
+  condition_test {c} g q =
       ap (compares c.comparison (sum s.val c.terms)) g.bound
       ∙ sym (q.is k c.terms s.val c.comparison g.terms w g.comparison)
 
@@ -244,32 +244,32 @@ pub layer_summable :
 layer_summable {k} {ts} {f} h w = record { ranges = k; ts = ts; val = f; terms = h; row = w }
 
 module _ (l : Layer) {k : Ranges} {part : List ℕ} {from n : ℕ} {layer : List ℤ} (w : LayerRow k.vars layer l.val) where
-  pub layer-condition-test :
+  pub layer_condition_test :
       {o : ℕ} {z : ℤ} {c : Condition} {t : Bool}
       → ConditionIs k part o z from n c
       → IsLayerTest part z from n layer t
       → holds_in l (condition c) ≡ t
   unfolding holds_in
-  layer-condition-test {c} g q =
+  layer_condition_test {c} g q =
       ap (reaches (layer_sum l.val c.terms)) g.bound ∙ sym (q.is k c.terms l.val g.terms w)
 
-  pub layer-effect-value :
+  pub layer_effect_value :
       {kd : ℕ} {z r : ℤ} {e : Effect}
       → EffectIs k part kd z from n e
       → IsLayerValue part from n z layer r
       → Encoded 8_000_000_001_000_000 (layer_value l e) r
   unfolding layer_value
-  layer-effect-value {r} {e} g q =
+  layer_effect_value {r} {e} g q =
       subst (λ (z : ℤ). Encoded 8_000_000_001_000_000 (plus (layer_sum l.val e.terms) (finite z)) r) (sym g.base)
       (q.is k e.terms l.val g.terms w)
 
 -- ---- the block's effect on a variable
 
 module _ (v : ℕ) (e : Effect) where
-  pub effectOn-here : e.var ≡ v → (b : Block) → effect_on v (effect e ∷ b) ≡ some e
+  pub effect_on_here : e.var ≡ v → (b : Block) → effect_on v (effect e ∷ b) ≡ some e
   unfolding effect_on
-  effectOn-here p b = rw (eq-eqb e.var v p, effect_on) refl
+  effect_on_here p b = rw (eq-eqb e.var v p, effect_on) refl
 
-  pub effectOn-other : (e.var ≡ v → ⊥) → (b : Block) → effect_on v (effect e ∷ b) ≡ effect_on v b
+  pub effect_on_other : (e.var ≡ v → ⊥) → (b : Block) → effect_on v (effect e ∷ b) ≡ effect_on v b
   unfolding effect_on
-  effectOn-other p b = rw (ne_eqb e.var v p, effect_on) refl
+  effect_on_other p b = rw (ne_eqb e.var v p, effect_on) refl

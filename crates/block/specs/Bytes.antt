@@ -29,15 +29,15 @@ module _ {part : List ℕ} {at : ℕ} where
   at_head a = ap (λ (i : ℕ). get_or part i 0) (sym (add-zero at)) ∙ at_byte a 0
 
   -- behind the bytes of a first part
-  pub at-behind : (n : ℕ) (bs cs : List ℕ) → At part at (bs ++ cs) → length bs ≡ n → At part (at + n) cs
-  at-behind n bs cs a e =
+  pub at_behind : (n : ℕ) (bs cs : List ℕ) → At part at (bs ++ cs) → length bs ≡ n → At part (at + n) cs
+  at_behind n bs cs a e =
       record {
         within = omega (arith, at_length a, length-append bs cs);
         bytes = sym (drop-drop n at part) ∙ ap (drop n) a.bytes ∙ drop_at bs cs n e;
       }
 
   pub at_tail : {b : ℕ} {bs : List ℕ} → At part at (b ∷ bs) → At part (at + 1) bs
-  at_tail {b} {bs} a = at-behind 1 (b ∷ []) bs a refl
+  at_tail {b} {bs} a = at_behind 1 (b ∷ []) bs a refl
 
   -- the first bytes
   pub at_take : (n : ℕ) (bs cs : List ℕ) → At part at (bs ++ cs) → length bs ≡ n → take n (drop at part) ≡ bs
@@ -47,13 +47,13 @@ module _ {part : List ℕ} {at : ℕ} where
   at_room n bs cs a e = omega (arith, at_length a, length-append bs cs)
 
   -- a signed number of two and of four bytes
-  pub at-signed :
+  pub at_signed :
       (w : ℕ) (z : ℤ) (cs : List ℕ)
       → At part at (signed_bytes w z ++ cs)
       → 0 < w
       → nat_abs z < half w
       → signed (take w (drop at part)) ≡ z
-  at-signed w z cs a p h =
+  at_signed w z cs a p h =
       ap signed (at_take w (signed_bytes w z) cs a (length_signed_bytes w z))
       ∙ signed_signed_bytes w z p
       (omega (zlin, nat_abs_split z, neg_up (pos (half w)), neg_dn (pos (half w))))

@@ -11,7 +11,7 @@ use Rattle.model.specs.Task.{Term, Item, need, add, delete, condition, effect, B
 use Rattle.model.specs.Command.{code_of, comparison_code, kind_code, term_bytes, items_bytes}
 use Rattle.model.specs.Theorems.Printing.Items.{item_command, item_operands, closing}
 use Rattle.model.specs.Theorems.Reading.WellFormed.{All, ItemOk, SumOk}
-use Rattle.block.specs.Bytes.{At, at_same, at_place, at_head, at-behind, at_tail, at-signed, at_length}
+use Rattle.block.specs.Bytes.{At, at_same, at_place, at_head, at_behind, at_tail, at_signed, at_length}
 use Rattle.block.specs.Items.{Ranges, Left, Terms, first_parts, closing_long, behind_term, Followed, ConditionFound, EffectFound, bound_small, base_small}
 
 -- the item at `from`, of which n terms are passed and the terms `ts` are left
@@ -166,7 +166,7 @@ prop_followed {k} {part} {at} {rest} mk code p q others is ok oks a e =
     record {
       others = others;
       is = is;
-      left = record { bytes = at-behind 2 (code ∷ p ∷ []) (items_bytes others) a refl; items = oks };
+      left = record { bytes = at_behind 2 (code ∷ p ∷ []) (items_bytes others) a refl; items = oks };
       ok = ok;
     } in
     subst (λ (x : ℕ). Followed k part (at + 2) rest (mk x)) (sym (e ∙ at_head (at_tail a))) f
@@ -185,7 +185,7 @@ constant_followed i z others is ok oks a e =
       others = others;
       is = is;
       left =
-          record { bytes = at_place (at-behind 4 (signed_bytes 4 z) (items_bytes others) a (length_signed_bytes 4 z)) e; items = oks };
+          record { bytes = at_place (at_behind 4 (signed_bytes 4 z) (items_bytes others) a (length_signed_bytes 4 z)) e; items = oks };
       ok = ok;
     }
 
@@ -199,9 +199,9 @@ terms_of_lem {i} {others} c ok =
     record { after = closing i ++ items_bytes others; bytes = c.whole; many = c.many; ok = ok }
 
 module _ {k : Ranges} {part : List ℕ} {from n : ℕ} {rest : Block} (closed : Closed k part from n rest) where
-  pub found-need : (p : ℕ) → get_or part (from + 4 * n) 0 ≡ 0x50 → p ≡ get_or part (from + 4 * n + 1) 0 → Followed k part (from + 4 * n + 2) rest (need p)
+  pub found_need : (p : ℕ) → get_or part (from + 4 * n) 0 ≡ 0x50 → p ≡ get_or part (from + 4 * n + 1) 0 → Followed k part (from + 4 * n + 2) rest (need p)
   unfolding closing item_command item_operands code_of
-  found-need p h e = go closed.item closed.by
+  found_need p h e = go closed.item closed.by
     where
       go : (i : Item) → ClosedBy k part from n rest i closed.others → Followed k part (from + 4 * n + 2) rest (need p)
       go (need q) c = prop_followed need 0x50 q p closed.others c.is c.ok c.oks c.bytes e
@@ -221,9 +221,9 @@ module _ {k : Ranges} {part : List ℕ} {from n : ℕ} {rest : Block} (closed : 
       go (condition q) c = absurd (omega (arith, at_head c.bytes))
       go (effect q) c = absurd (omega (arith, at_head c.bytes))
 
-  pub found-delete : (p : ℕ) → get_or part (from + 4 * n) 0 ≡ 0x2D → p ≡ get_or part (from + 4 * n + 1) 0 → Followed k part (from + 4 * n + 2) rest (delete p)
+  pub found_delete : (p : ℕ) → get_or part (from + 4 * n) 0 ≡ 0x2D → p ≡ get_or part (from + 4 * n + 1) 0 → Followed k part (from + 4 * n + 2) rest (delete p)
   unfolding closing item_command item_operands code_of
-  found-delete p h e = go closed.item closed.by
+  found_delete p h e = go closed.item closed.by
     where
       go : (i : Item) → ClosedBy k part from n rest i closed.others → Followed k part (from + 4 * n + 2) rest (delete p)
       go (need q) c = absurd (omega (arith, at_head c.bytes))
@@ -232,14 +232,14 @@ module _ {k : Ranges} {part : List ℕ} {from n : ℕ} {rest : Block} (closed : 
       go (condition q) c = absurd (omega (arith, at_head c.bytes))
       go (effect q) c = absurd (omega (arith, at_head c.bytes))
 
-  pub found-condition :
+  pub found_condition :
       (o : ℕ) (z : ℤ)
       → get_or part (from + 4 * n) 0 ≡ 0x43
       → o ≡ get_or part (from + 4 * n + 1) 0
       → z ≡ signed (take 4 (drop (from + 4 * n + 2) part))
       → ConditionFound k part o z from n (from + 4 * n + 6) rest
   unfolding closing item_command item_operands code_of terms_of half
-  found-condition o z h e f = go closed.item closed.by
+  found_condition o z h e f = go closed.item closed.by
     where
       go : (i : Item) → ClosedBy k part from n rest i closed.others → ConditionFound k part o z from n (from + 4 * n + 6) rest
       go (need q) c = absurd (omega (arith, at_head c.bytes))
@@ -248,13 +248,13 @@ module _ {k : Ranges} {part : List ℕ} {from n : ℕ} {rest : Block} (closed : 
       go (condition q) c =
           let code = comparison_code q.comparison in
           let small : nat_abs q.bound < half 4 = unfold half in (omega (arith, bound_small k.form q.bound c.ok.bound)) in
-          let number = at-behind 2 (0x43 ∷ code ∷ []) (signed_bytes 4 q.bound ++ items_bytes closed.others) c.bytes refl in
+          let number = at_behind 2 (0x43 ∷ code ∷ []) (signed_bytes 4 q.bound ++ items_bytes closed.others) c.bytes refl in
           record {
             it = q;
             is =
                 record {
                   comparison = sym (e ∙ at_head (at_tail c.bytes));
-                  bound = sym (f ∙ at-signed 4 q.bound (items_bytes closed.others) number (omega arith) small);
+                  bound = sym (f ∙ at_signed 4 q.bound (items_bytes closed.others) number (omega arith) small);
                   terms = terms_of_lem c c.ok.sum;
                   ok = c.ok;
                 };
@@ -263,7 +263,7 @@ module _ {k : Ranges} {part : List ℕ} {from n : ℕ} {rest : Block} (closed : 
       go (effect q) c = absurd (omega (arith, at_head c.bytes))
 
   -- the one command that is left
-  pub found-effect :
+  pub found_effect :
       (kd v : ℕ) (z : ℤ)
       → (get_or part (from + 4 * n) 0 ≡ 0x50 → ⊥)
       → (get_or part (from + 4 * n) 0 ≡ 0x2B → ⊥)
@@ -274,7 +274,7 @@ module _ {k : Ranges} {part : List ℕ} {from n : ℕ} {rest : Block} (closed : 
       → z ≡ signed (take 4 (drop (from + 4 * n + 3) part))
       → EffectFound k part kd v z from n (from + 4 * n + 7) rest
   unfolding closing item_command item_operands code_of terms_of half
-  found-effect kd v z h1 h2 h3 h4 e g f = go closed.item closed.by
+  found_effect kd v z h1 h2 h3 h4 e g f = go closed.item closed.by
     where
       go : (i : Item) → ClosedBy k part from n rest i closed.others → EffectFound k part kd v z from n (from + 4 * n + 7) rest
       go (need q) c = absurd (h1 (at_head c.bytes))
@@ -284,15 +284,15 @@ module _ {k : Ranges} {part : List ℕ} {from n : ℕ} {rest : Block} (closed : 
       go (effect q) c =
           let code = kind_code q.kind in
           let small : nat_abs q.base < half 4 = unfold half in (omega (arith, base_small c.ok)) in
-          let target = at-behind 2 (0x46 ∷ code ∷ []) (q.var ∷ signed_bytes 4 q.base ++ items_bytes closed.others) c.bytes refl in
-          let number = at-behind 3 (0x46 ∷ code ∷ q.var ∷ []) (signed_bytes 4 q.base ++ items_bytes closed.others) c.bytes refl in
+          let target = at_behind 2 (0x46 ∷ code ∷ []) (q.var ∷ signed_bytes 4 q.base ++ items_bytes closed.others) c.bytes refl in
+          let number = at_behind 3 (0x46 ∷ code ∷ q.var ∷ []) (signed_bytes 4 q.base ++ items_bytes closed.others) c.bytes refl in
           record {
             it = q;
             var = sym (g ∙ at_head target);
             is =
                 record {
                   kind = sym (e ∙ at_head (at_tail c.bytes));
-                  base = sym (f ∙ at-signed 4 q.base (items_bytes closed.others) number (omega arith) small);
+                  base = sym (f ∙ at_signed 4 q.base (items_bytes closed.others) number (omega arith) small);
                   terms = terms_of_lem c c.ok.sum;
                   ok = c.ok;
                 };
@@ -300,14 +300,14 @@ module _ {k : Ranges} {part : List ℕ} {from n : ℕ} {rest : Block} (closed : 
           }
 
   -- whose code is 46
-  pub closes-effect :
+  pub closes_effect :
       (get_or part (from + 4 * n) 0 ≡ 0x50 → ⊥)
       → (get_or part (from + 4 * n) 0 ≡ 0x2B → ⊥)
       → (get_or part (from + 4 * n) 0 ≡ 0x2D → ⊥)
       → (get_or part (from + 4 * n) 0 ≡ 0x43 → ⊥)
       → get_or part (from + 4 * n) 0 ≡ 0x46
   unfolding closing item_command item_operands code_of
-  closes-effect h1 h2 h3 h4 = go closed.item closed.by
+  closes_effect h1 h2 h3 h4 = go closed.item closed.by
     where
       go : (i : Item) → ClosedBy k part from n rest i closed.others → get_or part (from + 4 * n) 0 ≡ 0x46
       go (need q) c = absurd (h1 (at_head c.bytes))

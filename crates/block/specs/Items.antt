@@ -10,7 +10,7 @@ use Rattle.model.specs.Command.{term, code_of, comparison_code, kind_code, term_
 use Rattle.model.specs.Theorems.Printing.Operands.{weight_size}
 use Rattle.model.specs.Theorems.Printing.Items.{closing, item_parts}
 use Rattle.model.specs.Theorems.Reading.WellFormed.{All, WeightOk, SumOk, BoundOk, ConditionOk, EffectOk, ItemOk}
-use Rattle.block.specs.Bytes.{At, at_same, at_place, at_head, at-behind, at_tail, at_room, at-signed, at_length}
+use Rattle.block.specs.Bytes.{At, at_same, at_place, at_head, at_behind, at_tail, at_room, at_signed, at_length}
 use Rattle.block.specs.declared.ItemAt.{ItemAt}
 use Rattle.block.specs.declared.ItemAt.TheVariants.{Need, Add, Delete, Condition as ConditionAt, Effect as EffectAt, End}
 
@@ -82,7 +82,7 @@ pub behind_term :
     → At part at (term_bytes (t ∷ ts) ++ bs)
     → At part (at + 4) (term_bytes ts ++ bs)
 behind_term t ts bs a =
-    at-behind 4 (first_term t) (term_bytes ts ++ bs) (at_same a (terms_cons t ts bs)) (first_term_length t)
+    at_behind 4 (first_term t) (term_bytes ts ++ bs) (at_same a (terms_cons t ts bs)) (first_term_length t)
 
 pub closing_long : (i : Item) → 1 ≤ length (closing i)
 unfolding closing
@@ -215,46 +215,46 @@ pub record IsScaled (part : List ℕ) (at : ℕ) (x r : ℤ) : Type 0 where
   pub small : nat_abs r ≤ 1_000_000_000_000_000
 
 module _ {k : Ranges} {part : List ℕ} {at n : ℕ} {t : Term} {ts : List Term} (h : Terms k part at n (t ∷ ts)) where
-  pub term-at : TermAt part at
-  term-at = record { ranges = k; n = n; first = t; others = ts; terms = h }
+  pub term_at : TermAt part at
+  term_at = record { ranges = k; n = n; first = t; others = ts; terms = h }
 
-  term-bytes : At part at (first_term t ++ (term_bytes ts ++ h.after))
-  term-bytes = at_same h.bytes (terms_cons t ts h.after)
+  term_bytes_lem : At part at (first_term t ++ (term_bytes ts ++ h.after))
+  term_bytes_lem = at_same h.bytes (terms_cons t ts h.after)
 
-  pub term-room : at + 4 ≤ length part
-  term-room = at_room 4 (first_term t) (term_bytes ts ++ h.after) term-bytes (first_term_length t)
+  pub term_room : at + 4 ≤ length part
+  term_room = at_room 4 (first_term t) (term_bytes ts ++ h.after) term_bytes_lem (first_term_length t)
 
-  pub term-var : get_or part (at + 1) 0 ≡ t.var
+  pub term_var : get_or part (at + 1) 0 ≡ t.var
   unfolding first_term
-  term-var = at_head (at_tail term-bytes)
+  term_var = at_head (at_tail term_bytes_lem)
 
-  pub term-weight : signed (take 2 (drop (at + 2) part)) ≡ t.weight
+  pub term_weight : signed (take 2 (drop (at + 2) part)) ≡ t.weight
   unfolding first_term half
-  term-weight =
-      at-signed 2 t.weight (term_bytes ts ++ h.after)
-      (at-behind 2 (code_of term ∷ t.var ∷ []) (signed_bytes 2 t.weight ++ (term_bytes ts ++ h.after)) term-bytes refl)
+  term_weight =
+      at_signed 2 t.weight (term_bytes ts ++ h.after)
+      (at_behind 2 (code_of term ∷ t.var ∷ []) (signed_bytes 2 t.weight ++ (term_bytes ts ++ h.after)) term_bytes_lem refl)
       (omega arith)
       (omega (arith, weight_small k.form t.weight h.ok.terms.0.weight))
 
-  pub term-var-small : t.var < k.vars
-  term-var-small = h.ok.terms.0.var
+  pub term_var_small : t.var < k.vars
+  term_var_small = h.ok.terms.0.var
 
-  pub term-weight-small : nat_abs t.weight ≤ 1000
-  term-weight-small = weight_small k.form t.weight h.ok.terms.0.weight
+  pub term_weight_small : nat_abs t.weight ≤ 1000
+  term_weight_small = weight_small k.form t.weight h.ok.terms.0.weight
 
 -- what is read at a term
 module _ {part : List ℕ} {at : ℕ} (h : TermAt part at) where
-  pub read-weight : {w : ℤ} → w ≡ signed (take 2 (drop (at + 2) part)) → IsWeight part at w
-  read-weight {w} e =
+  pub read_weight : {w : ℤ} → w ≡ signed (take 2 (drop (at + 2) part)) → IsWeight part at w
+  read_weight {w} e =
       record {
-        is = λ k n t ts g. e ∙ term-weight g;
-        small = subst (λ (z : ℤ). nat_abs z ≤ 1000) (sym (e ∙ term-weight h.terms)) (term-weight-small h.terms);
+        is = λ k n t ts g. e ∙ term_weight g;
+        small = subst (λ (z : ℤ). nat_abs z ≤ 1000) (sym (e ∙ term_weight h.terms)) (term_weight_small h.terms);
       }
 
 -- the other terms stand behind the first
 module _ {k : Ranges} {part : List ℕ} {at n : ℕ} {t : Term} {ts : List Term} (h : Terms k part at n (t ∷ ts)) where
-  pub terms-behind : (m : ℕ) → n ≡ suc m → Terms k part (at + 4) m ts
-  terms-behind m e =
+  pub terms_behind : (m : ℕ) → n ≡ suc m → Terms k part (at + 4) m ts
+  terms_behind m e =
       record {
         after = h.after;
         bytes = behind_term t ts h.after h.bytes;

@@ -11,11 +11,11 @@ abbrev pub ranges_of : Form → Task → Ranges
 ranges_of f k = record { form = f; props = k.props; vars = k.vars }
 
 module _ {f : Form} {k : Task} (ok : TaskOk paper f k) {part : List ℕ} where
-  pub move-left :
+  pub move_left :
       (b : ℕ) → b < length k.moves
       → part ≡ code_of open_move ∷ items_bytes (get_or k.moves b [])
       → Left (ranges_of f k) part 1 (get_or k.moves b [])
-  move-left b h e = left_start (code_of open_move) e (move_ok ok b h).items
+  move_left b h e = left_start (code_of open_move) e (move_ok ok b h).items
 
-  pub goal-left : part ≡ code_of open_goal ∷ items_bytes k.goal → Left (ranges_of f k) part 1 k.goal
-  goal-left e = left_start (code_of open_goal) e ok.goal.items
+  pub goal_left : part ≡ code_of open_goal ∷ items_bytes k.goal → Left (ranges_of f k) part 1 k.goal
+  goal_left e = left_start (code_of open_goal) e ok.goal.items

@@ -80,11 +80,11 @@ module _ {part : List ℕ} {at : ℕ} {rest : Block} (r : Remaining part at rest
   abbrev ranges : Ranges
   ranges = record { form = written; props = r.props; vars = r.vars }
 
-  behind-it : {next : ℕ} {i : Item} (f : Followed ranges part next rest i) → Remaining part next f.others
-  behind-it f = record { props = r.props; vars = r.vars; few_props = r.few_props; few_vars = r.few_vars; left = f.left }
+  behind_it : {next : ℕ} {i : Item} (f : Followed ranges part next rest i) → Remaining part next f.others
+  behind_it f = record { props = r.props; vars = r.vars; few_props = r.few_props; few_vars = r.few_vars; left = f.left }
 
-  condition-is : {o : ℕ} {c : ℤ} {from n : ℕ} {q : Condition} → ConditionIs ranges part o c from n q → q ≡ record { terms = terms_at part from n; comparison = comparison_of o; bound = c }
-  condition-is {q = q} d =
+  condition_is : {o : ℕ} {c : ℤ} {from n : ℕ} {q : Condition} → ConditionIs ranges part o c from n q → q ≡ record { terms = terms_at part from n; comparison = comparison_of o; bound = c }
+  condition_is {q = q} d =
       let same : q.comparison ≡ comparison_of _ = sym (comparison_back q.comparison) ∙ ap comparison_of d.comparison in
       λ i. record { terms = sym (terms_read d.terms) i; comparison = same i; bound = d.bound i }
 
@@ -93,13 +93,13 @@ module _ {part : List ℕ} {at : ℕ} {rest : Block} (r : Remaining part at rest
       let same : q.kind ≡ kind_of _ = sym (kind_back q.kind) ∙ ap kind_of d.kind in
       λ i. record { kind = same i; var = e i; terms = sym (terms_read d.terms) i; base = d.base i }
 
-  first-condition : (o : ℕ) (c : ℤ) (from n next : ℕ) → ConditionFound ranges part o c from n next rest → FirstItem part (ConditionAt o c from n next) rest
+  first_condition : (o : ℕ) (c : ℤ) (from n next : ℕ) → ConditionFound ranges part o c from n next rest → FirstItem part (ConditionAt o c from n next) rest
   unfolding items_of behind paper
-  first-condition o c from n next f =
+  first_condition o c from n next f =
       record {
         others = f.followed.others;
-        is = f.followed.is ∙ ap (λ (x : Condition). condition x ∷ f.followed.others) (condition-is f.is);
-        left = behind-it f.followed;
+        is = f.followed.is ∙ ap (λ (x : Condition). condition x ∷ f.followed.others) (condition_is f.is);
+        left = behind_it f.followed;
         writable =
             record {
               sum = record { ranges = ranges; few = r.few_vars; ts = f.it.terms; terms = f.is.terms };
@@ -108,13 +108,13 @@ module _ {part : List ℕ} {at : ℕ} {rest : Block} (r : Remaining part at rest
             };
       }
 
-  first-effect : (kd v : ℕ) (c : ℤ) (from n next : ℕ) → EffectFound ranges part kd v c from n next rest → FirstItem part (EffectAt kd v c from n next) rest
+  first_effect : (kd v : ℕ) (c : ℤ) (from n next : ℕ) → EffectFound ranges part kd v c from n next rest → FirstItem part (EffectAt kd v c from n next) rest
   unfolding items_of behind paper
-  first-effect kd v c from n next f =
+  first_effect kd v c from n next f =
       record {
         others = f.followed.others;
         is = f.followed.is ∙ ap (λ (x : Effect). effect x ∷ f.followed.others) (effect_is f.var f.is);
-        left = behind-it f.followed;
+        left = behind_it f.followed;
         writable =
             record {
               sum = record { ranges = ranges; few = r.few_vars; ts = f.it.terms; terms = f.is.terms };
@@ -124,15 +124,15 @@ module _ {part : List ℕ} {at : ℕ} {rest : Block} (r : Remaining part at rest
             };
       }
 
-  pub first-item : at < length part → (i : ItemAt) → Next part at i → FirstItem part i rest
+  pub first_item : at < length part → (i : ItemAt) → Next part at i → FirstItem part i rest
   unfolding items_of behind
-  first-item h i n = go i (n.found ranges rest r.left)
+  first_item h i n = go i (n.found ranges rest r.left)
     where
       go : (j : ItemAt) → Found ranges part rest j → FirstItem part j rest
-      go (Need p next) f = record { others = f.others; is = f.is; left = behind-it f; writable = omega (arith, f.ok, r.few_props) }
-      go (Add p next) f = record { others = f.others; is = f.is; left = behind-it f; writable = omega (arith, f.ok, r.few_props) }
-      go (Delete p next) f = record { others = f.others; is = f.is; left = behind-it f; writable = omega (arith, f.ok, r.few_props) }
-      go (ConditionAt o c from n next) f = first-condition o c from n next f
-      go (EffectAt kd v c from n next) f = first-effect kd v c from n next f
+      go (Need p next) f = record { others = f.others; is = f.is; left = behind_it f; writable = omega (arith, f.ok, r.few_props) }
+      go (Add p next) f = record { others = f.others; is = f.is; left = behind_it f; writable = omega (arith, f.ok, r.few_props) }
+      go (Delete p next) f = record { others = f.others; is = f.is; left = behind_it f; writable = omega (arith, f.ok, r.few_props) }
+      go (ConditionAt o c from n next) f = first_condition o c from n next f
+      go (EffectAt kd v c from n next) f = first_effect kd v c from n next f
       go End f =
           absurd (unfold items_bytes in (omega (arith, at_length (subst (λ (b : Block). At part at (items_bytes b)) f r.left.bytes))))

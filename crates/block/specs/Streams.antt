@@ -14,9 +14,9 @@ use Rattle.model.specs.Move.{State, compares, holds}
 use Rattle.model.specs.Theorems.Reading.WellFormed.{ItemOk, SumOk}
 use Rattle.model.specs.Theorems.Laws.Booleans.{true_t, cond_cases}
 use Rattle.block.specs.Items.{Ranges, Left, Terms, TermAt, IsVariable, IsScaled, Found, behind, Moves, Next}
-use Rattle.block.specs.Closing.{Passed, pass_start, pass_room, pass_more, pass_step, pass_end, Closed, closed_room, found-need, found_add, found-delete, found-condition, found-effect, closes-effect}
-use Rattle.block.specs.Sums.{Row, Adding, few_terms, adding_start, adding-term, adding-room, adding-small, adding-step, adding_end, IsSum}
-use Rattle.block.specs.Blocks.{Passing, Deciding, all_true, all-false, StateRow, IsTest, condition-test}
+use Rattle.block.specs.Closing.{Passed, pass_start, pass_room, pass_more, pass_step, pass_end, Closed, closed_room, found_need, found_add, found_delete, found_condition, found_effect, closes_effect}
+use Rattle.block.specs.Sums.{Row, Adding, few_terms, adding_start, adding_term, adding_room, adding_small, adding_step, adding_end, IsSum}
+use Rattle.block.specs.Blocks.{Passing, Deciding, all_true, all_false, StateRow, IsTest, condition_test}
 use Rattle.block.specs.declared.ItemAt.{ItemAt}
 use Rattle.block.specs.declared.ItemAt.TheVariants.{Need, Add, Delete, Condition as ConditionAt, Effect as EffectAt}
 
@@ -74,8 +74,8 @@ module _ {part : List ℕ} {from : ℕ} {values : List ℤ} (a : Addable part fr
   abbrev terms : List Term
   terms = terms_of own.item
 
-  own-adding : Adding a.ranges part from (length terms) a.val terms n total
-  own-adding = g.adds (length terms) a.ranges terms a.val (passed_terms own) a.row (omega (arith, own.many))
+  own_adding : Adding a.ranges part from (length terms) a.val terms n total
+  own_adding = g.adds (length terms) a.ranges terms a.val (passed_terms own) a.row (omega (arith, own.many))
 
   module _ (e : get_or part (from + 4 * n) 0 ≡ 0x57) where
     step : (k : Ranges) (rest : Block) → Left k part from rest → Passed k part from (n + 1) rest
@@ -84,35 +84,35 @@ module _ {part : List ℕ} {from : ℕ} {values : List ℤ} (a : Addable part fr
     more : n < length terms
     more = omega (arith, own.many, pass_more own e)
 
-    pub summing-term : TermAt part (from + 4 * n)
-    summing-term = adding-term more own-adding
+    pub summing_term : TermAt part (from + 4 * n)
+    summing_term = adding_term more own_adding
 
-    pub summing-room : {v : ℕ} → IsVariable part (from + 4 * n) v → v < length values
-    summing-room q = adding-room more own-adding a.row q
+    pub summing_room : {v : ℕ} → IsVariable part (from + 4 * n) v → v < length values
+    summing_room q = adding_room more own_adding a.row q
 
-    pub summing-value : {v : ℕ} → IsVariable part (from + 4 * n) v → nat_abs (get_or values v (pos 0)) ≤ largest_value
-    summing-value q = adding-small more own-adding a.row q
+    pub summing_value : {v : ℕ} → IsVariable part (from + 4 * n) v → nat_abs (get_or values v (pos 0)) ≤ largest_value
+    summing_value q = adding_small more own_adding a.row q
 
     -- one term more
-    pub summing-more :
+    pub summing_more :
         {v : ℕ} {x r : ℤ}
         → IsVariable part (from + 4 * n) v
         → IsScaled part (from + 4 * n) (get_or values v (pos 0)) x
         → r ≡ total +ℤ x
         → nat_abs r ≤ nat_abs total + nat_abs x
         → Summing part from values (n + 1) r
-    summing-more {v} {x} {r} q s is size =
+    summing_more {v} {x} {r} q s is size =
         record {
           within = pass_room (step a.ranges a.rest a.left);
           few = omega (arith, more, few_terms (passed_terms own));
           small = omega (arith, g.small, s.small);
           passed = step;
-          adds = λ m k ts f t w l. rw is (adding-step (omega arith) (g.adds m k ts f t w (omega arith)) w q s);
+          adds = λ m k ts f t w l. rw is (adding_step (omega arith) (g.adds m k ts f t w (omega arith)) w q s);
         }
 
   -- the command behind the terms
-  pub summing-end : (get_or part (from + 4 * n) 0 ≡ 0x57 → ⊥) → SumAt part from values n total
-  summing-end e =
+  pub summing_end : (get_or part (from + 4 * n) 0 ≡ 0x57 → ⊥) → SumAt part from values n total
+  summing_end e =
       record {
         closed = λ k rest l. pass_end (g.passed k rest l) e;
         sum = record { is = λ k ts f t r. adding_end (omega arith) (g.adds n k ts f t r (omega arith)); small = omega (arith, g.few, g.small) };
@@ -140,7 +140,7 @@ module _ (part : List ℕ) (from n : ℕ) where
   code : ℕ
   code = get_or part (from + 4 * n) 0
 
-  pub item-cases :
+  pub item_cases :
       (P : ItemAt → Type 0)
       → (get_or part (from + 4 * n) 0 ≡ 0x50 → P (Need (get_or part (from + 4 * n + 1) 0) (from + 4 * n + 2)))
       → (get_or part (from + 4 * n) 0 ≡ 0x2B → P (Add (get_or part (from + 4 * n + 1) 0) (from + 4 * n + 2)))
@@ -149,7 +149,7 @@ module _ (part : List ℕ) (from n : ℕ) where
       → ((get_or part (from + 4 * n) 0 ≡ 0x50 → ⊥) → (get_or part (from + 4 * n) 0 ≡ 0x2B → ⊥) → (get_or part (from + 4 * n) 0 ≡ 0x2D → ⊥) → (get_or part (from + 4 * n) 0 ≡ 0x43 → ⊥) → P (EffectAt (get_or part (from + 4 * n + 1) 0) (get_or part (from + 4 * n + 2) 0) (signed (take 4 (drop (from + 4 * n + 3) part))) from n (from + 4 * n + 7)))
       → P (item_by part from n)
   unfolding item_by code
-  item-cases P a b c d e =
+  item_cases P a b c d e =
       cond_cases P (eqb code 0x50) _ _ (λ t. a (eqb→eq code 0x50 t))
       (λ h1. cond_cases P (eqb code 0x2B) _ _ (λ t. b (eqb→eq code 0x2B t))
       (λ h2. cond_cases P (eqb code 0x2D) _ _ (λ t. c (eqb→eq code 0x2D t))
@@ -160,56 +160,56 @@ module _ (part : List ℕ) (from n : ℕ) where
       other m h q = h (true_t (eq-eqb code m q))
 
   module _ {k : Ranges} {rest : Block} (closed : Closed k part from n rest) where
-    pub item-found : Found k part rest (item_by part from n)
-    item-found =
-        item-cases (Found k part rest)
-        (λ e. found-need closed _ e refl)
+    pub item_found : Found k part rest (item_by part from n)
+    item_found =
+        item_cases (Found k part rest)
+        (λ e. found_need closed _ e refl)
         (λ e. found_add closed _ e refl)
-        (λ e. found-delete closed _ e refl)
-        (λ e. found-condition closed _ _ e refl refl)
-        (λ h1 h2 h3 h4. found-effect closed _ _ _ h1 h2 h3 h4 refl refl refl)
+        (λ e. found_delete closed _ e refl)
+        (λ e. found_condition closed _ _ e refl refl)
+        (λ h1 h2 h3 h4. found_effect closed _ _ _ h1 h2 h3 h4 refl refl refl)
 
-    pub item-moves : Moves from (length part) (item_by part from n)
-    item-moves =
-        item-cases (Moves from (length part))
-        (λ e. (omega arith, (found-need closed _ e refl).left.bytes.within))
+    pub item_moves : Moves from (length part) (item_by part from n)
+    item_moves =
+        item_cases (Moves from (length part))
+        (λ e. (omega arith, (found_need closed _ e refl).left.bytes.within))
         (λ e. (omega arith, (found_add closed _ e refl).left.bytes.within))
-        (λ e. (omega arith, (found-delete closed _ e refl).left.bytes.within))
-        (λ e. (omega arith, (found-condition closed _ _ e refl refl).followed.left.bytes.within))
-        (λ h1 h2 h3 h4. (omega arith, (found-effect closed _ _ _ h1 h2 h3 h4 refl refl refl).followed.left.bytes.within))
+        (λ e. (omega arith, (found_delete closed _ e refl).left.bytes.within))
+        (λ e. (omega arith, (found_condition closed _ _ e refl refl).followed.left.bytes.within))
+        (λ h1 h2 h3 h4. (omega arith, (found_effect closed _ _ _ h1 h2 h3 h4 refl refl refl).followed.left.bytes.within))
 
     -- the next command stands behind its operands
-    pub item-behind : behind (item_by part from n) ≡ from + 4 * n + width_by (get_or part (from + 4 * n) 0)
+    pub item_behind : behind (item_by part from n) ≡ from + 4 * n + width_by (get_or part (from + 4 * n) 0)
     unfolding behind width_by
-    item-behind =
-        item-cases (λ x. behind x ≡ from + 4 * n + width_by (get_or part (from + 4 * n) 0))
+    item_behind =
+        item_cases (λ x. behind x ≡ from + 4 * n + width_by (get_or part (from + 4 * n) 0))
         (λ e. rw e refl)
         (λ e. rw e refl)
         (λ e. rw e refl)
         (λ e. rw e refl)
-        (λ h1 h2 h3 h4. rw (closes-effect closed h1 h2 h3 h4) refl)
+        (λ h1 h2 h3 h4. rw (closes_effect closed h1 h2 h3 h4) refl)
 
   -- by its code
-  pub item-add : get_or part (from + 4 * n) 0 ≡ 0x2B → item_by part from n ≡ Add (get_or part (from + 4 * n + 1) 0) (from + 4 * n + 2)
+  pub item_add : get_or part (from + 4 * n) 0 ≡ 0x2B → item_by part from n ≡ Add (get_or part (from + 4 * n + 1) 0) (from + 4 * n + 2)
   unfolding item_by
-  item-add e = rw (e, item_by) refl
+  item_add e = rw (e, item_by) refl
 
-  pub item-delete : get_or part (from + 4 * n) 0 ≡ 0x2D → item_by part from n ≡ Delete (get_or part (from + 4 * n + 1) 0) (from + 4 * n + 2)
+  pub item_delete : get_or part (from + 4 * n) 0 ≡ 0x2D → item_by part from n ≡ Delete (get_or part (from + 4 * n + 1) 0) (from + 4 * n + 2)
   unfolding item_by
-  item-delete e = rw (e, item_by) refl
+  item_delete e = rw (e, item_by) refl
 
-  pub item-effect :
+  pub item_effect :
       get_or part (from + 4 * n) 0 ≡ 0x46
       → item_by part from n ≡ EffectAt (get_or part (from + 4 * n + 1) 0) (get_or part (from + 4 * n + 2) 0) (signed (take 4 (drop (from + 4 * n + 3) part))) from n (from + 4 * n + 7)
   unfolding item_by
-  item-effect e = rw (e, item_by) refl
+  item_effect e = rw (e, item_by) refl
 
 -- so the item is known
 pub sum_item : {part : List ℕ} {from : ℕ} {values : List ℤ} {n : ℕ} {total : ℤ} → Addable part from values → SumAt part from values n total → Next part from (item_by part from n)
 sum_item {part} {from} {values} {n} a s =
     record {
-      moves = item-moves part from n (s.closed a.ranges a.rest a.left);
-      found = λ k rest l. item-found part from n (s.closed k rest l);
+      moves = item_moves part from n (s.closed a.ranges a.rest a.left);
+      found = λ k rest l. item_found part from n (s.closed k rest l);
     }
 
 pub sum_behind :
@@ -217,7 +217,7 @@ pub sum_behind :
     → Addable part from values
     → SumAt part from values n total
     → behind (item_by part from n) ≡ from + 4 * n + width_by (get_or part (from + 4 * n) 0)
-sum_behind {part} {from} {values} {n} a s = item-behind part from n (s.closed a.ranges a.rest a.left)
+sum_behind {part} {from} {values} {n} a s = item_behind part from n (s.closed a.ranges a.rest a.left)
 
 -- ---- does it fail
 
@@ -244,70 +244,70 @@ pub record Judgement (part : List ℕ) (from n : ℕ) (total : ℤ) (has : List 
   pub is : (values : List ℤ) → SumAt part from values n total → Verdict part has values r (item_by part from n)
 
 module _ {part : List ℕ} {from n : ℕ} {total : ℤ} {has : List Bool} (j : Judged part from n total has) where
-  own-closed : Closed j.addable.ranges part from n j.addable.rest
-  own-closed = j.sum.closed j.addable.ranges j.addable.rest j.addable.left
+  own_closed : Closed j.addable.ranges part from n j.addable.rest
+  own_closed = j.sum.closed j.addable.ranges j.addable.rest j.addable.left
 
   -- the command stands within the part
-  pub judged-room : from + 4 * n < length part
-  judged-room = closed_room own-closed
+  pub judged_room : from + 4 * n < length part
+  judged_room = closed_room own_closed
 
   module _ (e : get_or part (from + 4 * n) 0 ≡ 0x50) where
-    pub need-within : from + 4 * n + 2 ≤ length part
-    need-within = (found-need own-closed _ e refl).left.bytes.within
+    pub need_within : from + 4 * n + 2 ≤ length part
+    need_within = (found_need own_closed _ e refl).left.bytes.within
 
-    pub need-room : get_or part (from + 4 * n + 1) 0 < length has
-    need-room = omega (arith, (found-need own-closed _ e refl).ok, j.row.long)
+    pub need_room : get_or part (from + 4 * n + 1) 0 < length has
+    need_room = omega (arith, (found_need own_closed _ e refl).ok, j.row.long)
 
-  pub condition-within : get_or part (from + 4 * n) 0 ≡ 0x43 → from + 4 * n + 6 ≤ length part
-  condition-within e = (found-condition own-closed _ _ e refl refl).followed.left.bytes.within
+  pub condition_within : get_or part (from + 4 * n) 0 ≡ 0x43 → from + 4 * n + 6 ≤ length part
+  condition_within e = (found_condition own_closed _ _ e refl refl).followed.left.bytes.within
 
 module _ {part : List ℕ} {from n : ℕ} {total : ℤ} {has : List Bool} where
-  pub judge-need :
+  pub judge_need :
       {r : Bool}
       → get_or part (from + 4 * n) 0 ≡ 0x50
       → not r ≡ get_or has (get_or part (from + 4 * n + 1) 0) false
       → Judgement part from n total has r
   unfolding holds
-  judge-need {r} e q =
+  judge_need {r} e q =
       record {
         is = λ values s.
-            item-cases part from n (Verdict part has values r)
+            item_cases part from n (Verdict part has values r)
             (λ f.
-            (λ t k st w h o. all-false (holds st) (sym (w.has _ h) ∙ sym q ∙ ap not t) o, λ t k st w h o. all_true (holds st) (sym (w.has _ h) ∙ sym q ∙ ap not t) o))
+            (λ t k st w h o. all_false (holds st) (sym (w.has _ h) ∙ sym q ∙ ap not t) o, λ t k st w h o. all_true (holds st) (sym (w.has _ h) ∙ sym q ∙ ap not t) o))
             (λ f. absurd (omega (arith, e, f)))
             (λ f. absurd (omega (arith, e, f)))
             (λ f. absurd (omega (arith, e, f)))
             (λ h1 h2 h3 h4. absurd (h1 e));
       }
 
-  pub judge-condition :
+  pub judge_condition :
       {r : Bool}
       → get_or part (from + 4 * n) 0 ≡ 0x43
       → ((o : Comparison) → comparison_code o ≡ get_or part (from + 4 * n + 1) 0 → not r ≡ compares o total (signed (take 4 (drop (from + 4 * n + 2) part))))
       → Judgement part from n total has r
-  judge-condition {r} e q =
+  judge_condition {r} e q =
       record {
         is = λ values s.
             let test : IsTest part (get_or part (from + 4 * n + 1) 0) (signed (take 4 (drop (from + 4 * n + 2) part))) from n values (not r) =
             record { is = λ k ts f o t w c. q o c ∙ ap (λ (z : ℤ). compares o z (signed (take 4 (drop (from + 4 * n + 2) part)))) (s.sum.is k ts f t w) } in
-            item-cases part from n (Verdict part has values r)
+            item_cases part from n (Verdict part has values r)
             (λ f. absurd (omega (arith, e, f)))
             (λ f. absurd (omega (arith, e, f)))
             (λ f. absurd (omega (arith, e, f)))
             (λ f.
-            (λ t k st c w h o. all-false (holds st) (condition-test st w.row h test ∙ ap not t) o, λ t k st c w h o. all_true (holds st) (condition-test st w.row h test ∙ ap not t) o))
+            (λ t k st c w h o. all_false (holds st) (condition_test st w.row h test ∙ ap not t) o, λ t k st c w h o. all_true (holds st) (condition_test st w.row h test ∙ ap not t) o))
             (λ h1 h2 h3 h4. absurd (h4 e));
       }
 
-  pub judge-other :
+  pub judge_other :
       (get_or part (from + 4 * n) 0 ≡ 0x50 → ⊥)
       → (get_or part (from + 4 * n) 0 ≡ 0x43 → ⊥)
       → Judgement part from n total has false
   unfolding holds
-  judge-other h g =
+  judge_other h g =
       record {
         is = λ values s.
-            item-cases part from n (Verdict part has values false)
+            item_cases part from n (Verdict part has values false)
             (λ f. absurd (h f))
             (λ f. (λ t. absurd (differs t), λ t k st w q o. all_true (holds st) refl o))
             (λ f. (λ t. absurd (differs t), λ t k st w q o. all_true (holds st) refl o))

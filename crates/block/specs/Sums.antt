@@ -13,7 +13,7 @@ use Rattle.model.specs.Move.{sum, compares}
 use Rattle.model.specs.Layer.{Value, finite, unbounded, plus, times, layer_sum, reaches, highest}
 use Rattle.model.specs.Memory.{encode, unbounded_mark}
 use Rattle.model.specs.Theorems.Laws.Booleans.{true_t, false_not}
-use Rattle.block.specs.Items.{Ranges, Terms, TermAt, IsVariable, IsScaled, FirstOf, first_of, term-at, terms_place, term-var-small, terms-behind}
+use Rattle.block.specs.Items.{Ranges, Terms, TermAt, IsVariable, IsScaled, FirstOf, first_of, term_at, terms_place, term_var_small, terms_behind}
 
 -- a sum has at most eight terms
 pub few_terms : {k : Ranges} {part : List ℕ} {from n : ℕ} {ts : List Term} → Terms k part from n ts → n ≤ 8
@@ -58,38 +58,38 @@ pub record IsSum (part : List ℕ) (from n : ℕ) (values : List ℤ) (r : ℤ) 
   pub small : nat_abs r ≤ 8_000_000_000_000_000
 
 module _ {k : Ranges} {part : List ℕ} {from n : ℕ} {f : ℕ → ℤ} {ts : List Term} {i : ℕ} {acc : ℤ} (h : i < n) (a : Adding k part from n f ts i acc) where
-  adding-first : FirstOf k part (from + 4 * i) (n - i) a.others
-  adding-first = first_of a.terms (omega arith)
+  adding_first : FirstOf k part (from + 4 * i) (n - i) a.others
+  adding_first = first_of a.terms (omega arith)
 
-  pub adding-term : TermAt part (from + 4 * i)
-  adding-term = term-at adding-first.terms
+  pub adding_term : TermAt part (from + 4 * i)
+  adding_term = term_at adding_first.terms
 
   module _ {values : List ℤ} {v : ℕ} (r : Row k.vars values f) (q : IsVariable part (from + 4 * i) v) where
-    adding-var : v ≡ adding-first.first.var
-    adding-var = var_by adding-first.terms q
+    adding_var : v ≡ adding_first.first.var
+    adding_var = var_by adding_first.terms q
 
-    pub adding-room : v < length values
-    adding-room = rw adding-var (omega (arith, r.long, term-var-small adding-first.terms))
+    pub adding_room : v < length values
+    adding_room = rw adding_var (omega (arith, r.long, term_var_small adding_first.terms))
 
-    adding-value : get_or values v (pos 0) ≡ f adding-first.first.var
-    adding-value = rw adding-var (r.same adding-first.first.var (term-var-small adding-first.terms))
+    adding_value : get_or values v (pos 0) ≡ f adding_first.first.var
+    adding_value = rw adding_var (r.same adding_first.first.var (term_var_small adding_first.terms))
 
-    pub adding-small : nat_abs (get_or values v (pos 0)) ≤ largest_value
-    adding-small = rw adding-value (r.size adding-first.first.var (term-var-small adding-first.terms))
+    pub adding_small : nat_abs (get_or values v (pos 0)) ≤ largest_value
+    adding_small = rw adding_value (r.size adding_first.first.var (term_var_small adding_first.terms))
 
     -- one term more
-    pub adding-step : {more : ℤ} → IsScaled part (from + 4 * i) (get_or values v (pos 0)) more → Adding k part from n f ts (i + 1) (acc +ℤ more)
+    pub adding_step : {more : ℤ} → IsScaled part (from + 4 * i) (get_or values v (pos 0)) more → Adding k part from n f ts (i + 1) (acc +ℤ more)
     unfolding sum
-    adding-step {more} s =
-        let g = adding-first in
+    adding_step {more} s =
+        let g = adding_first in
         record {
           others = g.others;
-          terms = terms_place (terms-behind g.terms (n - (i + 1)) (omega arith)) (omega arith) refl;
+          terms = terms_place (terms_behind g.terms (n - (i + 1)) (omega arith)) (omega arith) refl;
           total =
               a.total
               ∙ ap (λ (l : List Term). acc +ℤ sum f l) g.is
               ∙ ap (λ (z : ℤ). acc +ℤ (z +ℤ sum f g.others))
-              (sym (scaled_by g.terms s ∙ ap (λ (z : ℤ). g.first.weight *ℤ z) adding-value))
+              (sym (scaled_by g.terms s ∙ ap (λ (z : ℤ). g.first.weight *ℤ z) adding_value))
               ∙ sym (+_assoc acc more (sum f g.others));
         }
 
@@ -235,50 +235,50 @@ pub layer_start : {k : Ranges} {part : List ℕ} {from n : ℕ} {ts : List Term}
 layer_start {ts} f h = record { others = ts; terms = terms_place h (omega arith) (omega arith); total = plus_zero (layer_sum f ts) }
 
 module _ {k : Ranges} {part : List ℕ} {from n : ℕ} {f : ℕ → Value} {ts : List Term} {i : ℕ} {acc : ℤ} (h : i < n) (a : LayerAdding k part from n f ts i acc) where
-  layer-first : FirstOf k part (from + 4 * i) (n - i) a.others
-  layer-first = first_of a.terms (omega arith)
+  layer_first : FirstOf k part (from + 4 * i) (n - i) a.others
+  layer_first = first_of a.terms (omega arith)
 
-  pub layer-term : TermAt part (from + 4 * i)
-  layer-term = term-at layer-first.terms
+  pub layer_term : TermAt part (from + 4 * i)
+  layer_term = term_at layer_first.terms
 
   module _ {layer : List ℤ} {v : ℕ} (r : LayerRow k.vars layer f) (q : IsVariable part (from + 4 * i) v) where
-    layer-var : v ≡ layer-first.first.var
-    layer-var = var_by layer-first.terms q
+    layer_var : v ≡ layer_first.first.var
+    layer_var = var_by layer_first.terms q
 
-    pub layer-room : v < length layer
-    layer-room = rw layer-var (omega (arith, r.long, term-var-small layer-first.terms))
+    pub layer_room : v < length layer
+    layer_room = rw layer_var (omega (arith, r.long, term_var_small layer_first.terms))
 
-    layer-value : Encoded largest_value (f layer-first.first.var) (get_or layer v (pos 0))
-    layer-value = rw layer-var (r.each layer-first.first.var (term-var-small layer-first.terms))
+    layer_value : Encoded largest_value (f layer_first.first.var) (get_or layer v (pos 0))
+    layer_value = rw layer_var (r.each layer_first.first.var (term_var_small layer_first.terms))
 
     -- a term that is unbounded makes the sum unbounded
-    pub layer-stop : is_mark (get_or layer v (pos 0)) ≡ true → layer_sum f ts ≡ unbounded
+    pub layer_stop : is_mark (get_or layer v (pos 0)) ≡ true → layer_sum f ts ≡ unbounded
     unfolding layer_sum plus times
-    layer-stop m =
-        let g = layer-first in
+    layer_stop m =
+        let g = layer_first in
         a.total
         ∙ ap (λ (l : List Term). plus (finite acc) (layer_sum f l)) g.is
-        ∙ ap (λ (x : Value). plus (finite acc) (plus (times g.first.weight x) (layer_sum f g.others))) (mark_yes (omega arith) layer-value m)
+        ∙ ap (λ (x : Value). plus (finite acc) (plus (times g.first.weight x) (layer_sum f g.others))) (mark_yes (omega arith) layer_value m)
 
     module _ (m : is_mark (get_or layer v (pos 0)) ≡ false) where
-      layer-number : f layer-first.first.var ≡ finite (get_or layer v (pos 0))
-      layer-number = mark_no layer-value m
+      layer_number : f layer_first.first.var ≡ finite (get_or layer v (pos 0))
+      layer_number = mark_no layer_value m
 
       pub layer_small : nat_abs (get_or layer v (pos 0)) ≤ largest_value
-      layer_small = subst (Sized largest_value) layer-number layer-value.size
+      layer_small = subst (Sized largest_value) layer_number layer_value.size
 
       -- one term more
-      pub layer-step : {more : ℤ} → IsScaled part (from + 4 * i) (get_or layer v (pos 0)) more → LayerAdding k part from n f ts (i + 1) (acc +ℤ more)
+      pub layer_step : {more : ℤ} → IsScaled part (from + 4 * i) (get_or layer v (pos 0)) more → LayerAdding k part from n f ts (i + 1) (acc +ℤ more)
       unfolding layer_sum times
-      layer-step {more} s =
-          let g = layer-first in
+      layer_step {more} s =
+          let g = layer_first in
           record {
             others = g.others;
-            terms = terms_place (terms-behind g.terms (n - (i + 1)) (omega arith)) (omega arith) refl;
+            terms = terms_place (terms_behind g.terms (n - (i + 1)) (omega arith)) (omega arith) refl;
             total =
                 a.total
                 ∙ ap (λ (l : List Term). plus (finite acc) (layer_sum f l)) g.is
-                ∙ ap (λ (x : Value). plus (finite acc) (plus (times g.first.weight x) (layer_sum f g.others))) layer-number
+                ∙ ap (λ (x : Value). plus (finite acc) (plus (times g.first.weight x) (layer_sum f g.others))) layer_number
                 ∙ ap (λ (z : ℤ). plus (finite acc) (plus (finite z) (layer_sum f g.others))) (sym (scaled_by g.terms s))
                 ∙ plus_assoc acc more (layer_sum f g.others);
           }

@@ -6,7 +6,7 @@ use Rattle.std.proofs.Math.Path.{sym, ap}
 use Rattle.std.proofs.Common.{ap₂, ◌∙◌}
 use Rattle.integer.specs.BigEndian.{signed}
 use Rattle.model.specs.Task.{Term}
-use Rattle.block.specs.Items.{Ranges, Terms, TermAt, IsVariable, IsWeight, first_of, term-at, term-var, term-weight, term-var-small, terms-behind, terms_place}
+use Rattle.block.specs.Items.{Ranges, Terms, TermAt, IsVariable, IsWeight, first_of, term_at, term_var, term_weight, term_var_small, terms_behind, terms_place}
 
 -- the term at an offset, and the n terms from there on
 unfoldable pub term_of : List ℕ → ℕ → Term
@@ -29,19 +29,19 @@ module _ (part : List ℕ) (from n : ℕ) where
       let g : n - 0 ≡ n = omega arith in
       rw (f, g) refl
 
-  pub rest-next :
+  pub rest_next :
       (i : ℕ) → i < n
       → terms_at part (from + 4 * i) (n - i) ≡ term_of part (from + 4 * i) ∷ terms_at part (from + 4 * (i + 1)) (n - (i + 1))
   unfolding terms_at
-  rest-next i h =
+  rest_next i h =
       let k : n - i ≡ suc (n - (i + 1)) = omega arith in
       let j : from + 4 * i + 4 ≡ from + 4 * (i + 1) = omega arith in
       ap (terms_at part (from + 4 * i)) k
       ∙ ap (λ (a : ℕ). term_of part (from + 4 * i) ∷ terms_at part a (n - (i + 1))) j
 
-  pub rest-none : (i : ℕ) → n ≤ i → terms_at part (from + 4 * i) (n - i) ≡ []
+  pub rest_none : (i : ℕ) → n ≤ i → terms_at part (from + 4 * i) (n - i) ≡ []
   unfolding terms_at
-  rest-none i h =
+  rest_none i h =
       let e : n - i ≡ 0 = omega arith in
       ap (terms_at part (from + 4 * i)) e
 
@@ -56,8 +56,8 @@ terms_read {k} {part} {from} {n} {ts} h = go n from ts h
     go (suc m) at [] g = absurd (omega (arith, g.many))
     go (suc m) at (t ∷ l) g =
         ap₂ (λ (u : Term) (us : List Term). u ∷ us)
-        (ap₂ (λ (v : ℕ) (w : ℤ). record { var = v; weight = w }) (term-var g) (term-weight g))
-        (go m (at + 4) l (terms-behind g m refl))
+        (ap₂ (λ (v : ℕ) (w : ℤ). record { var = v; weight = w }) (term_var g) (term_weight g))
+        (go m (at + 4) l (terms_behind g m refl))
 
 -- n terms of a written sum stand there
 pub record SumAt (part : List ℕ) (from n : ℕ) : Type 0 where
@@ -74,25 +74,25 @@ sum_behind {part} {from} {n} i s h = go i from n s.ts s.terms h
         record { ranges = s.ranges; few = s.few; ts = l; terms = terms_place g (omega arith) (omega arith) }
     go (suc j) at m l g p =
         let f = first_of g (omega arith) in
-        let r = go j (at + 4) (m - 1) f.others (terms-behind f.terms (m - 1) (omega arith)) (omega arith) in
+        let r = go j (at + 4) (m - 1) f.others (terms_behind f.terms (m - 1) (omega arith)) (omega arith) in
         record { ranges = r.ranges; few = r.few; ts = r.ts; terms = terms_place r.terms (omega arith) (omega arith) }
 
 -- a weight that is read is that of the term
 pub weight_read : {part : List ℕ} {at : ℕ} {w : ℤ} → TermAt part at → IsWeight part at w → w ≡ (term_of part at).weight
 unfolding term_of
-weight_read h q = q.is h.ranges h.n h.first h.others h.terms ∙ sym (term-weight h.terms)
+weight_read h q = q.is h.ranges h.n h.first h.others h.terms ∙ sym (term_weight h.terms)
 
 -- its first term
 module _ {part : List ℕ} {at n : ℕ} (s : SumAt part at n) (h : 0 < n) where
-  pub sum-term : TermAt part at
-  sum-term = term-at (first_of s.terms h).terms
+  pub sum_term : TermAt part at
+  sum_term = term_at (first_of s.terms h).terms
 
-  pub term-variable : {v : ℕ} → IsVariable part at v → (v ≡ (term_of part at).var) × (v < 16)
+  pub term_variable : {v : ℕ} → IsVariable part at v → (v ≡ (term_of part at).var) × (v < 16)
   unfolding term_of
-  term-variable q =
+  term_variable q =
       let f = first_of s.terms h in
       let e = q.is s.ranges n f.first f.others f.terms in
-      (e ∙ sym (term-var f.terms), omega (arith, term-var-small f.terms, s.few))
+      (e ∙ sym (term_var f.terms), omega (arith, term_var_small f.terms, s.few))
 
-  pub term-weighs : {w : ℤ} → IsWeight part at w → w ≡ (term_of part at).weight
-  term-weighs q = weight_read sum-term q
+  pub term_weighs : {w : ℤ} → IsWeight part at w → w ≡ (term_of part at).weight
+  term_weighs q = weight_read sum_term q

@@ -11,10 +11,10 @@ use Rattle.model.specs.Move.{State}
 use Rattle.model.specs.Layer.{exhausted, reported, layer_at, usable, meets_goal}
 use Rattle.model.specs.Calls.{Ready, ready, unready, prepared, decide_memory, memory_of}
 use Rattle.model.specs.Blocking.{unmet_answer, blocked, blocking_of, blocking_answer, blocking_memory}
-use Rattle.model.specs.Theorems.Layers.Answer.{outcome-exhausted}
-use Rattle.model.specs.Theorems.Layers.Building.{built-outcome}
+use Rattle.model.specs.Theorems.Layers.Answer.{outcome_exhausted}
+use Rattle.model.specs.Theorems.Layers.Building.{built_outcome}
 use Rattle.model.specs.Theorems.Sizes.Stored.{StoredLayers, steps_of}
-use Rattle.model.specs.Theorems.Blocking.Parts.{unmet-some}
+use Rattle.model.specs.Theorems.Blocking.Parts.{unmet_some}
 use Rattle.model.specs.Theorems.Blocking.EndToEnd.{Reasoned, answer_reasoned}
 use Rattle.layers.specs.declared.Built.{Built as BuiltAnswer}
 use Rattle.layers.specs.declared.Built.TheVariants as building
@@ -41,22 +41,22 @@ blocked_refused t bs mem e =
     }
 
 module _ (t bs : List ℕ) (mem mem' : List ℤ) {k : Task} {s : State} {b : BuiltAnswer} (e : prepared paper t bs ≡ ready k s) (built : IsBuilt k s mem mem' b) where
-  pub blocked-built : {r : BlockingAnswer} → r ≡ blocked k s (built_of b) → Blocked t bs mem mem' r
+  pub blocked_built : {r : BlockingAnswer} → r ≡ blocked k s (built_of b) → Blocked t bs mem mem' r
   unfolding blocking_answer blocking_of blocking_memory decide_memory memory_of
-  blocked-built f =
+  blocked_built f =
       record {
         answers = f ∙ ap (blocked k s) built.ended ∙ sym (ap (blocking_of paper (length mem)) e);
         leaves = built.memory ∙ sym (ap (λ (x : Ready). memory_of paper x mem) e);
       }
 
 module _ (t bs : List ℕ) (mem mem' : List ℤ) {k : Task} {s : State} (e : prepared paper t bs ≡ ready k s) where
-  pub blocked-reached : {m : ℕ} → IsBuilt k s mem mem' (building.Reached m) → Blocked t bs mem mem' blocking.Nothing
+  pub blocked_reached : {m : ℕ} → IsBuilt k s mem mem' (building.Reached m) → Blocked t bs mem mem' blocking.Nothing
   unfolding built_of blocked
-  blocked-reached built = blocked-built t bs mem mem' e built refl
+  blocked_reached built = blocked_built t bs mem mem' e built refl
 
-  pub blocked-stopped : {n m : ℕ} → IsBuilt k s mem mem' (building.Stopped n m) → Blocked t bs mem mem' (blocking.Refused (record { number = n; place = m }))
+  pub blocked_stopped : {n m : ℕ} → IsBuilt k s mem mem' (building.Stopped n m) → Blocked t bs mem mem' (blocking.Refused (record { number = n; place = m }))
   unfolding built_of blocked
-  blocked-stopped built = blocked-built t bs mem mem' e built refl
+  blocked_stopped built = blocked_built t bs mem mem' e built refl
 
 -- "no plan": the memory holds the layers up to the last, and that one misses a part of the goal
 module _ {t bs marks : List ℕ} {props vars moves m : ℕ} {mem mem' : List ℤ} (r : ReadyIn t bs marks props vars moves) (b : IsBuilt r.task (start_of props bs) mem mem' (building.Exhausted m)) where
@@ -64,22 +64,22 @@ module _ {t bs marks : List ℕ} {props vars moves m : ℕ} {mem mem' : List ℤ
   unfolding built_of
   stored = built_layers r b (exhausted m) refl
 
-  pub last-searchable : Searchable t marks mem' props vars moves m
+  pub last_searchable : Searchable t marks mem' props vars moves m
   unfolding reported
-  last-searchable = record { task = r.task; start = start_of props bs; steps = steps_of (exhausted m); outlined = r.outlined; memory = stored }
+  last_searchable = record { task = r.task; start = start_of props bs; steps = steps_of (exhausted m); outlined = r.outlined; memory = stored }
 
   missed : usable (layer_at r.task (start_of props bs) m) r.task.goal ≡ false
   unfolding built_of meets_goal
   missed =
-      ((outcome-exhausted r.outlined.ok (start_of props bs) m).0
-      (sym (built-outcome paper r.task (start_of props bs) (length mem) (exhausted m) (sym b.ended)))).unmet
+      ((outcome_exhausted r.outlined.ok (start_of props bs) m).0
+      (sym (built_outcome paper r.task (start_of props bs) (length mem) (exhausted m) (sym b.ended)))).unmet
 
-  pub blocked-exhausted : {o : ℕ} → IsPart t marks mem' props vars moves m o → Blocked t bs mem mem' (blocking.Blocks o)
+  pub blocked_exhausted : {o : ℕ} → IsPart t marks mem' props vars moves m o → Blocked t bs mem mem' (blocking.Blocks o)
   unfolding built_of blocked unmet_answer reported
-  blocked-exhausted {o} p =
+  blocked_exhausted {o} p =
       let k = r.task in
       let s = start_of props bs in
-      let first = unmet-some k (layer_at k s m) missed in
-      blocked-built t bs mem mem' r.is b
+      let first = unmet_some k (layer_at k s m) missed in
+      blocked_built t bs mem mem' r.is b
       (ap (λ (n : ℕ). blocking.Blocks n) (p.is k s (steps_of (exhausted m)) r.outlined stored first.0 first.1)
       ∙ sym (ap (unmet_answer k) first.1))

@@ -15,7 +15,7 @@ use Rattle.model.specs.Theorems.Blocking.Parts.{unmet_size, unmet_offset}
 use Rattle.table.specs.Outlines.{Outline, part_at}
 use Rattle.block.specs.Parts.{ranges_of}
 use Rattle.block.specs.Unmet.{IsUnmet}
-use Rattle.layers.specs.Goal.{GoalTestable, goal_at, goal-part}
+use Rattle.layers.specs.Goal.{GoalTestable, goal_at, goal_part}
 use Rattle.stored_layer.specs.View.{Filled, held_at, number_at}
 use Rattle.stored_layer.specs.Stored.{stored_state}
 
@@ -39,8 +39,8 @@ pub record IsPart (table marks : List ℕ) (layers : List ℤ) (props vars moves
 
 module _ {table marks : List ℕ} {layers : List ℤ} {props vars moves t steps : ℕ} {k : Task} {s : State} (o : Outline normal table marks k) (x : StoredLayers k s props vars moves t steps layers) {has : List Bool} {row : List ℤ} (flags : Filled false (held_at layers 0 t) props 120 has) (values : Filled (pos 0) (number_at layers (props + moves + vars * t)) vars 32 row) where
   -- the goal, and the layer in the two arrays
-  abbrev pub goal-read : GoalTestable table marks moves has row
-  goal-read =
+  abbrev pub goal_read : GoalTestable table marks moves has row
+  goal_read =
       record {
         task = k;
         over = layer_at k s t;
@@ -51,22 +51,22 @@ module _ {table marks : List ℕ} {layers : List ℤ} {props vars moves t steps 
 
   module _ {part : List ℕ} {r : ℕ} (e : part ≡ part_at table marks moves) (u : IsUnmet part has row r) where
     in_goal_lem : r + unmet_size (layer_at k s t) k.goal ≡ length part
-    in_goal_lem = u.is (ranges_of normal k) k.goal (layer_at k s t) (goal_at e o (sym x.moves_is)) goal-read.state
+    in_goal_lem = u.is (ranges_of normal k) k.goal (layer_at k s t) (goal_at e o (sym x.moves_is)) goal_read.state
 
     -- the search ends within the table
-    pub part-inside : get_or marks moves 0 + r ≤ length table
-    part-inside =
+    pub part_inside : get_or marks moves 0 + r ≤ length table
+    part_inside =
         let from = get_or marks moves 0 in
         let to = get_or marks (moves + 1) 0 in
-        let p = goal-part goal-read in
+        let p = goal_part goal_read in
         let long : length part ≡ to - from =
         ap length e ∙ length-take-le (to - from) (drop from table) (omega (arith, length-drop from table, p.rises, p.within)) in
         omega (arith, in_goal_lem, p.rises, p.within)
 
     -- the goal's mark and the offset in the goal's part
-    pub part-at : (n : ℕ) → first_unmet k (layer_at k s t) ≡ some n → get_or marks moves 0 + r ≡ part_offset k n
+    pub part_at_holds : (n : ℕ) → first_unmet k (layer_at k s t) ≡ some n → get_or marks moves 0 + r ≡ part_offset k n
     unfolding task_bytes
-    part-at n found =
+    part_at_holds n found =
         let front = code_of (head normal) ∷ k.props ∷ k.vars ∷ length k.moves ∷ moves_bytes k.moves in
         let goal = code_of open_goal ∷ items_bytes k.goal in
         let mark : get_or marks moves 0 ≡ 4 + length (moves_bytes k.moves) = ap (λ (b : ℕ). get_or marks b 0) (sym x.moves_is) ∙ o.goal_mark in
@@ -81,4 +81,4 @@ module _ {table marks : List ℕ} {layers : List ℤ} {props vars moves t steps 
         )
 
 pub is_part : {table marks : List ℕ} {layers : List ℤ} {props vars moves t : ℕ} {part : List ℕ} {has : List Bool} {row : List ℤ} {r : ℕ} → Filled false (held_at layers 0 t) props 120 has → Filled (pos 0) (number_at layers (props + moves + vars * t)) vars 32 row → part ≡ part_at table marks moves → IsUnmet part has row r → IsPart table marks layers props vars moves t (get_or marks moves 0 + r)
-is_part flags values e u = record { is = λ k s steps o x n found. part-at o x flags values e u n found }
+is_part flags values e u = record { is = λ k s steps o x n found. part_at_holds o x flags values e u n found }

@@ -13,7 +13,7 @@ use Rattle.model.specs.Limits.{paper}
 use Rattle.model.specs.Calls.{turns, normalised, normalise_answer, normalise_out, decide_answer, decide_memory, plan_answer, plan_memory, plan_out, on_output, campaign_decision, campaign_plan, campaign_memory, campaign_out}
 use Rattle.model.specs.Theorems.Campaigns.Demand2.{Handed, written_hands, refused_turns}
 use Rattle.model.specs.Theorems.Layers.Rebuilding.{decide_length, decide_again, plan_same_length}
-use Rattle.model.specs.Theorems.Campaigns.OneCall.{Promise, decides-on, plans-on, fills-on, writes-on, campaign-promise}
+use Rattle.model.specs.Theorems.Campaigns.OneCall.{Promise, decides_on, plans_on, fills_on, writes_on, campaign_promise}
 
 -- what campaign answers, d and p, and leaves in each memory, as equations, and demand 3 of it
 pub record Done (t bs normal_form : List ℕ) (layers : List ℤ) (out normalFormAfter : List ℕ) (layersAfter : List ℤ) (outAfter : List ℕ) (d : DecideAnswer) (p : PlanAnswer) : Type 0 where
@@ -40,7 +40,7 @@ done_by t bs normal_form layers out normalFormAfter layersAfter outAfter d p ed 
       normal = en;
       memory = em;
       list = eo;
-      promise = rw (ed, ep, eo) (campaign-promise t bs normal_form layers out);
+      promise = rw (ed, ep, eo) (campaign_promise t bs normal_form layers out);
     }
 
 -- normalise turned back
@@ -70,11 +70,11 @@ done_written t bs normal_form layers out normalFormAfter part layersAfter outAft
     let h : Handed t normal_form n = written_hands t normal_form n e in
     let same : part ≡ h.bytes = is_part ∙ ap (take n) normal ∙ h.part in
     done_by t bs normal_form layers out normalFormAfter layersAfter outAfter d p
-    (ed ∙ ap (λ (x : List ℕ). decide_answer paper x bs layers) same ∙ sym (decides-on t bs normal_form layers out h.bytes h.is))
-    (ep ∙ ap (λ (x : List ℕ). plan_answer paper x bs layers out) same ∙ sym (plans-on t bs normal_form layers out h.bytes h.is))
+    (ed ∙ ap (λ (x : List ℕ). decide_answer paper x bs layers) same ∙ sym (decides_on t bs normal_form layers out h.bytes h.is))
+    (ep ∙ ap (λ (x : List ℕ). plan_answer paper x bs layers out) same ∙ sym (plans_on t bs normal_form layers out h.bytes h.is))
     normal
-    (em ∙ ap (λ (x : List ℕ). plan_memory paper x bs layers) same ∙ sym (fills-on t bs normal_form layers out h.bytes h.is))
-    (eo ∙ ap (λ (x : List ℕ). plan_out paper x bs layers out) same ∙ sym (writes-on t bs normal_form layers out h.bytes h.is))
+    (em ∙ ap (λ (x : List ℕ). plan_memory paper x bs layers) same ∙ sym (fills_on t bs normal_form layers out h.bytes h.is))
+    (eo ∙ ap (λ (x : List ℕ). plan_out paper x bs layers out) same ∙ sym (writes_on t bs normal_form layers out h.bytes h.is))
 
 -- ---- plan after decide, on the memory that decide left
 
@@ -85,9 +85,9 @@ module _ (t bs : List ℕ) (mem after : List ℤ) (out : List ℕ) (e : after �
   pub plan_after : plan_answer paper t bs after out ≡ plan_answer paper t bs mem out
   plan_after = (plan_same_length t bs after mem out same_length).0
 
-  pub out-after : plan_out paper t bs after out ≡ plan_out paper t bs mem out
-  out-after = (plan_same_length t bs after mem out same_length).1
+  pub out_after : plan_out paper t bs after out ≡ plan_out paper t bs mem out
+  out_after = (plan_same_length t bs after mem out same_length).1
 
-  pub memory-after : plan_memory paper t bs after ≡ plan_memory paper t bs mem
+  pub memory_after : plan_memory paper t bs after ≡ plan_memory paper t bs mem
   unfolding plan_memory
-  memory-after = ap (decide_memory paper t bs) e ∙ decide_again t bs mem
+  memory_after = ap (decide_memory paper t bs) e ∙ decide_again t bs mem

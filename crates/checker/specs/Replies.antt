@@ -19,17 +19,17 @@ use Rattle.schedule.specs.declared.CheckAnswer.{CheckAnswer}
 use Rattle.schedule.specs.declared.CheckAnswer.TheVariants as check
 use Rattle.schedule.specs.Run.{state_after}
 use Rattle.schedule.specs.Check.{Checked, passes, unmet, goal_tested, check_from, Reply, yes_with, other, reply_of, check_state, check_table, fitted_reply, checking, reply_answer, reply_out, check_answer, check_out}
-use Rattle.schedule.specs.Theorems.Lists.{Made, FirstFault, made-checked}
-use Rattle.schedule.specs.Theorems.Exactly.{fails-exactly}
-use Rattle.schedule.specs.Theorems.Answers.{CheckRight, answer-right}
+use Rattle.schedule.specs.Theorems.Lists.{Made, FirstFault, made_checked}
+use Rattle.schedule.specs.Theorems.Exactly.{fails_exactly}
+use Rattle.schedule.specs.Theorems.Answers.{CheckRight, answer_right}
 use Rattle.state.specs.Storing.{state_in}
 use Rattle.table.specs.Outlines.{part_at}
 use Rattle.block.specs.Items.{Left}
-use Rattle.block.specs.Parts.{goal-left}
+use Rattle.block.specs.Parts.{goal_left}
 use Rattle.block.specs.Blocks.{IsApplicable}
 use Rattle.block.specs.Blocks as blocks
 use Rattle.output.specs.Answers.{Answered}
-use Rattle.real_move.specs.Moving.{ranges_of, Holds, holds-state}
+use Rattle.real_move.specs.Moving.{ranges_of, Holds, holds_state}
 use Rattle.transition.specs.Turns.{Read}
 use Rattle.transition.specs.Steps.{put_same}
 
@@ -83,24 +83,24 @@ by_output old bs = go (fitted (length old) (writes bs)) refl
     go (turns r) e = record { answer = sym (rw e refl); output = sym (rw e refl) }
 
 module _ {part : List ℕ} {props vars : ℕ} {has : List Bool} {values : List ℤ} where
-  pub goal-testable : Testable part props vars has values → blocks.Testable part has values
-  goal-testable m =
-      record { ranges = ranges_of props vars; block = m.goal; over = m.over; left = m.stands; row = holds-state m.holds }
+  pub goal_testable : Testable part props vars has values → blocks.Testable part has values
+  goal_testable m =
+      record { ranges = ranges_of props vars; block = m.goal; over = m.over; left = m.stands; row = holds_state m.holds }
 
   module _ {t : Bool} (q : IsApplicable part has values t) (old : List ℕ) where
-    goal-applicable : {g : Block} {s : State} → GoalIn part props vars g → Holds props vars has values s → t ≡ applicable s g
-    goal-applicable {g} {s} l w = q.is (ranges_of props vars) g s l (holds-state w)
+    goal_applicable : {g : Block} {s : State} → GoalIn part props vars g → Holds props vars has values s → t ≡ applicable s g
+    goal_applicable {g} {s} l w = q.is (ranges_of props vars) g s l (holds_state w)
 
     -- "goal not met"
-    pub tested-unmet : t ≡ false → Tested part props vars has values old old check.GoalNotMet
+    pub tested_unmet : t ≡ false → Tested part props vars has values old old check.GoalNotMet
     unfolding end_reply
-    tested-unmet e = record { is = λ g s l w. replied_other old (rw (end_reply, sym (goal-applicable l w) ∙ e) refl) }
+    tested_unmet e = record { is = λ g s l w. replied_other old (rw (end_reply, sym (goal_applicable l w) ∙ e) refl) }
 
     -- what is stored, or 13
     module _ (met : t ≡ true) {new : List ℕ} {a : WriteAnswer} (stored : Answered (writes (state_bytes props vars (state_in has values))) old new a) where
       end_is : {g : Block} {s : State} → GoalIn part props vars g → Holds props vars has values s → yes_with (state_bytes props vars (state_in has values)) ≡ end_reply props vars g s
       unfolding end_reply
-      end_is l w = ap yes_with (put_same w) ∙ sym (rw (end_reply, sym (goal-applicable l w) ∙ met) refl)
+      end_is l w = ap yes_with (put_same w) ∙ sym (rw (end_reply, sym (goal_applicable l w) ∙ met) refl)
 
       tested : {r : CheckAnswer} → r ≡ answer_as a → Tested part props vars has values old new r
       tested e =
@@ -112,74 +112,74 @@ module _ {part : List ℕ} {props vars : ℕ} {has : List Bool} {values : List �
                 (end_is l w);
           }
 
-      pub tested-yes : {n : ℕ} → a ≡ write.Written n → Tested part props vars has values old new (check.Yes n)
+      pub tested_yes : {n : ℕ} → a ≡ write.Written n → Tested part props vars has values old new (check.Yes n)
       unfolding answer_as
-      tested-yes e = tested (sym (ap answer_as e))
+      tested_yes e = tested (sym (ap answer_as e))
 
-      pub tested-short : {r : Refusal} → a ≡ write.Refused r → Tested part props vars has values old new (check.Refused r)
+      pub tested_short : {r : Refusal} → a ≡ write.Refused r → Tested part props vars has values old new (check.Refused r)
       unfolding answer_as
-      tested-short e = tested (sym (ap answer_as e))
+      tested_short e = tested (sym (ap answer_as e))
 
 -- ---- the list, the state and the table
 
 module _ {t marks : List ℕ} {props vars moves : ℕ} (h : Read t marks props vars moves) (bs ms : List ℕ) where
   -- what the call replies on an accepted table
-  reply-is : check_table paper (reading paper (only written) t) bs ms ≡ check_state paper h.table.task bs ms (state_refusal paper props vars bs)
+  reply_is : check_table paper (reading paper (only written) t) bs ms ≡ check_state paper h.table.task bs ms (state_refusal paper props vars bs)
   unfolding check_table
-  reply-is =
+  reply_is =
       ap (λ (v : Verdict). check_table paper v bs ms) h.is
       ∙ ap₂ (λ (p n : ℕ). check_state paper h.table.task bs ms (state_refusal paper p n bs)) (sym h.props_is) (sym h.vars_is)
 
   -- the state is refused
-  pub reply-state : {q : Refusal} → state_refusal paper props vars bs ≡ some q → check_table paper (reading paper (only written) t) bs ms ≡ other (check.Refused q)
+  pub reply_state : {q : Refusal} → state_refusal paper props vars bs ≡ some q → check_table paper (reading paper (only written) t) bs ms ≡ other (check.Refused q)
   unfolding check_state
-  reply-state e = reply-is ∙ ap (check_state paper h.table.task bs ms) e
+  reply_state e = reply_is ∙ ap (check_state paper h.table.task bs ms) e
 
   module _ (e : state_refusal paper props vars bs ≡ none) {c : Checked} (l : check_from paper h.table.task 0 (state_of props bs) ms ≡ c) where
-    reply-checked : check_table paper (reading paper (only written) t) bs ms ≡ reply_of h.table.task c
+    reply_checked : check_table paper (reading paper (only written) t) bs ms ≡ reply_of h.table.task c
     unfolding check_state
-    reply-checked =
+    reply_checked =
         let k = h.table.task in
-        reply-is
+        reply_is
         ∙ ap (check_state paper k bs ms) e
         ∙ ap (λ (p : ℕ). reply_of k (check_from paper k 0 (state_of p bs) ms)) (sym h.props_is)
         ∙ ap (reply_of k) l
 
   -- an entry cannot be made
-  pub reply-fails :
+  pub reply_fails :
       state_refusal paper props vars bs ≡ none
       → {i : ℕ} {f : Fault}
       → FirstFault paper h.table.task (state_of props bs) ms i f
       → check_table paper (reading paper (only written) t) bs ms ≡ other (check.Fails i f)
   unfolding reply_of
-  reply-fails e {i} {f} w = reply-checked e ((fails-exactly paper h.table.task (state_of props bs) ms i f).1 w)
+  reply_fails e {i} {f} w = reply_checked e ((fails_exactly paper h.table.task (state_of props bs) ms i f).1 w)
 
   -- all can
-  pub reply-end :
+  pub reply_end :
       state_refusal paper props vars bs ≡ none
       → Made paper h.table.task (state_of props bs) ms (length ms)
       → let k = h.table.task in
       end_reply props vars k.goal (state_after k (state_of props bs) ms) ≡ check_table paper (reading paper (only written) t) bs ms
   unfolding reply_of end_reply goal_tested
-  reply-end e made =
+  reply_end e made =
       let k = h.table.task in
       let s = state_after k (state_of props bs) ms in
       ap₂ (λ (p n : ℕ). end_reply p n k.goal s) h.props_is h.vars_is
-      ∙ by-goal s (applicable s k.goal)
-      ∙ sym (reply-checked e (made-checked paper k 0 (state_of props bs) ms made))
+      ∙ by_goal s (applicable s k.goal)
+      ∙ sym (reply_checked e (made_checked paper k 0 (state_of props bs) ms made))
     where
-      by-goal :
+      by_goal :
           (s : State) (b : Bool)
           → let k = h.table.task in
           elim b [ true ↦ yes_with (state_bytes k.props k.vars s) | false ↦ other check.GoalNotMet ]
           ≡ reply_of k (elim b [ true ↦ passes s | false ↦ unmet ])
-      by-goal s true = refl
-      by-goal s false = refl
+      by_goal s true = refl
+      by_goal s false = refl
 
   -- the goal's part
-  pub goal-in : {part : List ℕ} → part ≡ part_at t marks moves → GoalIn part props vars h.table.task.goal
-  goal-in f =
-      rw (f, h.count, h.props_is, h.vars_is) (goal-left h.outline.ok h.outline.goal)
+  pub goal_in : {part : List ℕ} → part ≡ part_at t marks moves → GoalIn part props vars h.table.task.goal
+  goal_in f =
+      rw (f, h.count, h.props_is, h.vars_is) (goal_left h.outline.ok h.outline.goal)
 
 -- ---- the call
 
@@ -193,4 +193,4 @@ pub check_replied :
     → (r ≡ check_answer paper t bs ms old) × (new ≡ check_out paper t bs ms old) × CheckRight paper t bs ms old new r
 unfolding check_answer check_out checking
 check_replied t bs ms {old} {new} {r} a =
-    (a.answer, a.output, rw (a.answer, a.output) (answer-right paper t bs ms old))
+    (a.answer, a.output, rw (a.answer, a.output) (answer_right paper t bs ms old))

@@ -5,7 +5,7 @@ use Rattle.std.proofs.Math.Path.{ap}
 use Rattle.std.proofs.lemmas.List.{length-replicate, get_or-replicate}
 use Rattle.model.specs.Lists.{any_below}
 use Rattle.model.specs.Theorems.Laws.Booleans.{T_true, true_t, and_right, and_both, T-equal}
-use Rattle.model.specs.Theorems.Laws.Searching.{below_suc, anyBelow-at}
+use Rattle.model.specs.Theorems.Laws.Searching.{below_suc, any_below_at}
 use Rattle.circle.specs.Walks.{table_edge, any_below_same, walk_in, circular_in, none_longer, walk_shorter}
 
 -- is u alive, with an edge to v
@@ -20,20 +20,20 @@ unfoldable pub kept : List Bool → List Bool → ℕ → ℕ → Bool
 kept es alive n v = alive_at alive v && any_below (live_predecessor es alive v) n
 
 module _ (es alive : List Bool) (n v : ℕ) {r : Bool} where
-  pub kept-alive : alive_at alive v ≡ true → r ≡ any_below (live_predecessor es alive v) n → r ≡ kept es alive n v
+  pub kept_alive : alive_at alive v ≡ true → r ≡ any_below (live_predecessor es alive v) n → r ≡ kept es alive n v
   unfolding kept
-  kept-alive h e = rw h e
+  kept_alive h e = rw h e
 
-  pub kept-dead : alive_at alive v ≡ false → r ≡ alive_at alive v → r ≡ kept es alive n v
+  pub kept_dead : alive_at alive v ≡ false → r ≡ alive_at alive v → r ≡ kept es alive n v
   unfolding kept
-  kept-dead h e = rw h (e ∙ h)
+  kept_dead h e = rw h (e ∙ h)
 
 pub none_more : (f : ℕ → Bool) (i : ℕ) → any_below f i ≡ false → f i ≡ false → any_below f (i + 1) ≡ false
 unfolding any_below
 none_more f i h k = rw (add-one i, h, k) refl
 
 pub some_found : (f : ℕ → Bool) (n i : ℕ) → i < n → f i ≡ true → true ≡ any_below f n
-some_found f n i h k = sym (T_true (any_below f n) (anyBelow-at f n i h (true_t k)))
+some_found f n i h k = sym (T_true (any_below f n) (any_below_at f n i h (true_t k)))
 
 -- after m rounds a variable is alive exactly if a walk of m edges ends in it
 pub record Pruned (es : List Bool) (n m : ℕ) (alive : List Bool) : Type 0 where

@@ -9,7 +9,7 @@ use Rattle.model.specs.Lists.{any_below}
 use Rattle.model.specs.Task.{Task}
 use Rattle.model.specs.Circle.{edge, walk_to, circular}
 use Rattle.model.specs.Theorems.Laws.Booleans.{not-false, false_not, and_left, and_right, and_both}
-use Rattle.model.specs.Theorems.Laws.Searching.{anyBelow-cases, anyBelow-at}
+use Rattle.model.specs.Theorems.Laws.Searching.{any_below_cases, any_below_at}
 
 unfoldable pub table_edge : List Bool → ℕ → ℕ → Bool
 table_edge es u v = get_or es (u * 32 + v) false
@@ -33,18 +33,18 @@ none_longer es n m zero h = rw (add-zero m) h
 none_longer es n m (suc j) h =
     rw (add-suc m j)
     (not-false (any_below (walk_in es n (suc (m + j))) n)
-    (λ t. anyBelow-cases (walk_in es n (suc (m + j))) n t
-    (λ v l s. anyBelow-cases (λ u. table_edge es u v && walk_in es n (m + j) u) n (unfold walk_in in s)
-    (λ u k r. false_not (none_longer es n m j h) (anyBelow-at (walk_in es n (m + j)) n u k (and_right (table_edge es u v) (walk_in es n (m + j) u) r))))))
+    (λ t. any_below_cases (walk_in es n (suc (m + j))) n t
+    (λ v l s. any_below_cases (λ u. table_edge es u v && walk_in es n (m + j) u) n (unfold walk_in in s)
+    (λ u k r. false_not (none_longer es n m j h) (any_below_at (walk_in es n (m + j)) n u k (and_right (table_edge es u v) (walk_in es n (m + j) u) r))))))
 
 -- a walk that ends in v holds one of an edge less that does
 pub walk_shorter : (es : List Bool) (n m v : ℕ) → T (walk_in es n (suc m) v) → T (walk_in es n m v)
 unfolding walk_in
 walk_shorter es n zero v t = tt
 walk_shorter es n (suc m) v t =
-    anyBelow-cases (λ u. table_edge es u v && walk_in es n (suc m) u) n t
+    any_below_cases (λ u. table_edge es u v && walk_in es n (suc m) u) n t
     (λ u h s.
-    anyBelow-at (λ w. table_edge es w v && walk_in es n m w) n u h
+    any_below_at (λ w. table_edge es w v && walk_in es n m w) n u h
     (and_both (table_edge es u v) (walk_in es n m u) (and_left (table_edge es u v) (walk_in es n (suc m) u) s)
     (walk_shorter es n m u (and_right (table_edge es u v) (walk_in es n (suc m) u) s))))
 
@@ -60,6 +60,6 @@ module _ (k : Task) (es : List Bool) (same : (u v : ℕ) → u < k.vars → v < 
       go true b = refl
       go false b = refl
 
-  pub circular-same : circular_in es k.vars ≡ circular k
+  pub circular_same : circular_in es k.vars ≡ circular k
   unfolding circular_in circular
-  circular-same = any_below_same (walk_in es k.vars k.vars) (walk_to k k.vars) k.vars (walk_same k.vars)
+  circular_same = any_below_same (walk_in es k.vars k.vars) (walk_to k k.vars) k.vars (walk_same k.vars)

@@ -9,7 +9,7 @@ use Rattle.closure.specs.declared.Fault.{Fault}
 use Rattle.closure.specs.declared.Fault.TheVariants as fault
 use Rattle.placement.specs.Day.{paper_day, window_at, wrong_window, wrong_duration, first_window, first_duration}
 use Rattle.placement.specs.Placing.{checked}
-use Rattle.placement.specs.Theorems.Checks.{same_test, WindowOk, right-window, wrong-window, WindowsOk, windows_cases, DurationOk, right-duration, wrong-duration, DurationsOk, durations_cases}
+use Rattle.placement.specs.Theorems.Checks.{same_test, WindowOk, right_window, wrong_window_lem, WindowsOk, windows_cases, DurationOk, right_duration, wrong_duration_holds, DurationsOk, durations_cases}
 use Rattle.placement.specs.Theorems.Answers.{DayOk}
 
 unfoldable pub fault_of : Fault → Option ℕ
@@ -20,21 +20,21 @@ fault_of fault.Nothing = none
 
 module _ {ws : List ℕ} {i : ℕ} where
   -- the last test tells
-  pub window-by : (b : Bool) → (T b → WindowOk paper_day ws i → ⊥) → ((T b → ⊥) → WindowOk paper_day ws i) → b ≡ wrong_window paper_day ws i
-  window-by = same_test (WindowOk paper_day ws i) (wrong_window paper_day ws i) (right-window paper_day ws i) (wrong-window paper_day ws i)
+  pub window_by : (b : Bool) → (T b → WindowOk paper_day ws i → ⊥) → ((T b → ⊥) → WindowOk paper_day ws i) → b ≡ wrong_window paper_day ws i
+  window_by = same_test (WindowOk paper_day ws i) (wrong_window paper_day ws i) (right_window paper_day ws i) (wrong_window_lem paper_day ws i)
 
-  pub window-wrong : (WindowOk paper_day ws i → ⊥) → true ≡ wrong_window paper_day ws i
-  window-wrong bad = window-by true (λ t. bad) (λ f. absurd (f tt))
+  pub window_wrong : (WindowOk paper_day ws i → ⊥) → true ≡ wrong_window paper_day ws i
+  window_wrong bad = window_by true (λ t. bad) (λ f. absurd (f tt))
 
-  pub window-passed : {b : Bool} → b ≡ wrong_window paper_day ws i → b ≡ false → WindowOk paper_day ws i
-  window-passed is passed = right-window paper_day ws i (false_not (sym is ∙ passed))
+  pub window_passed : {b : Bool} → b ≡ wrong_window paper_day ws i → b ≡ false → WindowOk paper_day ws i
+  window_passed is passed = right_window paper_day ws i (false_not (sym is ∙ passed))
 
 module _ {ds : List ℕ} {i : ℕ} where
-  pub duration-by : (b : Bool) → (T b → DurationOk paper_day ds i → ⊥) → ((T b → ⊥) → DurationOk paper_day ds i) → b ≡ wrong_duration paper_day ds i
-  duration-by = same_test (DurationOk paper_day ds i) (wrong_duration paper_day ds i) (right-duration paper_day ds i) (wrong-duration paper_day ds i)
+  pub duration_by : (b : Bool) → (T b → DurationOk paper_day ds i → ⊥) → ((T b → ⊥) → DurationOk paper_day ds i) → b ≡ wrong_duration paper_day ds i
+  duration_by = same_test (DurationOk paper_day ds i) (wrong_duration paper_day ds i) (right_duration paper_day ds i) (wrong_duration_holds paper_day ds i)
 
-  pub duration-wrong : (DurationOk paper_day ds i → ⊥) → true ≡ wrong_duration paper_day ds i
-  duration-wrong bad = duration-by true (λ t. bad) (λ f. absurd (f tt))
+  pub duration_wrong : (DurationOk paper_day ds i → ⊥) → true ≡ wrong_duration paper_day ds i
+  duration_wrong bad = duration_by true (λ t. bad) (λ f. absurd (f tt))
 
 -- the minute at which the window in front of window i shuts, 0 in front of the first
 pub record ShutBefore (ws : List ℕ) (i before : ℕ) : Type 0 where
@@ -76,13 +76,13 @@ durations_right ds e =
 
 module _ (ws ds : List ℕ) where
   -- a window is at fault
-  pub fault-window : {i : ℕ} → some i ≡ first_window paper_day ws → FirstFault ws ds (fault.At i)
+  pub fault_window : {i : ℕ} → some i ≡ first_window paper_day ws → FirstFault ws ds (fault.At i)
   unfolding checked
-  fault-window e = λ rest. ap (λ (o : Option ℕ). checked o (first_duration paper_day ds) rest) (sym e)
+  fault_window e = λ rest. ap (λ (o : Option ℕ). checked o (first_duration paper_day ds) rest) (sym e)
 
   -- no window is: the durations tell
-  pub fault-duration : (r : Fault) → none ≡ first_window paper_day ws → fault_of r ≡ first_duration paper_day ds → FirstFault ws ds r
+  pub fault_duration : (r : Fault) → none ≡ first_window paper_day ws → fault_of r ≡ first_duration paper_day ds → FirstFault ws ds r
   unfolding checked fault_of
-  fault-duration (fault.At i) e f = λ rest. rw (← e, ← f) refl
-  fault-duration fault.Nothing e f =
+  fault_duration (fault.At i) e f = λ rest. rw (← e, ← f) refl
+  fault_duration fault.Nothing e f =
       (record { windows = windows_right ws e; durations = durations_right ds f }, λ rest. rw (← e, ← f) refl)

@@ -8,7 +8,7 @@ use Rattle.model.specs.declared.Refusal.{Refusal}
 use Rattle.model.specs.Memory.{overwrite}
 use Rattle.model.specs.Calls.{Output, writes, turns, fitted, output_after}
 use Rattle.model.specs.Theorems.Laws.Booleans.{clash}
-use Rattle.model.specs.Theorems.Printing.Outputs.{fitted-whole, fitted_short}
+use Rattle.model.specs.Theorems.Printing.Outputs.{fitted_whole, fitted_short}
 use Rattle.output.specs.Writing.{written_first}
 use Rattle.placement.specs.declared.PlaceAnswer.{PlaceAnswer}
 use Rattle.placement.specs.declared.PlaceAnswer.TheVariants as place
@@ -16,7 +16,7 @@ use Rattle.closure.specs.declared.Walked.{Walked}
 use Rattle.closure.specs.declared.Walked.TheVariants as walked
 use Rattle.placement.specs.Day.{paper_day, first_window, first_duration}
 use Rattle.placement.specs.Placing.{Placed, placed, stuck, start_bytes, starts_of, end_minute, checked, day_placed, placing, answered, place_answer, place_out}
-use Rattle.placement.specs.Theorems.Answers.{PlaceRight, answer-right}
+use Rattle.placement.specs.Theorems.Answers.{PlaceRight, answer_right}
 use Rattle.closure.specs.Walking.{Wrote, Stopped, Walks}
 
 -- o is what the call writes, or why it turns back, 13 apart
@@ -51,27 +51,27 @@ module _ {ws ds nothing after : List ℕ} {end : ℕ} (first : Wrote ws ds nothi
   unfolding bytes_of
   size = first.written.behind ∙ zero-add (length (start_bytes first.starts))
 
-  starts-are : starts_of (day_placed ws ds) ≡ writes bytes_of
+  starts_are : starts_of (day_placed ws ds) ≡ writes bytes_of
   unfolding bytes_of starts_of
-  starts-are = ap starts_of first.is
+  starts_are = ap starts_of first.is
 
   -- the output is too short for their starts
-  pub filled-short : length old < length ds → Filled ws ds (starts_of (day_placed ws ds)) old old (place.Refused (record { number = 13; place = 0 }))
+  pub filled_short : length old < length ds → Filled ws ds (starts_of (day_placed ws ds)) old old (place.Refused (record { number = 13; place = 0 }))
   unfolding answered output_after
-  filled-short h =
-      let o = ap (fitted (length old)) starts-are ∙ fitted_short (length old) bytes_of (omega (arith, size)) in
+  filled_short h =
+      let o = ap (fitted (length old)) starts_are ∙ fitted_short (length old) bytes_of (omega (arith, size)) in
       record { answer = sym (ap (answered (day_placed ws ds)) o); output = sym (ap (λ (x : Output). output_after x old) o) }
 
   -- it is long enough, and the second walk writes them
-  pub filled-whole :
+  pub filled_whole :
       {new : List ℕ} (second : Walked)
       → length ds ≤ length old
       → Walks ws ds old new second
       → Filled ws ds (starts_of (day_placed ws ds)) old new (place.Placed end (length ds))
   unfolding answered output_after end_minute starts_in bytes_of
-  filled-whole (walked.Stuck i) h w = clash (let e = sym first.is ∙ w.is in cc)
-  filled-whole (walked.Placed other) h w =
-      let o = ap (fitted (length old)) starts-are ∙ fitted-whole (length old) bytes_of (omega (arith, size)) in
+  filled_whole (walked.Stuck i) h w = clash (let e = sym first.is ∙ w.is in cc)
+  filled_whole (walked.Placed other) h w =
+      let o = ap (fitted (length old)) starts_are ∙ fitted_whole (length old) bytes_of (omega (arith, size)) in
       record {
         answer = ap₂ place.Placed (sym (ap end_minute first.is)) size ∙ sym (ap (answered (day_placed ws ds)) o);
         output =
@@ -92,4 +92,4 @@ place_answer_lem ws ds old is f =
     let p = ap (fitted (length old)) (sym is) in
     let a = f.answer ∙ ap (answered (day_placed ws ds)) p in
     let b = f.output ∙ ap (λ (x : Output). output_after x old) p in
-    (a, b, rw (a, b) (answer-right paper_day ws ds old (unfold paper_day in (omega arith))))
+    (a, b, rw (a, b) (answer_right paper_day ws ds old (unfold paper_day in (omega arith))))

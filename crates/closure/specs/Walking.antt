@@ -6,16 +6,16 @@ use Rattle.std.proofs.Math.ListN.{length}
 use Rattle.integer.specs.BigEndian.{bytes, length_bytes}
 use Rattle.output.specs.Writing.{Written, written_none, written_join, written_same}
 use Rattle.model.specs.Lists.{tabulate}
-use Rattle.model.specs.Theorems.Laws.Searching.{length-tabulate}
+use Rattle.model.specs.Theorems.Laws.Searching.{length_tabulate}
 use Rattle.closure.specs.declared.Walked.{Walked}
 use Rattle.closure.specs.declared.Walked.TheVariants as walked
 use Rattle.placement.specs.Day.{Window, paper_day, window_at, duration_at, pieces, windows_of, durations_of}
 use Rattle.placement.specs.Placing.{start_in, placed, stuck, start_bytes, day_placed}
-use Rattle.placement.specs.Theorems.Earliest.{start-most}
+use Rattle.placement.specs.Theorems.Earliest.{start_most}
 use Rattle.placement.specs.Theorems.Checks.{WindowOk, durations_positive}
 use Rattle.placement.specs.Theorems.Answers.{DayOk}
 use Rattle.placement.specs.Theorems.Starts.{starts_one}
-use Rattle.placement.specs.Theorems.Walk.{Walk, begin, place, leave, walk_turns, walk-placed, walk-stuck}
+use Rattle.placement.specs.Theorems.Walk.{Walk, begin, place, leave, walk_turns, walk_placed, walk_stuck}
 
 -- what is left from number i on, of n
 abbrev left_of : {A : Type 0} → (ℕ → A) → ℕ → ℕ → List A
@@ -91,12 +91,12 @@ Walks ws ds old new (walked.Placed end) = Wrote ws ds old new end
 Walks ws ds old new (walked.Stuck i) = Stopped ws ds i
 
 module _ {ws ds : List ℕ} (day : DayOk paper_day ws ds) {old : List ℕ} {from shut w i : ℕ} {new : List ℕ} (s : Walking ws ds old from shut w i new) where
-  one-pass : OnePass ws ds s.starts from
+  one_pass : OnePass ws ds s.starts from
   unfolding windows_of durations_of
-  one-pass =
+  one_pass =
       record {
         turns = s.turns;
-        few = omega (arith, walk_turns s.walk, length-tabulate (window_at ws) 0 (pieces 8 (length ws)), length-tabulate (duration_at ds) 0 (pieces 4 (length ds)));
+        few = omega (arith, walk_turns s.walk, length_tabulate (window_at ws) 0 (pieces 8 (length ws)), length_tabulate (duration_at ds) 0 (pieces 4 (length ds)));
         shut = shut;
         left = left_of (window_at ws) (pieces 8 (length ws)) w;
         todo = left_of (duration_at ds) (pieces 4 (length ds)) i;
@@ -108,18 +108,18 @@ module _ {ws ds : List ℕ} (day : DayOk paper_day ws ds) {old : List ℕ} {from
     one_more : i < pieces 4 (length ds)
     one_more = omega (arith, day.durations.exact)
 
-    entry-left : left_of (duration_at ds) (pieces 4 (length ds)) i ≡ d ∷ left_of (duration_at ds) (pieces 4 (length ds)) (i + 1)
-    entry-left =
+    entry_left : left_of (duration_at ds) (pieces 4 (length ds)) i ≡ d ∷ left_of (duration_at ds) (pieces 4 (length ds)) (i + 1)
+    entry_left =
         left_one (duration_at ds) (pieces 4 (length ds)) i one_more
         ∙ ap (λ (x : ℕ). x ∷ left_of (duration_at ds) (pieces 4 (length ds)) (i + 1)) (sym minutes)
 
     -- it has room, and its start is written
-    pub walking-place : {next : List ℕ} {to : ℕ} → from + d ≤ shut → Written new (4 * i) (bytes 4 from) next to → Walking ws ds old (from + d) shut w (i + 1) next
-    walking-place {to} fits stored =
+    pub walking_place : {next : List ℕ} {to : ℕ} → from + d ≤ shut → Written new (4 * i) (bytes 4 from) next to → Walking ws ds old (from + d) shut w (i + 1) next
+    walking_place {to} fits stored =
         record {
           turns = suc s.turns;
           starts = s.starts ++ (from ∷ []);
-          walk = place (rw entry-left at s.walk) fits;
+          walk = place (rw entry_left at s.walk) fits;
           windows = s.windows;
           entries = omega (arith, one_more);
           count = omega (arith, length-append s.starts (from ∷ []), s.count);
@@ -130,54 +130,54 @@ module _ {ws ds : List ℕ} (day : DayOk paper_day ws ds) {old : List ℕ} {from
         }
 
     -- it has none, and there is another window
-    pub walking-leave :
+    pub walking_leave :
         {start end : ℕ}
         → 8 * w < length ws
         → shut < from + d
         → start ≡ start_in from (window_at ws w)
         → end ≡ (window_at ws w).shutting
         → Walking ws ds old start end (w + 1) i new
-    walking-leave another full starts_at ends_at =
+    walking_leave another full starts_at ends_at =
         let h : w < pieces 8 (length ws) = omega (arith, day.windows.exact) in
         let ok = day.windows.each w h in
         record {
           turns = suc s.turns;
           starts = s.starts;
           walk =
-              rw (starts_at, ends_at, entry-left)
-              (leave (rw (left_one (window_at ws) (pieces 8 (length ws)) w h, entry-left) at s.walk) full);
+              rw (starts_at, ends_at, entry_left)
+              (leave (rw (left_one (window_at ws) (pieces 8 (length ws)) w h, entry_left) at s.walk) full);
           windows = omega arith;
           entries = s.entries;
           count = s.count;
           written = s.written;
           early = rw (starts_at, ends_at)
-              (start-most from (window_at ws w) s.early.0 (omega (arith, ok.later, in_day ok)), in_day ok);
+              (start_most from (window_at ws w) s.early.0 (omega (arith, ok.later, in_day ok)), in_day ok);
         }
 
     -- it has none, and no window is left
-    pub walking-stuck : length ws ≤ 8 * w → shut < from + d → Stopped ws ds i
+    pub walking_stuck : length ws ≤ 8 * w → shut < from + d → Stopped ws ds i
     unfolding day_placed
-    walking-stuck last full =
+    walking_stuck last full =
         let m = pieces 8 (length ws) in
         let all : m ≤ w = omega (arith, day.windows.exact) in
         record {
           is =
-              walk-stuck day.windows.rising (durations_positive day.durations) (rw (left_none (window_at ws) m w all, entry-left) at s.walk) full
+              walk_stuck day.windows.rising (durations_positive day.durations) (rw (left_none (window_at ws) m w all, entry_left) at s.walk) full
               ∙ ap stuck s.count;
           starts = s.starts;
           from = from;
-          pass = one-pass;
+          pass = one_pass;
         }
 
   -- no entry is left
-  pub walking-placed : length ds ≤ 4 * i → Wrote ws ds old new from
+  pub walking_placed : length ds ≤ 4 * i → Wrote ws ds old new from
   unfolding day_placed
-  walking-placed h =
+  walking_placed h =
       let n = pieces 4 (length ds) in
       let all : n ≤ i = omega (arith, day.durations.exact) in
       record {
         starts = s.starts;
-        is = walk-placed day.windows.rising (durations_positive day.durations) (rw (left_none (duration_at ds) n i all) at s.walk);
-        pass = one-pass;
+        is = walk_placed day.windows.rising (durations_positive day.durations) (rw (left_none (duration_at ds) n i all) at s.walk);
+        pass = one_pass;
         written = let e : 4 * i ≡ length ds = omega (arith, day.durations.exact, s.entries) in rw e at s.written;
       }

@@ -20,17 +20,17 @@ part_code len number place = elim (eqb number 0) [ true ↦ len | false ↦ numb
 
 -- what a block reader hands back, a part that is `whole` and the number and place of a refusal r, as one number
 module _ (r : Option Refusal) (is-small : IfSome (Small place_limit) r) {n p : ℕ} (en : n ≡ refusal_number r) (ep : p ≡ refusal_place r) where
-  pub block-fits : (n ≤ last_number) × (p ≤ place_limit)
+  pub block_fits : (n ≤ last_number) × (p ≤ place_limit)
   unfolding refusal_number refusal_place
-  block-fits = rw (en, ep) (go r is-small)
+  block_fits = rw (en, ep) (go r is-small)
     where
       go : (q : Option Refusal) → IfSome (Small place_limit) q → (refusal_number q ≤ last_number) × (refusal_place q ≤ place_limit)
       go none small = (omega arith, omega arith)
       go (some q) small = (small.number, small.place)
 
-  pub block-answer : (whole : List ℕ) {part : List ℕ} → part ≡ whole → part_code (length part) n p ≡ write_code (block_answer whole r)
+  pub block_answer_lem : (whole : List ℕ) {part : List ℕ} → part ≡ whole → part_code (length part) n p ≡ write_code (block_answer whole r)
   unfolding part_code refusal_number refusal_place block_answer write_code refusal_code
-  block-answer whole e = rw (e, en, ep) (go r is-small)
+  block_answer_lem whole e = rw (e, en, ep) (go r is-small)
     where
       go : (q : Option Refusal) → IfSome (Small place_limit) q → part_code (length whole) (refusal_number q) (refusal_place q) ≡ write_code (block_answer whole q)
       go none small = refl

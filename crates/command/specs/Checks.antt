@@ -11,13 +11,13 @@ unfoldable pub lies_in : Place → Place → Place → Bool
 lies_in first last p = leb (order first) (order p) && leb (order p) (order last)
 
 module _ (f l p : Place) {a b d : ℕ} (ea : a ≡ order p) (eb : b ≡ order f) (ed : d ≡ order l) where
-  pub lies-behind : b ≤ a → leb a d ≡ lies_in f l p
+  pub lies_behind : b ≤ a → leb a d ≡ lies_in f l p
   unfolding lies_in
-  lies-behind h = rw (← ea, ← eb, ← ed, le-leb b a h) refl
+  lies_behind h = rw (← ea, ← eb, ← ed, le-leb b a h) refl
 
-  pub lies-before : a < b → false ≡ lies_in f l p
+  pub lies_before : a < b → false ≡ lies_in f l p
   unfolding lies_in
-  lies-before h = rw (← ea, ← eb, lt-leb b a h) refl
+  lies_before h = rw (← ea, ← eb, lt-leb b a h) refl
 
 -- a command stands in the places from the first to the last, if it does at each of the five
 pub stands_within :
@@ -55,21 +55,21 @@ miscounted moves opened unknown = false
 
 -- the four ways through check 3
 module _ (w : Wanted) (p : Place) (n : ℕ) (c : Command) (a b f : Bool) (ea : a ≡ in_place p c) (eb : b ≡ head_wanted w c) (ef : f ≡ after_term c) where
-  pub misplaced-place : a ≡ false → true ≡ misplaced w p n c
+  pub misplaced_place : a ≡ false → true ≡ misplaced w p n c
   unfolding misplaced
-  misplaced-place h = rw (← ea, h) refl
+  misplaced_place h = rw (← ea, h) refl
 
-  pub misplaced-head : a ≡ true → b ≡ false → true ≡ misplaced w p n c
+  pub misplaced_head : a ≡ true → b ≡ false → true ≡ misplaced w p n c
   unfolding misplaced
-  misplaced-head h k = rw (← ea, ← eb, h, k) refl
+  misplaced_head h k = rw (← ea, ← eb, h, k) refl
 
-  pub misplaced-closed : a ≡ true → b ≡ true → n ≡ 0 → false ≡ misplaced w p n c
+  pub misplaced_closed : a ≡ true → b ≡ true → n ≡ 0 → false ≡ misplaced w p n c
   unfolding misplaced
-  misplaced-closed h k e = rw (← ea, ← eb, h, k, e) refl
+  misplaced_closed h k e = rw (← ea, ← eb, h, k, e) refl
 
-  pub misplaced-open : a ≡ true → b ≡ true → ltb 0 n ≡ true → not f ≡ misplaced w p n c
+  pub misplaced_open : a ≡ true → b ≡ true → ltb 0 n ≡ true → not f ≡ misplaced w p n c
   unfolding misplaced
-  misplaced-open h k e = rw (← ea, ← eb, ← ef, h, k, e) refl
+  misplaced_open h k e = rw (← ea, ← eb, ← ef, h, k, e) refl
 
 -- check 16, of the open block, which changes something or does not
 unfoldable pub unfinished : Wanted → Place → Bool → Bool
@@ -90,22 +90,22 @@ closes_idle w p active unknown = false
 
 -- the three ways through it
 module _ (w : Wanted) (p : Place) where
-  pub unfinished-active : (a : Bool) → a ≡ true → false ≡ unfinished w p a
+  pub unfinished_active : (a : Bool) → a ≡ true → false ≡ unfinished w p a
   unfolding unfinished
-  unfinished-active a e = rw e (go (checks16 w) (lies_in in_move in_move p))
+  unfinished_active a e = rw e (go (checks16 w) (lies_in in_move in_move p))
     where
       go : (x y : Bool) → false ≡ (x && y && false)
       go true true = refl
       go true false = refl
       go false y = refl
 
-  pub unfinished-stored : (a : Bool) → checks16 w ≡ false → false ≡ unfinished w p a
+  pub unfinished_stored : (a : Bool) → checks16 w ≡ false → false ≡ unfinished w p a
   unfolding unfinished
-  unfinished-stored a e = rw e refl
+  unfinished_stored a e = rw e refl
 
-  pub unfinished-place : (a r : Bool) → a ≡ false → checks16 w ≡ true → r ≡ lies_in in_move in_move p → r ≡ unfinished w p a
+  pub unfinished_place : (a r : Bool) → a ≡ false → checks16 w ≡ true → r ≡ lies_in in_move in_move p → r ≡ unfinished w p a
   unfolding unfinished
-  unfinished-place a r e h k = rw (e, h, k) (go (lies_in in_move in_move p))
+  unfinished_place a r e h k = rw (e, h, k) (go (lies_in in_move in_move p))
     where
       go : (x : Bool) → x ≡ (x && true)
       go true = refl

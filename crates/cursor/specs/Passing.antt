@@ -25,44 +25,44 @@ in_range_lem o true os h e = (refl, e)
 in_range_lem o false os h e = absurd (omega arith)
 
 module _ (t : List ℕ) (c : Cursor) where
-  pub need-range : wrong_at t c need_prop ≡ 0 → get_or t (c.at + 1) 0 < c.props
+  pub need_range : wrong_at t c need_prop ≡ 0 → get_or t (c.at + 1) 0 < c.props
   unfolding wrong_at wrong_operand operands byte_after view_at
-  need-range e = ltb-true (get_or t (c.at + 1) 0) c.props (in_range_lem 1 (ltb (get_or t (c.at + 1) 0) c.props) [] (omega arith) e).0
+  need_range e = ltb-true (get_or t (c.at + 1) 0) c.props (in_range_lem 1 (ltb (get_or t (c.at + 1) 0) c.props) [] (omega arith) e).0
 
-  pub add-range : wrong_at t c add_prop ≡ 0 → get_or t (c.at + 1) 0 < c.props
+  pub add_range : wrong_at t c add_prop ≡ 0 → get_or t (c.at + 1) 0 < c.props
   unfolding wrong_at wrong_operand operands byte_after view_at
-  add-range e = need-range e
+  add_range e = need_range e
 
-  pub delete-range : wrong_at t c delete_prop ≡ 0 → get_or t (c.at + 1) 0 < c.props
+  pub delete_range : wrong_at t c delete_prop ≡ 0 → get_or t (c.at + 1) 0 < c.props
   unfolding wrong_at wrong_operand operands byte_after view_at
-  delete-range e = need-range e
+  delete_range e = need_range e
 
-  pub term-range : wrong_at t c term ≡ 0 → get_or t (c.at + 1) 0 < c.vars
+  pub term_range : wrong_at t c term ≡ 0 → get_or t (c.at + 1) 0 < c.vars
   unfolding wrong_at wrong_operand operands byte_after view_at
-  term-range e = ltb-true (get_or t (c.at + 1) 0) c.vars (in_range_lem 1 (ltb (get_or t (c.at + 1) 0) c.vars) _ (omega arith) e).0
+  term_range e = ltb-true (get_or t (c.at + 1) 0) c.vars (in_range_lem 1 (ltb (get_or t (c.at + 1) 0) c.vars) _ (omega arith) e).0
 
-  pub effect-range : wrong_at t c close_effect ≡ 0 → get_or t (c.at + 2) 0 < c.vars
+  pub effect_range : wrong_at t c close_effect ≡ 0 → get_or t (c.at + 2) 0 < c.vars
   unfolding wrong_at wrong_operand operands byte_after view_at
-  effect-range e =
+  effect_range e =
       let after = (in_range_lem 1 (kind_in_range (form_of c.form) (get_or t (c.at + 1) 0)) _ (omega arith) e).1 in
       ltb-true (get_or t (c.at + 2) 0) c.vars (in_range_lem 2 (ltb (get_or t (c.at + 2) 0) c.vars) _ (omega arith) after).0
 
-  vars-most : (f : task.Form) (n : ℕ) → vars_in_range paper f n ≡ true → n ≤ 32
+  vars_most : (f : task.Form) (n : ℕ) → vars_in_range paper f n ≡ true → n ≤ 32
   unfolding vars_in_range paper
-  vars-most task.written n e = omega (arith, leb-true n 16 e)
-  vars-most task.normal n e = go (leb n 32) (eqb (n % 2) 0) (leb-true n 32) e
+  vars_most task.written n e = omega (arith, leb-true n 16 e)
+  vars_most task.normal n e = go (leb n 32) (eqb (n % 2) 0) (leb-true n 32) e
     where
       go : (a b : Bool) → (a ≡ true → n ≤ 32) → (a && b) ≡ true → n ≤ 32
       go true b f h = f refl
       go false b f h = f h
 
-  pub head-range : (f : task.Form) → wrong_at t c (head f) ≡ 0 → (get_or t (c.at + 1) 0 ≤ 120) × (get_or t (c.at + 2) 0 ≤ 32) × (get_or t (c.at + 3) 0 ≤ 64)
+  pub head_range : (f : task.Form) → wrong_at t c (head f) ≡ 0 → (get_or t (c.at + 1) 0 ≤ 120) × (get_or t (c.at + 2) 0 ≤ 32) × (get_or t (c.at + 3) 0 ≤ 64)
   unfolding wrong_at wrong_operand operands byte_after view_at paper
-  head-range f e =
+  head_range f e =
       let first = in_range_lem 1 (leb (get_or t (c.at + 1) 0) 120) _ (omega arith) e in
       let second = in_range_lem 2 (vars_in_range paper f (get_or t (c.at + 2) 0)) _ (omega arith) first.1 in
       let third = in_range_lem 3 (leb (get_or t (c.at + 3) 0) 64) _ (omega arith) second.1 in
-      (leb-true (get_or t (c.at + 1) 0) 120 first.0, vars-most f (get_or t (c.at + 2) 0) second.0, leb-true (get_or t (c.at + 3) 0) 64 third.0)
+      (leb-true (get_or t (c.at + 1) 0) 120 first.0, vars_most f (get_or t (c.at + 2) 0) second.0, leb-true (get_or t (c.at + 3) 0) 64 third.0)
 
 -- ---- the offset, as model's definition has it
 

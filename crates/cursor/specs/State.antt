@@ -176,37 +176,37 @@ check_of none = Passes
 check_of (some r) = Refused r
 
 module _ (p : ℕ) (a b d i : Bool) (o : ℕ) (e : Bool) where
-  pub order-3 : a ≡ true → Refused (record { number = 3; place = p }) ≡ check_of (in_order p a b d i o e)
+  pub order_3 : a ≡ true → Refused (record { number = 3; place = p }) ≡ check_of (in_order p a b d i o e)
   unfolding in_order first_refusal refused_at check_of
-  order-3 h = rw h refl
+  order_3 h = rw h refl
 
-  pub order-2 : a ≡ false → b ≡ true → Refused (record { number = 2; place = p }) ≡ check_of (in_order p a b d i o e)
+  pub order_2 : a ≡ false → b ≡ true → Refused (record { number = 2; place = p }) ≡ check_of (in_order p a b d i o e)
   unfolding in_order first_refusal refused_at check_of
-  order-2 h j = rw (h, j) refl
+  order_2 h j = rw (h, j) refl
 
-  pub order-6 : a ≡ false → b ≡ false → d ≡ true → Refused (record { number = 6; place = p }) ≡ check_of (in_order p a b d i o e)
+  pub order_6 : a ≡ false → b ≡ false → d ≡ true → Refused (record { number = 6; place = p }) ≡ check_of (in_order p a b d i o e)
   unfolding in_order first_refusal refused_at check_of
-  order-6 h j k = rw (h, j, k) refl
+  order_6 h j k = rw (h, j, k) refl
 
-  pub order-16 : a ≡ false → b ≡ false → d ≡ false → i ≡ true → Refused (record { number = 16; place = p }) ≡ check_of (in_order p a b d i o e)
+  pub order_16 : a ≡ false → b ≡ false → d ≡ false → i ≡ true → Refused (record { number = 16; place = p }) ≡ check_of (in_order p a b d i o e)
   unfolding in_order first_refusal refused_at check_of
-  order-16 h j k l = rw (h, j, k, l) refl
+  order_16 h j k l = rw (h, j, k, l) refl
 
-  pub order-4 : a ≡ false → b ≡ false → d ≡ false → i ≡ false → 0 < o → Refused (record { number = 4; place = p + o }) ≡ check_of (in_order p a b d i o e)
+  pub order_4 : a ≡ false → b ≡ false → d ≡ false → i ≡ false → 0 < o → Refused (record { number = 4; place = p + o }) ≡ check_of (in_order p a b d i o e)
   unfolding in_order first_refusal refused_at refused_offset check_of
-  order-4 h j k l m = rw (h, j, k, l) (go o m)
+  order_4 h j k l m = rw (h, j, k, l) (go o m)
     where
       go : (n : ℕ) → 0 < n → Refused (record { number = 4; place = p + n }) ≡ check_of (first_refusal (refused_offset p n ∷ refused_at 5 e p ∷ []))
       go zero q = absurd (omega arith)
       go (suc n) q = refl
 
-  pub order-5 : a ≡ false → b ≡ false → d ≡ false → i ≡ false → o ≡ 0 → e ≡ true → Refused (record { number = 5; place = p }) ≡ check_of (in_order p a b d i o e)
+  pub order_5 : a ≡ false → b ≡ false → d ≡ false → i ≡ false → o ≡ 0 → e ≡ true → Refused (record { number = 5; place = p }) ≡ check_of (in_order p a b d i o e)
   unfolding in_order first_refusal refused_at refused_offset check_of
-  order-5 h j k l m n = rw (h, j, k, l, m, n) refl
+  order_5 h j k l m n = rw (h, j, k, l, m, n) refl
 
-  pub order-passes : a ≡ false → b ≡ false → d ≡ false → i ≡ false → o ≡ 0 → e ≡ false → Passes ≡ check_of (in_order p a b d i o e)
+  pub order_passes : a ≡ false → b ≡ false → d ≡ false → i ≡ false → o ≡ 0 → e ≡ false → Passes ≡ check_of (in_order p a b d i o e)
   unfolding in_order first_refusal refused_at refused_offset check_of
-  order-passes h j k l m n = rw (h, j, k, l, m, n) refl
+  order_passes h j k l m n = rw (h, j, k, l, m, n) refl
 
 -- what the checks that pass say
 pub record Passed (t : List ℕ) (c : Cursor) (needed changed affected : List ℕ) (k : Command) : Type 0 where

@@ -20,8 +20,8 @@ use Rattle.taking.specs.Taking.{EncodesTaken}
 use Rattle.targets.specs.Carrying.{Carriable, Carried}
 use Rattle.taking.specs.Descending.{Descendable, PropsTakeable, props_below, PropsTaken, SmallTargets, ValuesTakeable, ValuesTaken}
 use Rattle.model.specs.Theorems.Sizes.Stored.{StoredLayers}
-use Rattle.stored_layer.specs.Stored.{stored-props, stored-vars, stored-moves, stored-has, stored_row, stored_low}
-use Rattle.stored_layer.specs.View.{Filled, held_at, number_at, low_at, view-used}
+use Rattle.stored_layer.specs.Stored.{stored_props, stored_vars, stored_moves, stored_has, stored_row, stored_low}
+use Rattle.stored_layer.specs.View.{Filled, held_at, number_at, low_at, view_used}
 
 -- a table with its blocks' marks, and a memory that holds the layers 0 to m of its task, the answer layer
 pub record Stored (table marks : List ℕ) (layers : List ℤ) (props vars moves m : ℕ) : Type 0 where
@@ -44,15 +44,15 @@ pub record GoalWanted {table marks : List ℕ} {layers start : List ℤ} {props 
       (want_block (layer_at x.stored.task x.stored.start m) x.stored.start no_wants x.stored.task.goal)
 
 module _ {table marks : List ℕ} {layers start : List ℤ} {props vars moves m : ℕ} (x : GoalWantable table marks layers start props vars moves m) where
-  pub goal-part-in : PartIn table marks moves
-  goal-part-in = subst (PartIn table marks) x.stored.memory.moves_is (x.stored.parts.inside (length x.stored.task.moves) (omega arith))
+  pub goal_part_in : PartIn table marks moves
+  goal_part_in = subst (PartIn table marks) x.stored.memory.moves_is (x.stored.parts.inside (length x.stored.task.moves) (omega arith))
 
-  pub start-long : vars ≤ length start
-  start-long = omega (arith, x.start_is.long, x.stored.memory.vars_is)
+  pub start_long : vars ≤ length start
+  start_long = omega (arith, x.start_is.long, x.stored.memory.vars_is)
 
   module _ {row lows : List ℤ} (read : Filled (pos 0) (number_at layers (props + moves + vars * m)) vars 32 row) (filled : Filled (pos 0) (low_at row start) vars 32 lows) where
-    abbrev pub goal-wantable : {part : List ℕ} {t : Targets} → part ≡ part_at table marks moves → t ≡ fresh → BlockWantable part row lows t
-    goal-wantable {part} {t} e f =
+    abbrev pub goal_wantable : {part : List ℕ} {t : Targets} → part ≡ part_at table marks moves → t ≡ fresh → BlockWantable part row lows t
+    goal_wantable {part} {t} e f =
         record {
           ranges = ranges_of normal x.stored.task;
           block = x.stored.task.goal;
@@ -67,11 +67,11 @@ module _ {table marks : List ℕ} {layers start : List ℤ} {props vars moves m 
           low_values = stored_low x.stored.memory (omega arith) read x.start_is filled;
           encoded =
               subst (λ (u : Targets). Encodes x.stored.task.props x.stored.task.vars u no_wants) (sym f)
-              (encodes_none (omega (arith, stored-props x.stored.memory, x.stored.memory.props_is)) (omega (arith, stored-vars x.stored.memory, x.stored.memory.vars_is)));
+              (encodes_none (omega (arith, stored_props x.stored.memory, x.stored.memory.props_is)) (omega (arith, stored_vars x.stored.memory, x.stored.memory.vars_is)));
         }
 
-    pub goal-wanted : {part : List ℕ} {t r : Targets} (e : part ≡ part_at table marks moves) (f : t ≡ fresh) → BlockWanted (goal-wantable e f) r → GoalWanted x r
-    goal-wanted e f w = record { encoded = w.encoded }
+    pub goal_wanted : {part : List ℕ} {t r : Targets} (e : part ≡ part_at table marks moves) (f : t ≡ fresh) → BlockWanted (goal_wantable e f) r → GoalWanted x r
+    goal_wanted e f w = record { encoded = w.encoded }
 
 -- ---- one layer down
 
@@ -95,37 +95,37 @@ module _ {table marks : List ℕ} {layers start : List ℤ} {props vars moves t 
       (read-used : Filled false (held_at layers props t) moves 120 used)
       (read : Filled (pos 0) (number_at layers (props + moves + vars * t)) vars 32 row)
       (filled : Filled (pos 0) (low_at row start) vars 32 lows) where
-    abbrev pub layer-scene : Descendable table marks used row lows moves
-    layer-scene =
+    abbrev pub layer_scene : Descendable table marks used row lows moves
+    layer_scene =
         record {
           search =
               record {
                 task = x.stored.task;
                 over = layer_at x.stored.task x.stored.start t;
                 many = x.stored.memory.moves_is;
-                long = omega (arith, read-used.long, stored-moves x.stored.memory);
+                long = omega (arith, read-used.long, stored_moves x.stored.memory);
                 parts = x.stored.parts;
                 used_is =
                     λ b h.
                     read-used.done b h ∙ ap (λ (i : ℕ). held_at layers i t b) (sym x.stored.memory.props_is)
-                    ∙ view-used x.stored.memory.ok x.stored.memory.held x.below b (omega (arith, x.stored.memory.moves_is));
+                    ∙ view_used x.stored.memory.ok x.stored.memory.held x.below b (omega (arith, x.stored.memory.moves_is));
               };
           start = x.stored.start;
           wants = x.wants;
-          few = stored-moves x.stored.memory;
+          few = stored_moves x.stored.memory;
           values = stored_row x.stored.memory (omega (arith, x.below)) read;
           low_values = stored_low x.stored.memory (omega (arith, x.below)) read x.start_is filled;
         }
 
     pub has_long : props ≤ length has
-    has_long = omega (arith, read_Has.long, stored-props x.stored.memory)
+    has_long = omega (arith, read_Has.long, stored_props x.stored.memory)
 
     pub has_of : (p : ℕ) → p < props → get_or has p false ≡ (layer_at x.stored.task x.stored.start t).has p
-    has_of p h = stored-has x.stored.memory (omega (arith, x.below)) read_Has p (omega (arith, x.stored.memory.props_is))
+    has_of p h = stored_has x.stored.memory (omega (arith, x.below)) read_Has p (omega (arith, x.stored.memory.props_is))
 
     -- the wants of layer t + 1, and layer t
-    abbrev pub layer-carriable : Carriable props vars has row upper
-    layer-carriable =
+    abbrev pub layer_carriable : Carriable props vars has row upper
+    layer_carriable =
         record {
           wants = x.wants;
           over = layer_at x.stored.task x.stored.start t;
@@ -139,11 +139,11 @@ module _ {table marks : List ℕ} {layers start : List ℤ} {props vars moves t 
               (stored_row x.stored.memory (omega (arith, x.below)) read);
         }
 
-    module _ {kept : Targets} (carried-is : Carried layer-carriable kept) where
-      abbrev pub layer-props : PropsTakeable table marks has used row lows moves props upper.props kept
-      layer-props =
+    module _ {kept : Targets} (carried-is : Carried layer_carriable kept) where
+      abbrev pub layer_props : PropsTakeable table marks has used row lows moves props upper.props kept
+      layer_props =
           record {
-            scene = layer-scene;
+            scene = layer_scene;
             many = x.stored.memory.props_is;
             long = has_long;
             has_is = has_of;
@@ -153,22 +153,22 @@ module _ {table marks : List ℕ} {layers start : List ℤ} {props vars moves t 
                 (subst (λ (n : ℕ). Encodes n vars kept (carried (layer_at x.stored.task x.stored.start t) x.wants)) (sym x.stored.memory.props_is) carried-is.is);
           }
 
-    module _ {kept taken : Targets} {counts : List ℕ} (carried-is : Carried layer-carriable kept) (props-done : PropsTaken (layer-props carried-is) props taken counts) where
-      abbrev pub layer-values : ValuesTakeable table marks used row lows start moves vars upper.target taken counts
-      layer-values =
+    module _ {kept taken : Targets} {counts : List ℕ} (carried-is : Carried layer_carriable kept) (props-done : PropsTaken (layer_props carried-is) props taken counts) where
+      abbrev pub layer_values : ValuesTakeable table marks used row lows start moves vars upper.target taken counts
+      layer_values =
           record {
-            scene = layer-scene;
+            scene = layer_scene;
             many = x.stored.memory.vars_is;
             start_values = subst (λ (i : ℕ). Row i start x.stored.start.val) x.stored.memory.vars_is x.start_is;
             small = x.small;
             targets_are = λ v h. x.encoded.target v (omega (arith, x.stored.memory.vars_is));
-            descent = props_below layer-scene props;
+            descent = props_below layer_scene props;
             taken = props-done.is;
           }
 
-      pub layer-descended : {r : Targets} {more : List ℕ} → ValuesTaken layer-values vars r more → LayerDescended x r more
+      pub layer_descended : {r : Targets} {more : List ℕ} → ValuesTaken layer_values vars r more → LayerDescended x r more
       unfolding descend
-      layer-descended {r} {more} d =
+      layer_descended {r} {more} d =
           let k = x.stored.task in
           let l = layer_at x.stored.task x.stored.start t in
           let s = x.stored.start in

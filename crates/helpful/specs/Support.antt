@@ -38,9 +38,9 @@ pub record ReachesNew (part : List ℕ) (kd : ℕ) (base : ℤ) (from n : ℕ) (
 
 module _ (l : Layer) (t : Target) (e : Effect) {target : ℤ} (is : target ≡ code t) where
   -- no target
-  pub new-free : SmallTarget t → is_free target ≡ true → false ≡ reaches_new l t e
+  pub new_free : SmallTarget t → is_free target ≡ true → false ≡ reaches_new l t e
   unfolding reaches_new
-  new-free small h = ap (λ (x : Target). reaches_new l x e) (sym (free_yes t is small h))
+  new_free small h = ap (λ (x : Target). reaches_new l x e) (sym (free_yes t is small h))
 
   module _ (h : is_free target ≡ false) where
     there : reaches_new l t e ≡ (not (reaches (l.val e.var) target) && reaches (layer_value l e) (demand e.kind target))
@@ -48,12 +48,12 @@ module _ (l : Layer) (t : Target) (e : Effect) {target : ℤ} (is : target ≡ c
     there = ap (λ (x : Target). reaches_new l x e) (free_no t is h)
 
     -- the layer reaches it
-    pub new-had : reaches (l.val e.var) target ≡ true → false ≡ reaches_new l t e
-    new-had r = sym (there ∙ ap (λ (x : Bool). not x && reaches (layer_value l e) (demand e.kind target)) r)
+    pub new_had : reaches (l.val e.var) target ≡ true → false ≡ reaches_new l t e
+    new_had r = sym (there ∙ ap (λ (x : Bool). not x && reaches (layer_value l e) (demand e.kind target)) r)
 
     -- it does not: the effect's value decides
-    pub new-tested : {b : Bool} → reaches (l.val e.var) target ≡ false → b ≡ reaches (layer_value l e) (demand e.kind target) → b ≡ reaches_new l t e
-    new-tested r q = q ∙ sym (there ∙ ap (λ (x : Bool). not x && reaches (layer_value l e) (demand e.kind target)) r)
+    pub new_tested : {b : Bool} → reaches (l.val e.var) target ≡ false → b ≡ reaches (layer_value l e) (demand e.kind target) → b ≡ reaches_new l t e
+    new_tested r q = q ∙ sym (there ∙ ap (λ (x : Bool). not x && reaches (layer_value l e) (demand e.kind target)) r)
 
 -- ---- a block
 
@@ -93,19 +93,19 @@ module _ {k : Ranges} {wanted : List Bool} {targets layers row : List ℤ} {s : 
   row_room h = omega (arith, x.values.long)
 
   -- an item 2B
-  pub prop-supports : {p : ℕ} {had : Bool} → p < k.props → had ≡ held_by (get_or layers p (pos 0)) 0 → supports s.0 s.1 (add p) ≡ (get_or wanted p false && not had)
+  pub prop_supports : {p : ℕ} {had : Bool} → p < k.props → had ≡ held_by (get_or layers p (pos 0)) 0 → supports s.0 s.1 (add p) ≡ (get_or wanted p false && not had)
   unfolding supports
-  prop-supports {p} h e = ap₂ (λ (a b : Bool). a && not b) (sym (x.wants.prop p h)) (sym (e ∙ x.has p h))
+  prop_supports {p} h e = ap₂ (λ (a b : Bool). a && not b) (sym (x.wants.prop p h)) (sym (e ∙ x.has p h))
 
   -- an item 46
-  pub effect-supports :
+  pub effect_supports :
       {part : List ℕ} {kd v : ℕ} {base : ℤ} {from n : ℕ} {e : Effect} {r : Bool}
       → e.var ≡ v
       → EffectIs k part kd base from n e
       → ReachesNew part kd base from n row (get_or row v (pos 0)) (get_or targets v (pos 0)) r
       → supports s.0 s.1 (effect e) ≡ r
   unfolding supports
-  effect-supports {e = e} at-v is q =
+  effect_supports {e = e} at-v is q =
       let lt = is.ok.var in
       sym (q.is k e s.0 (s.1.target e.var) is x.values
       (ap (λ (i : ℕ). get_or row i (pos 0)) (sym at-v) ∙ (x.values.each e.var lt).is)

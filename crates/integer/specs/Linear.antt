@@ -340,8 +340,8 @@ back_small z h = back z (small_mag z h)
 
 -- an operation on two signed locals fits, and its result is read back
 module _ (f : ℤ → ℤ → ℤ) (a b : ℤ) (p : SFits w64 a) (q : SFits w64 b) (h : nat_abs (f a b) < 2 ^ 63) where
-  pub op2-fits : SFits w64 (f (to_z w64 (of_z w64 a)) (to_z w64 (of_z w64 b)))
-  op2-fits = rw (to_z-of_z w64 a p, to_z-of_z w64 b q) (small_fits (f a b) h)
+  pub op2_fits : SFits w64 (f (to_z w64 (of_z w64 a)) (to_z w64 (of_z w64 b)))
+  op2_fits = rw (to_z-of_z w64 a p, to_z-of_z w64 b q) (small_fits (f a b) h)
 
-  pub op2-back : to_z w64 (of_z w64 (f (to_z w64 (of_z w64 a)) (to_z w64 (of_z w64 b)))) ≡ f a b
-  op2-back = rw (to_z-of_z w64 a p, to_z-of_z w64 b q) (back_small (f a b) h)
+  pub op2_back : to_z w64 (of_z w64 (f (to_z w64 (of_z w64 a)) (to_z w64 (of_z w64 b)))) ≡ f a b
+  op2_back = rw (to_z-of_z w64 a p, to_z-of_z w64 b q) (back_small (f a b) h)

@@ -32,50 +32,50 @@ put_cons l at b bs h =
     ∙ ap (λ (m : List ℕ). set m at b) (sym e)
 
 module _ (l : List ℕ) (at : ℕ) (bs : List ℕ) (fits : at + length bs ≤ length l) where
-  head-length : length (take at l ++ bs) ≡ at + length bs
-  head-length = rw (length-append (take at l) bs, length-take-le at l (omega arith)) refl
+  head_length : length (take at l ++ bs) ≡ at + length bs
+  head_length = rw (length-append (take at l) bs, length-take-le at l (omega arith)) refl
 
-  pub length-put : length (put l at bs) ≡ length l
+  pub length_put : length (put l at bs) ≡ length l
   unfolding put
-  length-put = rw (length-append (take at l ++ bs) (drop (at + length bs) l), head-length, length-drop (at + length bs) l) (omega arith)
+  length_put = rw (length-append (take at l ++ bs) (drop (at + length bs) l), head_length, length-drop (at + length bs) l) (omega arith)
 
   pub take_put : take at (put l at bs) ≡ take at l
   unfolding put
   take_put = rw (append_assoc (take at l) bs (drop (at + length bs) l)) (take_at (take at l) (bs ++ drop (at + length bs) l) at (length-take-le at l (omega arith)))
 
-  pub drop-put : drop (at + length bs) (put l at bs) ≡ drop (at + length bs) l
+  pub drop_put : drop (at + length bs) (put l at bs) ≡ drop (at + length bs) l
   unfolding put
-  drop-put = drop_at (take at l ++ bs) (drop (at + length bs) l) (at + length bs) head-length
+  drop_put = drop_at (take at l ++ bs) (drop (at + length bs) l) (at + length bs) head_length
 
   -- from the place on there is what was stored, and then what stood behind
-  pub drop-put-at : drop at (put l at bs) ≡ bs ++ drop (at + length bs) l
+  pub drop_put_at : drop at (put l at bs) ≡ bs ++ drop (at + length bs) l
   unfolding put
-  drop-put-at =
+  drop_put_at =
       ap (drop at) (append_assoc (take at l) bs (drop (at + length bs) l))
       ∙ drop_at (take at l) (bs ++ drop (at + length bs) l) at (length-take-le at l (omega arith))
 
   -- what was stored is read back
-  pub read-put : take (length bs) (drop at (put l at bs)) ≡ bs
-  read-put = ap (take (length bs)) drop-put-at ∙ take_at bs (drop (at + length bs) l) (length bs) refl
+  pub read_put : take (length bs) (drop at (put l at bs)) ≡ bs
+  read_put = ap (take (length bs)) drop_put_at ∙ take_at bs (drop (at + length bs) l) (length bs) refl
 
   -- what lies before or after is kept
-  pub take-put-before : (n : ℕ) → n ≤ at → take n (put l at bs) ≡ take n l
-  take-put-before n h = sym (take-take n at (put l at bs) h) ∙ ap (take n) take_put ∙ take-take n at l h
+  pub take_put_before : (n : ℕ) → n ≤ at → take n (put l at bs) ≡ take n l
+  take_put_before n h = sym (take-take n at (put l at bs) h) ∙ ap (take n) take_put ∙ take-take n at l h
 
-  pub drop-put-after : (n : ℕ) → at + length bs ≤ n → drop n (put l at bs) ≡ drop n l
-  drop-put-after n h =
+  pub drop_put_after : (n : ℕ) → at + length bs ≤ n → drop n (put l at bs) ≡ drop n l
+  drop_put_after n h =
       let m = at + length bs in
       let e : n ≡ m + (n - m) = omega arith in
-      rw e (sym (drop-drop (n - m) m (put l at bs)) ∙ ap (drop (n - m)) drop-put ∙ drop-drop (n - m) m l)
+      rw e (sym (drop-drop (n - m) m (put l at bs)) ∙ ap (drop (n - m)) drop_put ∙ drop-drop (n - m) m l)
 
 -- two stores side by side are one
 pub put_append : (l : List ℕ) (at : ℕ) (bs cs : List ℕ) → at + length bs ≤ length l → put (put l at bs) (at + length bs) cs ≡ put l at (bs ++ cs)
 unfolding put
 put_append l at bs cs h =
     let n = at + length bs in
-    let e : drop (n + length cs) (put l at bs) ≡ drop (n + length cs) l = drop-put-after l at bs h (n + length cs) (omega arith) in
+    let e : drop (n + length cs) (put l at bs) ≡ drop (n + length cs) l = drop_put_after l at bs h (n + length cs) (omega arith) in
     let f : n + length cs ≡ at + length (bs ++ cs) = omega (arith, length-append bs cs) in
-    rw (take_at (take at l ++ bs) (drop n l) n (head-length l at bs h), e, f, append_assoc (take at l) bs cs) refl
+    rw (take_at (take at l ++ bs) (drop n l) n (head_length l at bs h), e, f, append_assoc (take at l) bs cs) refl
 
 -- The last `done` of `width` bytes of n are stored, and `rest` is what is left of n.
 pub record Stored (l : List ℕ) (at n width : ℕ) (out : List ℕ) (rest done : ℕ) : Type 0 where
@@ -88,9 +88,9 @@ module _ {l : List ℕ} {at n width : ℕ} (fits : at + width ≤ length l) wher
   unfolding bytes
   stored_none = record { within = omega arith; rest_is = omega arith; out_is = sym (put_nil l (at + (width - 0))) }
 
-  pub stored-length : {out : List ℕ} {rest done : ℕ} → Stored l at n width out rest done → length out ≡ length l
-  stored-length {done} h =
-      rw h.out_is (length-put l (at + (width - done)) (bytes done n) (omega (arith, length_bytes done n, h.within)))
+  pub stored_length : {out : List ℕ} {rest done : ℕ} → Stored l at n width out rest done → length out ≡ length l
+  stored_length {done} h =
+      rw h.out_is (length_put l (at + (width - done)) (bytes done n) (omega (arith, length_bytes done n, h.within)))
 
   pub stored_next : {out : List ℕ} {rest done : ℕ} → done < width → Stored l at n width out rest done
       → Stored l at n width (set out (at + (width - 1 - done)) (rest % 256)) (rest / 256) (done + 1)
@@ -107,8 +107,8 @@ module _ {l : List ℕ} {at n width : ℕ} (fits : at + width ≤ length l) wher
         out_is = rw (e, h.rest_is, h.out_is, f) (sym (put_cons l i (n / 256 ^ done % 256) (bytes done n) room));
       })
 
-  pub stored-all : {out : List ℕ} {rest done : ℕ} → Stored l at n width out rest done → width ≤ done → out ≡ put l at (bytes width n)
-  stored-all {done} h p =
+  pub stored_all : {out : List ℕ} {rest done : ℕ} → Stored l at n width out rest done → width ≤ done → out ≡ put l at (bytes width n)
+  stored_all {done} h p =
       let e : done ≡ width = omega (arith, h.within) in
       let f : at + (width - width) ≡ at = omega arith in
       h.out_is ∙ rw (e, f) refl

@@ -11,7 +11,7 @@ use Rattle.model.specs.Layer.{Value, finite, unbounded, Layer, same_value, same_
 use Rattle.model.specs.Memory.{unbounded_mark, encode, too_large}
 use Rattle.model.specs.Theorems.Laws.Booleans.{T_true, true_t}
 use Rattle.model.specs.Theorems.Layers.Order.{◌⊑◌, ⊑-finite}
-use Rattle.model.specs.Theorems.Laws.Searching.{allBelow-at}
+use Rattle.model.specs.Theorems.Laws.Searching.{all_below_at}
 use Rattle.block.specs.Sums.{Sized, Encoded, LayerRow, is_mark, encoded_more}
 use Rattle.layer_checks.specs.Comparing.{same_truth, not_above, within_limit, within_at}
 use Rattle.layer_memory.specs.Arrays.{Truths, Values, effect_size}
@@ -110,5 +110,5 @@ unfolding within_at paper
 small_row {vars} {next} r q up t =
     record {
       long = q.long;
-      each = λ v h. small_value (r.each v h) (q.each v h) (up v) (T_true (within_at next v) (allBelow-at (within_at next) vars (true_t t) v h));
+      each = λ v h. small_value (r.each v h) (q.each v h) (up v) (T_true (within_at next v) (all_below_at (within_at next) vars (true_t t) v h));
     }

@@ -9,7 +9,7 @@ use Rattle.std.specs.Int.Signed.{le_z}
 use Rattle.model.specs.Limits.{paper, largest_value}
 use Rattle.model.specs.Lists.{all_below}
 use Rattle.model.specs.Theorems.Laws.Booleans.{not-false, false_not}
-use Rattle.model.specs.Theorems.Laws.Searching.{allBelow-at}
+use Rattle.model.specs.Theorems.Laws.Searching.{all_below_at}
 use Rattle.block.specs.Sums.{is_mark}
 
 -- ---- a test at each number below a bound, passed so far
@@ -24,15 +24,15 @@ unfolding all_below
 passing_start f n = record { within = omega arith; so = refl }
 
 module _ {f : ℕ → Bool} {n i : ℕ} (s : Passing f n i) where
-  pub passing-next : i < n → f i ≡ true → Passing f n (i + 1)
+  pub passing_next : i < n → f i ≡ true → Passing f n (i + 1)
   unfolding all_below
-  passing-next h e = record { within = omega arith; so = ap (all_below f) (add-one i) ∙ ap₂ ◌&&◌ s.so e }
+  passing_next h e = record { within = omega arith; so = ap (all_below f) (add-one i) ∙ ap₂ ◌&&◌ s.so e }
 
-  pub passing-stop : i < n → f i ≡ false → false ≡ all_below f n
-  passing-stop h e = sym (not-false (all_below f n) (λ t. false_not e (allBelow-at f n t i h)))
+  pub passing_stop : i < n → f i ≡ false → false ≡ all_below f n
+  passing_stop h e = sym (not-false (all_below f n) (λ t. false_not e (all_below_at f n t i h)))
 
-  pub passing-end : n ≤ i → true ≡ all_below f n
-  passing-end h = let e : i ≡ n = omega (arith, s.within) in sym (ap (all_below f) (sym e) ∙ s.so)
+  pub passing_end : n ≤ i → true ≡ all_below f n
+  passing_end h = let e : i ≡ n = omega (arith, s.within) in sym (ap (all_below f) (sym e) ∙ s.so)
 
 -- ---- the tests
 

@@ -18,8 +18,8 @@ module _ {A : Type 0} {d : A} {g : ℕ → A} {old : List A} where
   pub filled_none : Filled d g 0 old old
   filled_none = record { same_length = refl; done = λ i h. absurd (omega arith); kept = λ i h. refl }
 
-  pub filled-step : {new : List A} {i : ℕ} → i < length old → Filled d g i old new → {x : A} → x ≡ g i → Filled d g (i + 1) old (set new i x)
-  filled-step {new} {i} room f {x} e =
+  pub filled_step : {new : List A} {i : ℕ} → i < length old → Filled d g i old new → {x : A} → x ≡ g i → Filled d g (i + 1) old (set new i x)
+  filled_step {new} {i} room f {x} e =
       record {
         same_length = length-set new i x ∙ f.same_length;
         done =
@@ -30,8 +30,8 @@ module _ {A : Type 0} {d : A} {g : ℕ → A} {old : List A} where
         kept = λ j h. get_or-set_other new i j x d (λ q. omega arith) ∙ f.kept j (omega arith);
       }
 
-  pub filled-end : {new : List A} {i n : ℕ} → i ≤ n → n ≤ i → Filled d g i old new → Filled d g n old new
-  filled-end {new} {i} {n} h k f = let e : i ≡ n = omega arith in subst (λ (m : ℕ). Filled d g m old new) e f
+  pub filled_end : {new : List A} {i n : ℕ} → i ≤ n → n ≤ i → Filled d g i old new → Filled d g n old new
+  filled_end {new} {i} {n} h k f = let e : i ≡ n = omega arith in subst (λ (m : ℕ). Filled d g m old new) e f
 
 -- "never is −1"
 unfoldable pub cleared : ℕ → ℤ
@@ -47,17 +47,17 @@ row_at row i = get_or row i (pos 0)
 
 -- an entry is filled, was filled before, or is not marked
 module _ (e : ℤ) (b : Bool) (t : ℕ) where
-  pub noted-fills : b ≡ true → lt_z e (pos 0) ≡ true → pos t ≡ noted e b t
+  pub noted_fills : b ≡ true → lt_z e (pos 0) ≡ true → pos t ≡ noted e b t
   unfolding noted
-  noted-fills h k = rw (h, k) refl
+  noted_fills h k = rw (h, k) refl
 
-  pub noted-full : lt_z e (pos 0) ≡ false → e ≡ noted e b t
+  pub noted_full : lt_z e (pos 0) ≡ false → e ≡ noted e b t
   unfolding noted
-  noted-full k = rw k refl
+  noted_full k = rw k refl
 
-  pub noted-unmarked : b ≡ false → e ≡ noted e b t
+  pub noted_unmarked : b ≡ false → e ≡ noted e b t
   unfolding noted
-  noted-unmarked h = rw h (go (lt_z e (pos 0)))
+  noted_unmarked h = rw h (go (lt_z e (pos 0)))
     where
       go : (x : Bool) → e ≡ cond (x && false) (pos t) e
       go true = refl

@@ -16,7 +16,7 @@ use Rattle.model.specs.Memory.{encode, entry, prop_entry, move_entry}
 use Rattle.model.specs.Theorems.Laws.Booleans.{T-cases}
 use Rattle.model.specs.Theorems.Laws.Searching.{below_suc}
 use Rattle.model.specs.Theorems.Layers.Entries.{noted, entry_next}
-use Rattle.model.specs.Theorems.Layers.Memories.{Holds, size, place-below}
+use Rattle.model.specs.Theorems.Layers.Memories.{Holds, size, place_below}
 use Rattle.layer_memory.specs.Filling.{Filled, cleared, noted_at, row_at}
 use Rattle.layer_memory.specs.Arrays.{Truths, Values}
 
@@ -39,8 +39,8 @@ module _ (g : ℕ → ℤ) (a n : ℕ) (old part : List ℤ) (room : a + n ≤ l
       subst (λ (x : ℕ). get_or (take a old ++ rest) (x + j) (pos 0) ≡ get_or part j (pos 0)) e
       (get_or-append-add (take a old) rest j (pos 0) ∙ get_or-append part (drop (length old - a) (drop a old)) (pos 0) j (omega (arith, part_length)))
 
-  pub filled-behind : FilledAt g a n old (put_mid a (length old - a) old part)
-  filled-behind =
+  pub filled_behind : FilledAt g a n old (put_mid a (length old - a) old part)
+  filled_behind =
       record {
         same_length = same;
         done = λ i h. inside i (omega arith) ∙ f.done i h;
@@ -71,9 +71,9 @@ module _ (g : ℕ → ℤ) (a n : ℕ) (old part : List ℤ) (room : a + n ≤ l
 
 module _ {k : Task} {s : State} {old : List ℤ} where
   -- "never is −1": no layer, no step
-  pub holds-cleared : {mem : List ℤ} → Filled (pos 0) cleared (k.props + length k.moves) old mem → Holds k s 0 0 old mem
+  pub holds_cleared : {mem : List ℤ} → Filled (pos 0) cleared (k.props + length k.moves) old mem → Holds k s 0 0 old mem
   unfolding prop_entry move_entry entry first_from cleared
-  holds-cleared f =
+  holds_cleared f =
       record {
         same_length = f.same_length;
         prop = λ p h. f.done p (omega arith);
@@ -84,14 +84,14 @@ module _ {k : Task} {s : State} {old : List ℤ} where
 
   module _ {n steps : ℕ} {mem mem' : List ℤ} (held : Holds k s n steps old mem) where
     -- the moves that one step more used
-    pub holds-moves :
+    pub holds_moves :
         {used : List Bool}
         → Truths (length k.moves) used (λ b. usable (layer_at k s steps) (move_at k b))
         → FilledAt (noted_at (mid_of k.props (length mem - k.props) mem) used steps) k.props (length k.moves) mem mem'
         → k.props + length k.moves ≤ length mem
         → Holds k s n (suc steps) old mem'
     unfolding noted_at move_entry
-    holds-moves {used} u f room =
+    holds_moves {used} u f room =
         record {
           same_length = f.same_length ∙ held.same_length;
           prop = λ p h. f.before p h ∙ held.prop p h;
@@ -114,9 +114,9 @@ pub record RowBehind (k : Task) (s : State) (n : ℕ) (old mem : List ℤ) : Typ
   pub kept : (i : ℕ) → size k s (suc n) ≤ i → get_or mem i (pos 0) ≡ get_or old i (pos 0)
 
 module _ {k : Task} (s : State) {n : ℕ} {old mem : List ℤ} {row : List ℤ} {b : ℕ} (vs : Values b k.vars row (layer_at k s n).val) {mem' : List ℤ} (g : FilledAt (row_at row) (size k s n) k.vars mem mem') where
-  pub row-behind : length mem ≡ length old → ((i : ℕ) → size k s n ≤ i → get_or mem i (pos 0) ≡ get_or old i (pos 0)) → RowBehind k s n old mem'
+  pub row_behind : length mem ≡ length old → ((i : ℕ) → size k s n ≤ i → get_or mem i (pos 0) ≡ get_or old i (pos 0)) → RowBehind k s n old mem'
   unfolding row_at
-  row-behind l kept =
+  row_behind l kept =
       record {
         same_length = g.same_length ∙ l;
         value = λ v h. g.done v h ∙ (vs.each v h).is;
@@ -130,7 +130,7 @@ holds_before {k} {s} {n} held g =
       same_length = refl;
       prop = λ p h. g.before p (omega arith) ∙ held.prop p h;
       move = λ b h. g.before (k.props + b) (omega arith) ∙ held.move b h;
-      value = λ u v h hv. g.before (k.props + length k.moves + (k.vars * u + v)) (omega (arith, place-below k s u n v h hv)) ∙ held.value u v h hv;
+      value = λ u v h hv. g.before (k.props + length k.moves + (k.vars * u + v)) (omega (arith, place_below k s u n v h hv)) ∙ held.value u v h hv;
       kept = λ i h. refl;
     }
 
@@ -186,8 +186,8 @@ notes_moves props moves t used mem part room f =
     record {
       is =
           λ k s n old e g u held.
-          let at = filled-behind (noted_at (mid_of props (length mem - props) mem) used t) props moves mem part room f in
-          holds-moves held u
+          let at = filled_behind (noted_at (mid_of props (length mem - props) mem) used t) props moves mem part room f in
+          holds_moves held u
           (subst (λ (a : ℕ). FilledAt (noted_at (mid_of a (length mem - a) mem) used t) a (length k.moves) mem (put_mid props (length mem - props) mem part)) e
           (subst (λ (m : ℕ). FilledAt (noted_at (mid_of props (length mem - props) mem) used t) props m mem (put_mid props (length mem - props) mem part)) g at))
           (omega (arith, e, g));

@@ -112,15 +112,15 @@ or_swap false true c = refl
 or_swap false false c = refl
 
 module _ {k : Ranges} {part : List ℕ} {l : Layer} {G : ℕ → Bool} {F : ℕ → Value} {at : ℕ} {flags : List Bool} {row : List ℤ} (a : Applying k part l G F at flags row) where
-  once-first : {i : Item} {o : Block} → a.rest ≡ i ∷ o → T (not (any (clashes i) o)) × Once o
-  once-first e = subst Once e a.once
+  once_first : {i : Item} {o : Block} → a.rest ≡ i ∷ o → T (not (any (clashes i) o)) × Once o
+  once_first e = subst Once e a.once
 
-  pub applying-skip : {after : ℕ} {i : Item} → Followed k part after a.rest i → T (inert i) → Applying k part l G F after flags row
-  applying-skip {after} {i} g t =
+  pub applying_skip : {after : ℕ} {i : Item} → Followed k part after a.rest i → T (inert i) → Applying k part l G F after flags row
+  applying_skip {after} {i} g t =
       record {
         rest = g.others;
         left = g.left;
-        once = (once-first g.is).1;
+        once = (once_first g.is).1;
         h = a.h;
         truths = a.truths;
         gains = λ p. ap (λ (x : Bool). a.h p || x) (sym (ap (adds p) g.is ∙ inert_adds p i g.others t)) ∙ a.gains p;
@@ -131,12 +131,12 @@ module _ {k : Ranges} {part : List ℕ} {l : Layer} {G : ℕ → Bool} {F : ℕ 
       }
 
   -- an added proposition
-  pub applying-add : {after p : ℕ} → Followed k part after a.rest (add p) → Applying k part l G F after (set flags p true) row
-  applying-add {after} {p} g =
+  pub applying_add : {after p : ℕ} → Followed k part after a.rest (add p) → Applying k part l G F after (set flags p true) row
+  applying_add {after} {p} g =
       record {
         rest = g.others;
         left = g.left;
-        once = (once-first g.is).1;
+        once = (once_first g.is).1;
         h = λ q. eqb p q || a.h q;
         truths = record { long = omega (arith, length-set flags p true, a.truths.long); same = λ q h. marked q h (ℕ_discrete p q) };
         gains = λ q. or_swap (eqb p q) (a.h q) (adds q g.others) ∙ ap (λ (x : Bool). a.h q || x) (sym (ap (adds q) g.is ∙ add_adds p q g.others)) ∙ a.gains q;
@@ -158,25 +158,25 @@ module _ {k : Ranges} {part : List ℕ} {l : Layer} {G : ℕ → Bool} {F : ℕ 
     lifted : ℕ → Value
     lifted u = cond (eqb v u) (highest (a.f u) (offered l u (some g.it))) (a.f u)
 
-    lifted-here : (u : ℕ) → v ≡ u → lifted u ≡ highest (a.f u) (offered l u (some g.it))
+    lifted_here : (u : ℕ) → v ≡ u → lifted u ≡ highest (a.f u) (offered l u (some g.it))
     unfolding lifted
-    lifted-here u e = rw (eq-eqb v u e) refl
+    lifted_here u e = rw (eq-eqb v u e) refl
 
-    lifted-other : (u : ℕ) → (v ≡ u → ⊥) → lifted u ≡ a.f u
+    lifted_other : (u : ℕ) → (v ≡ u → ⊥) → lifted u ≡ a.f u
     unfolding lifted
-    lifted-other u e = rw (ne_eqb v u e) refl
+    lifted_other u e = rw (ne_eqb v u e) refl
 
     rest_is : a.rest ≡ effect g.it ∷ g.followed.others
     rest_is = g.followed.is
 
     -- a raised value
-    pub applying-effect : {row' : List ℤ} → k.form ≡ normal → {old : List ℤ} → LayerRow k.vars old l.val → IsRaised part kind v c from n old row row' → Applying k part l G F after flags row'
+    pub applying_effect : {row' : List ℤ} → k.form ≡ normal → {old : List ℤ} → LayerRow k.vars old l.val → IsRaised part kind v c from n old row row' → Applying k part l G F after flags row'
     unfolding offered
-    applying-effect {row'} form {old} old_row r =
+    applying_effect {row'} form {old} old_row r =
         record {
           rest = g.followed.others;
           left = g.followed.left;
-          once = (once-first rest_is).1;
+          once = (once_first rest_is).1;
           h = a.h;
           truths = a.truths;
           gains = λ p. ap (λ (x : Bool). a.h p || x) (sym (ap (adds p) rest_is ∙ effect_adds p g.it g.followed.others)) ∙ a.gains p;
@@ -194,23 +194,23 @@ module _ {k : Ranges} {part : List ℕ} {l : Layer} {G : ℕ → Bool} {F : ℕ 
         each u h (yes e) =
             subst (λ (w : ℕ). Encoded effect_size (lifted w) (get_or (set row v r.worth) w (pos 0))) e
             (subst (Encoded effect_size (lifted v)) (sym (get_or-set_same row v r.worth (pos 0) (omega (arith, a.values.long, e))))
-            (encoded_same (sym (lifted-here v refl)) (r.right k l after a.rest g (a.f v) form old_row (a.values.each v (omega (arith, e))))))
+            (encoded_same (sym (lifted_here v refl)) (r.right k l after a.rest g (a.f v) form old_row (a.values.each v (omega (arith, e))))))
         each u h (no e) =
-            subst (Encoded effect_size (lifted u)) (sym (get_or-set_other row v u r.worth (pos 0) (λ q. e (sym q)))) (encoded_same (sym (lifted-other u e)) (a.values.each u h))
+            subst (Encoded effect_size (lifted u)) (sym (get_or-set_other row v u r.worth (pos 0) (λ q. e (sym q)))) (encoded_same (sym (lifted_other u e)) (a.values.each u h))
 
         up : (u : ℕ) → Dec (v ≡ u) → l.val u ⊑ lifted u
-        up u (yes e) = subst (λ (x : Value). l.val u ⊑ x) (sym (lifted-here u e)) (⊑_trans (a.above u) (highest_left (a.f u) (offered l u (some g.it))))
-        up u (no e) = subst (λ (x : Value). l.val u ⊑ x) (sym (lifted-other u e)) (a.above u)
+        up u (yes e) = subst (λ (x : Value). l.val u ⊑ x) (sym (lifted_here u e)) (⊑_trans (a.above u) (highest_left (a.f u) (offered l u (some g.it))))
+        up u (no e) = subst (λ (x : Value). l.val u ⊑ x) (sym (lifted_other u e)) (a.above u)
 
         raised : (u : ℕ) → Dec (v ≡ u) → highest (lifted u) (offered l u (effect_on u g.followed.others)) ≡ F u
         raised u (yes e) =
-            ap (λ (o : Option Effect). highest (lifted u) (offered l u o)) (no_second u g.it g.followed.others (g.var ∙ e) (once-first rest_is).0)
+            ap (λ (o : Option Effect). highest (lifted u) (offered l u o)) (no_second u g.it g.followed.others (g.var ∙ e) (once_first rest_is).0)
             ∙ highest_old (up u (yes e))
-            ∙ lifted-here u e
+            ∙ lifted_here u e
             ∙ ap (λ (o : Option Effect). highest (a.f u) (offered l u o)) (sym (ap (effect_on u) rest_is ∙ effect_here u g.it g.followed.others (g.var ∙ e)))
             ∙ a.raises u
         raised u (no e) =
-            ap (λ (x : Value). highest x (offered l u (effect_on u g.followed.others))) (lifted-other u e)
+            ap (λ (x : Value). highest x (offered l u (effect_on u g.followed.others))) (lifted_other u e)
             ∙ ap (λ (o : Option Effect). highest (a.f u) (offered l u o)) (sym (ap (effect_on u) rest_is ∙ effect_other u g.it g.followed.others (λ q. e (sym g.var ∙ q))))
             ∙ a.raises u
 
@@ -219,10 +219,10 @@ module _ {k : Ranges} {part : List ℕ} {l : Layer} {G : ℕ → Bool} {F : ℕ 
   or_none true = refl
   or_none false = refl
 
-  pub applying-truths : a.rest ≡ [] → Truths k.props flags G
+  pub applying_truths : a.rest ≡ [] → Truths k.props flags G
   unfolding adds any
-  applying-truths e = truths_same (λ p h. sym (or_none (a.h p)) ∙ ap (λ (b : Block). a.h p || adds p b) (sym e) ∙ a.gains p) a.truths
+  applying_truths e = truths_same (λ p h. sym (or_none (a.h p)) ∙ ap (λ (b : Block). a.h p || adds p b) (sym e) ∙ a.gains p) a.truths
 
-  pub applying-values : a.rest ≡ [] → Values effect_size k.vars row F
+  pub applying_values : a.rest ≡ [] → Values effect_size k.vars row F
   unfolding effect_on offered
-  applying-values e = values_same (λ v h. sym (highest_old (a.above v)) ∙ ap (λ (b : Block). highest (a.f v) (offered l v (effect_on v b))) (sym e) ∙ a.raises v) a.values
+  applying_values e = values_same (λ v h. sym (highest_old (a.above v)) ∙ ap (λ (b : Block). highest (a.f v) (offered l v (effect_on v b))) (sym e) ∙ a.raises v) a.values

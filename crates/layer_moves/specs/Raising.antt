@@ -37,9 +37,9 @@ offer_assign {kind} {value} old e = record { is = go }
 
 module _ {kind : ℕ} {value old : ℤ} (e : kind ≡ 0 → ⊥) {t : Bool} (test : (x : Value) → value ≡ encode x → t ≡ reaches x (pos 1)) where
   -- a += whose value is at least 1 makes its variable unbounded
-  pub offer-unbounded : t ≡ true → IsOffer kind value old (pos unbounded_mark)
+  pub offer_unbounded : t ≡ true → IsOffer kind value old (pos unbounded_mark)
   unfolding offer kind_code encode
-  offer-unbounded above = record { is = go }
+  offer_unbounded above = record { is = go }
     where
       go : (l : Layer) (v : ℕ) (d : Kind) (x : Value) → KindOk normal d → kind_code d ≡ kind → Encoded effect_size x value → Encoded effect_size (l.val v) old → Encoded effect_size (offer l v d x) (pos unbounded_mark)
       go l v assign x ok k h o = absurd (e (sym k))
@@ -47,9 +47,9 @@ module _ {kind : ℕ} {value old : ℤ} (e : kind ≡ 0 → ⊥) {t : Bool} (tes
       go l v decrease x ok k h o = absurd ok
 
   -- any other leaves it
-  pub offer-old : t ≡ false → IsOffer kind value old old
+  pub offer_old : t ≡ false → IsOffer kind value old old
   unfolding offer kind_code
-  offer-old no_test = record { is = go }
+  offer_old no_test = record { is = go }
     where
       go : (l : Layer) (v : ℕ) (d : Kind) (x : Value) → KindOk normal d → kind_code d ≡ kind → Encoded effect_size x value → Encoded effect_size (l.val v) old → Encoded effect_size (offer l v d x) old
       go l v assign x ok k h o = absurd (e (sym k))
@@ -84,18 +84,18 @@ pub var_small : {k : Ranges} {part : List ℕ} {kd v : ℕ} {c : ℤ} {from n be
 var_small {k} g = subst (λ (u : ℕ). u < k.vars) g.var g.followed.ok.var
 
 module _ {part : List ℕ} {kind v : ℕ} {c : ℤ} {from n : ℕ} {row next : List ℤ} (p : Raisable part kind v c from n row next) where
-  pub raisable-summable : LayerSummable part from n row
-  raisable-summable = record { ranges = p.ranges; ts = p.found.it.terms; val = p.over; terms = p.found.is.terms; row = p.row_is }
+  pub raisable_summable : LayerSummable part from n row
+  raisable_summable = record { ranges = p.ranges; ts = p.found.it.terms; val = p.over; terms = p.found.is.terms; row = p.row_is }
 
-  pub raisable-row : v < length row
-  raisable-row = omega (arith, var_small p.found, p.row_is.long)
+  pub raisable_row : v < length row
+  raisable_row = omega (arith, var_small p.found, p.row_is.long)
 
-  pub raisable-next : v < length next
-  raisable-next = omega (arith, var_small p.found, p.room)
+  pub raisable_next : v < length next
+  raisable_next = omega (arith, var_small p.found, p.room)
 
-  pub raisable-base : nat_abs c ≤ 1_000_000
+  pub raisable_base : nat_abs c ≤ 1_000_000
   unfolding paper
-  raisable-base = subst (λ (z : ℤ). nat_abs z ≤ 1_000_000) p.found.is.base p.found.followed.ok.base
+  raisable_base = subst (λ (z : ℤ). nat_abs z ≤ 1_000_000) p.found.is.base p.found.followed.ok.base
 
 pub raised_by :
     {part : List ℕ} {kind v : ℕ} {c : ℤ} {from n : ℕ} {row old new : List ℤ} {value z : ℤ}

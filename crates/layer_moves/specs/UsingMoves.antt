@@ -11,11 +11,11 @@ use Rattle.model.specs.Layer.{Value, Layer, highest, usable, offered, gained, ra
 use Rattle.model.specs.Theorems.Reading.WellFormed.{Once}
 use Rattle.model.specs.Theorems.Laws.Searching.{below_suc}
 use Rattle.model.specs.Theorems.Layers.Order.{◌⊑◌, highest_comm, highest_assoc}
-use Rattle.model.specs.Theorems.Layers.NextLayer.{raised-old, move_ok}
+use Rattle.model.specs.Theorems.Layers.NextLayer.{raised_old, move_ok}
 use Rattle.table.specs.Outlines.{part_at, Outline}
 use Rattle.reader.specs.Parts.{PartIn, outline_part}
 use Rattle.block.specs.Items.{Ranges, Left}
-use Rattle.block.specs.Parts.{ranges_of, move-left}
+use Rattle.block.specs.Parts.{ranges_of, move_left}
 use Rattle.block.specs.Blocks.{LayerState, LayerTestable, IsUsable}
 use Rattle.layer_memory.specs.Arrays.{Truths, Values, truths_same, values_same, effect_size}
 use Rattle.layer_moves.specs.Raising.{highest_old}
@@ -32,11 +32,11 @@ pub record IsUsableAgain (part : List ℕ) (before : Bool) (has : List Bool) (ro
   pub is : (k : Ranges) (b : Block) (l : Layer) → Left k part 1 b → LayerState k has row l → (before ≡ true → usable l b ≡ true) → t ≡ usable l b
 
 module _ {part : List ℕ} {before : Bool} {has : List Bool} {row : List ℤ} {t : Bool} where
-  pub usable-before : before ≡ true → t ≡ before → IsUsableAgain part before has row t
-  usable-before h e = record { is = λ k b l left w again. e ∙ h ∙ sym (again h) }
+  pub usable_before : before ≡ true → t ≡ before → IsUsableAgain part before has row t
+  usable_before h e = record { is = λ k b l left w again. e ∙ h ∙ sym (again h) }
 
-  pub usable-tested : {r : Bool} → IsUsable part has row r → t ≡ r → IsUsableAgain part before has row t
-  usable-tested u e = record { is = λ k b l left w again. e ∙ u.is k b l left w }
+  pub usable_tested : {r : Bool} → IsUsable part has row r → t ≡ r → IsUsableAgain part before has row t
+  usable_tested u e = record { is = λ k b l left w again. e ∙ u.is k b l left w }
 
 -- a move's part, with the next layer so far: what it becomes, and whether the move's conditions hold, in every such reading
 pub record TakenIn (part : List ℕ) (before : Bool) (has : List Bool) (row : List ℤ) (flags : List Bool) (values : List ℤ) (flags' : List Bool) (values' : List ℤ) (t : Bool) : Type 0 where
@@ -55,8 +55,8 @@ pub record TakenIn (part : List ℕ) (before : Bool) (has : List Bool) (row : Li
       × Values effect_size k.vars values' (λ v. highest (f v) (cond (usable l b) (offered l v (effect_on v b)) (l.val v)))
 
 module _ {part : List ℕ} {before : Bool} {has : List Bool} {row : List ℤ} {flags : List Bool} {values : List ℤ} {t : Bool} (u : IsUsableAgain part before has row t) where
-  pub taken-usable : {flags' : List Bool} {values' : List ℤ} → t ≡ true → Applied part row flags values flags' values' → TakenIn part before has row flags values flags' values' t
-  taken-usable e a =
+  pub taken_usable : {flags' : List Bool} {values' : List ℤ} → t ≡ true → Applied part row flags values flags' values' → TakenIn part before has row flags values flags' values' t
+  taken_usable e a =
       record {
         is =
             λ k b l h f form left once w again hs vs up.
@@ -69,8 +69,8 @@ module _ {part : List ℕ} {before : Bool} {has : List Bool} {row : List ℤ} {f
             );
       }
 
-  pub taken-unusable : t ≡ false → TakenIn part before has row flags values flags values t
-  taken-unusable e =
+  pub taken_unusable : t ≡ false → TakenIn part before has row flags values flags values t
+  taken_unusable e =
       record {
         is =
             λ k b l h f form left once w again hs vs up.
@@ -93,11 +93,11 @@ pub record Takeable (part : List ℕ) (has : List Bool) (row : List ℤ) (flags 
   pub values_room : ranges.vars ≤ length values
 
 module _ {part : List ℕ} {has : List Bool} {row : List ℤ} {flags : List Bool} {values : List ℤ} (p : Takeable part has row flags values) where
-  pub takeable-testable : LayerTestable part has row
-  takeable-testable = record { ranges = p.ranges; block = p.block; over = p.over; left = p.left; row = p.state }
+  pub takeable_testable : LayerTestable part has row
+  takeable_testable = record { ranges = p.ranges; block = p.block; over = p.over; left = p.left; row = p.state }
 
-  pub takeable-appliable : Appliable part row flags values
-  takeable-appliable =
+  pub takeable_appliable : Appliable part row flags values
+  takeable_appliable =
       record {
         ranges = p.ranges;
         block = p.block;
@@ -125,17 +125,17 @@ any_snoc f (y ∷ ys) x = ap (λ (b : Bool). f y || b) (any_snoc f ys x) ∙ ass
 
 module _ (l : Layer) where
   -- one move more
-  pub gained-snoc : (p : ℕ) (ms : List Block) (m : Block) → gained l p (ms ++ (m ∷ [])) ≡ (gained l p ms || (usable l m && adds p m))
+  pub gained_snoc : (p : ℕ) (ms : List Block) (m : Block) → gained l p (ms ++ (m ∷ [])) ≡ (gained l p ms || (usable l m && adds p m))
   unfolding gained
-  gained-snoc p ms m = any_snoc (λ x. usable l x && adds p x) ms m
+  gained_snoc p ms m = any_snoc (λ x. usable l x && adds p x) ms m
 
-  pub raised-snoc : (v : ℕ) (ms : List Block) (m : Block) → raised l v (ms ++ (m ∷ [])) ≡ highest (raised l v ms) (cond (usable l m) (offered l v (effect_on v m)) (l.val v))
+  pub raised_snoc : (v : ℕ) (ms : List Block) (m : Block) → raised l v (ms ++ (m ∷ [])) ≡ highest (raised l v ms) (cond (usable l m) (offered l v (effect_on v m)) (l.val v))
   unfolding raised
-  raised-snoc v [] m = highest_comm (cond (usable l m) (offered l v (effect_on v m)) (l.val v)) (l.val v)
-  raised-snoc v (x ∷ ms) m =
+  raised_snoc v [] m = highest_comm (cond (usable l m) (offered l v (effect_on v m)) (l.val v)) (l.val v)
+  raised_snoc v (x ∷ ms) m =
       let a = cond (usable l x) (offered l v (effect_on v x)) (l.val v) in
       let b = cond (usable l m) (offered l v (effect_on v m)) (l.val v) in
-      ap (highest a) (raised-snoc v ms m) ∙ sym (highest_assoc a (raised l v ms) b)
+      ap (highest a) (raised_snoc v ms m) ∙ sym (highest_assoc a (raised l v ms) b)
 
 -- each move marked as used is usable in the layer
 pub record UsedIn (k : Task) (l : Layer) (used : List Bool) : Type 0 where
@@ -166,9 +166,9 @@ step_next {k} {l} {b} {used} {t} s h room e ts vs =
           truths_same
           (λ p i.
           or_assoc (l.has p) (gained l p ms) (usable l m && adds p m)
-          ∙ ap (λ (x : Bool). l.has p || x) (sym (ap (gained l p) more ∙ gained-snoc l p ms m)))
+          ∙ ap (λ (x : Bool). l.has p || x) (sym (ap (gained l p) more ∙ gained_snoc l p ms m)))
           ts;
-      row = values_same (λ v i. sym (ap (raised l v) more ∙ raised-snoc l v ms m)) vs;
+      row = values_same (λ v i. sym (ap (raised l v) more ∙ raised_snoc l v ms m)) vs;
       uses =
           λ c i.
           below_suc c b (omega arith)
@@ -215,9 +215,9 @@ pub record UsingMoves (table marks : List ℕ) (moves : ℕ) (has : List Bool) (
       → StepBy k l b flags' values' used'
 
 module _ {table marks : List ℕ} {moves : ℕ} {has : List Bool} {row : List ℤ} {flags : List Bool} {values : List ℤ} {used : List Bool} where
-  pub using-start : UsingMoves table marks moves has row flags values used 0 flags values used
+  pub using_start : UsingMoves table marks moves has row flags values used 0 flags values used
   unfolding gained any raised
-  using-start =
+  using_start =
       record {
         same_flags = refl;
         same_values = refl;
@@ -233,7 +233,7 @@ module _ {table marks : List ℕ} {moves : ℕ} {has : List Bool} {row : List �
       }
 
   module _ {b : ℕ} {flags' : List Bool} {values' : List ℤ} {used' : List Bool} (s : UsingMoves table marks moves has row flags values used b flags' values' used') where
-    pub using-next :
+    pub using_next :
         {part : List ℕ} {flags'' : List Bool} {values'' : List ℤ} {t : Bool}
         → b < moves
         → moves ≤ length used
@@ -242,7 +242,7 @@ module _ {table marks : List ℕ} {moves : ℕ} {has : List Bool} {row : List �
         → part ≡ part_at table marks b
         → TakenIn part (get_or used' b false) has row flags' values' flags'' values'' t
         → UsingMoves table marks moves has row flags values used (b + 1) flags'' values'' (set used' b t)
-    using-next {t} h room lf lv e r =
+    using_next {t} h room lf lv e r =
         record {
           same_flags = lf ∙ s.same_flags;
           same_values = lv ∙ s.same_values;
@@ -254,7 +254,7 @@ module _ {table marks : List ℕ} {moves : ℕ} {has : List Bool} {row : List �
               let p = s.is k l o c w m ts vs in
               let q =
               r.is (ranges_of normal k) (get_or k.moves b []) l (λ x. l.has x || gained l x (take b k.moves)) (λ x. raised l x (take b k.moves))
-              refl (subst (λ (x : List ℕ). Left (ranges_of normal k) x 1 (get_or k.moves b [])) (sym e) (move-left o.ok b i (o.move b i))) (move_ok o.ok b i).once w (λ f. m.usable_there b i (sym (s.same_rest b (omega arith)) ∙ f)) p.truths p.row (λ v. raised-old l v (take b k.moves)) in
+              refl (subst (λ (x : List ℕ). Left (ranges_of normal k) x 1 (get_or k.moves b [])) (sym e) (move_left o.ok b i (o.move b i))) (move_ok o.ok b i).once w (λ f. m.usable_there b i (sym (s.same_rest b (omega arith)) ∙ f)) p.truths p.row (λ v. raised_old l v (take b k.moves)) in
               step_next p i (omega (arith, s.same_used)) q.0 q.1 q.2;
         }
 
@@ -298,11 +298,11 @@ using_end {b} {used'} s h room =
 
 -- what the move at b is taken in with
 module _ {table marks : List ℕ} {moves : ℕ} {has : List Bool} {row : List ℤ} {flags : List Bool} {values : List ℤ} {used : List Bool} (p : MovesReady table marks moves has row flags values used) {b : ℕ} (h : b < moves) where
-  pub ready-part : PartIn table marks b
-  ready-part = outline_part p.outlined b (omega (arith, p.count))
+  pub ready_part : PartIn table marks b
+  ready_part = outline_part p.outlined b (omega (arith, p.count))
 
-  pub ready-takeable : {part : List ℕ} {flags' : List Bool} {values' : List ℤ} → part ≡ part_at table marks b → length flags' ≡ length flags → length values' ≡ length values → Takeable part has row flags' values'
-  ready-takeable {part} e lf lv =
+  pub ready_takeable : {part : List ℕ} {flags' : List Bool} {values' : List ℤ} → part ≡ part_at table marks b → length flags' ≡ length flags → length values' ≡ length values → Takeable part has row flags' values'
+  ready_takeable {part} e lf lv =
       record {
         ranges = ranges_of normal p.task;
         block = get_or p.task.moves b [];
@@ -310,7 +310,7 @@ module _ {table marks : List ℕ} {moves : ℕ} {has : List Bool} {row : List �
         left =
             let i : b < length p.task.moves = omega (arith, p.count) in
             subst (λ (x : List ℕ). Left (ranges_of normal p.task) x 1 (get_or p.task.moves b [])) (sym e)
-            (move-left p.outlined.ok b i (p.outlined.move b i));
+            (move_left p.outlined.ok b i (p.outlined.move b i));
         state = p.state;
         flags_room = omega (arith, p.flags_room);
         values_room = omega (arith, p.values_room);

@@ -13,7 +13,7 @@ use Rattle.block.specs.Items.{Ranges, Left, left_end, Followed, EffectFound, Fou
 use Rattle.block.specs.declared.ItemAt.{ItemAt}
 use Rattle.block.specs.declared.ItemAt.TheVariants.{Need, Add, Delete, Condition as ConditionAt, Effect as EffectAt, End}
 use Rattle.block.specs.Sums.{LayerRow}
-use Rattle.layer_moves.specs.Applying.{Applying, inert, applying_start, applying-skip, applying-add, applying-effect, applying-truths, applying-values}
+use Rattle.layer_moves.specs.Applying.{Applying, inert, applying_start, applying_skip, applying_add, applying_effect, applying_truths, applying_values}
 
 -- the items of a normal table's block stand there, over some layer
 pub record Appliable (part : List ℕ) (row : List ℤ) (flags : List Bool) (next : List ℤ) : Type 0 where
@@ -108,7 +108,7 @@ module _ {part : List ℕ} {row : List ℤ} {flags : List Bool} {next : List ℤ
             λ k b l h f form left once row_is hs vs a.
             let p = w.is k b l h f form left once row_is hs vs a in
             let g = found k p.rest p.left in
-            applying-skip p g.followed g.quiet;
+            applying_skip p g.followed g.quiet;
       }
 
   upto_add : {after p : ℕ} → ((k : Ranges) (rest : Block) → Left k part at rest → Followed k part after rest (add p)) → AppliedUpTo part row flags next after (set flags' p true) next'
@@ -124,15 +124,15 @@ module _ {part : List ℕ} {row : List ℤ} {flags : List Bool} {next : List ℤ
         is =
             λ k b l h f form left once row_is hs vs a.
             let p = w.is k b l h f form left once row_is hs vs a in
-            applying-add p (found k p.rest p.left);
+            applying_add p (found k p.rest p.left);
       }
 
-  upto-effect :
+  upto_effect :
       {kind v : ℕ} {c : ℤ} {from n after : ℕ} {next'' : List ℤ}
       → ((k : Ranges) (rest : Block) → Left k part at rest → EffectFound k part kind v c from n after rest)
       → IsRaised part kind v c from n row next' next''
       → AppliedUpTo part row flags next after flags' next''
-  upto-effect {v} found r =
+  upto_effect {v} found r =
       record {
         same_flags = w.same_flags;
         same_next = ap length r.is ∙ length-set next' v r.worth ∙ w.same_next;
@@ -144,7 +144,7 @@ module _ {part : List ℕ} {row : List ℤ} {flags : List Bool} {next : List ℤ
         is =
             λ k b l h f form left once row_is hs vs a.
             let p = w.is k b l h f form left once row_is hs vs a in
-            applying-effect p (found k p.rest p.left) form row_is r;
+            applying_effect p (found k p.rest p.left) form row_is r;
       }
 
   -- one item more
@@ -171,15 +171,15 @@ module _ {part : List ℕ} {row : List ℤ} {flags : List Bool} {next : List ℤ
       go (ConditionAt o z from n after) m found r =
           upto_same r.0 r.1 (upto_skip (λ k rest l. record { item = condition (found k rest l).it; followed = (found k rest l).followed; quiet = tt }))
       go (EffectAt kd v z from n after) m found r =
-          upto_same r.0 refl (upto-effect found r.1)
+          upto_same r.0 refl (upto_effect found r.1)
       go End m found r = absurd (omega arith)
 
-  pub upto-end : length part ≤ at → Applied part row flags next flags' next'
-  upto-end past =
+  pub upto_end : length part ≤ at → Applied part row flags next flags' next'
+  upto_end past =
       record {
         is =
             λ k b l h f form left once row_is hs vs a.
             let p = w.is k b l h f form left once row_is hs vs a in
             let e = left_end past p.left in
-            (applying-truths p e, applying-values p e);
+            (applying_truths p e, applying_values p e);
       }

@@ -134,9 +134,9 @@ module _ {table marks : List ℕ} {props vars moves : ℕ} {has : List Bool} {ro
         ∙ ap (λ (n : ℕ). all_below (same_truth has flags') k.props && all_below (not_above row values) n) a.counts.vars_is
         ∙ same_layer_lem (state_truths k a.state) truths a.state.row new_row (rises k s t)
 
-    within-is : all_below (within_at values) vars ≡ not (wrong15 paper k s (suc t))
+    within_is : all_below (within_at values) vars ≡ not (wrong15 paper k s (suc t))
     unfolding wrong15
-    within-is = ap (all_below (within_at values)) a.counts.vars_is ∙ within_layer new_row
+    within_is = ap (all_below (within_at values)) a.counts.vars_is ∙ within_layer new_row
 
     row_written : {old new : List ℤ} → all_below (within_at values) vars ≡ true → vars ≤ length old → Filled (pos 0) (row_at values) vars old new → RowWritten k.vars (layer_at k s (suc t)).val old new
     unfolding row_at
@@ -163,25 +163,25 @@ module _ {table marks : List ℕ} {props vars moves : ℕ} {has : List Bool} {ro
 
   module _ (h : e ≡ false) {x : Bool} (within : x ≡ all_below (within_at values) vars) where
     -- 15
-    pub stepped-large : {behind : List ℤ} → x ≡ false → Stepped table marks props vars moves has row flags used behind flags' used' behind outlook.TooLarge
+    pub stepped_large : {behind : List ℤ} → x ≡ false → Stepped table marks props vars moves has row flags used behind flags' used' behind outlook.TooLarge
     unfolding next_layer
-    stepped-large i =
-        stepped (λ k s t a. from a (rw (sym (settled_is a) ∙ h, was-true (wrong15 paper k s (suc t)) (sym (within-is a) ∙ sym within ∙ i)) refl) refl)
+    stepped_large i =
+        stepped (λ k s t a. from a (rw (sym (settled_is a) ∙ h, was-true (wrong15 paper k s (suc t)) (sym (within_is a) ∙ sym within ∙ i)) refl) refl)
 
     module _ (i : x ≡ true) where
       small : {k : Task} {s : State} {t : ℕ} → AtLayer table marks props vars moves has row flags used k s t → wrong15 paper k s (suc t) ≡ false
-      small {k} {s} {t} a = was-false (wrong15 paper k s (suc t)) (sym (within-is a) ∙ sym within ∙ i)
+      small {k} {s} {t} a = was-false (wrong15 paper k s (suc t)) (sym (within_is a) ∙ sym within ∙ i)
 
       -- 14
-      pub stepped-short : {behind : List ℤ} → length behind < vars → Stepped table marks props vars moves has row flags used behind flags' used' behind outlook.TooShort
+      pub stepped_short : {behind : List ℤ} → length behind < vars → Stepped table marks props vars moves has row flags used behind flags' used' behind outlook.TooShort
       unfolding next_layer
-      stepped-short {behind} short =
+      stepped_short {behind} short =
           stepped (λ k s t a. from a (rw (sym (settled_is a) ∙ h, small a, lt-ltb (length behind) k.vars (omega (arith, a.counts.vars_is))) refl) refl)
 
       -- a new layer
-      pub stepped-new : {behind behind' : List ℤ} → vars ≤ length behind → Filled (pos 0) (row_at values) vars behind behind' → Stepped table marks props vars moves has row flags used behind flags' used' behind' outlook.New
+      pub stepped_new : {behind behind' : List ℤ} → vars ≤ length behind → Filled (pos 0) (row_at values) vars behind behind' → Stepped table marks props vars moves has row flags used behind flags' used' behind' outlook.New
       unfolding next_layer
-      stepped-new {behind} room f =
+      stepped_new {behind} room f =
           stepped
           (λ k s t a.
           from a (rw (sym (settled_is a) ∙ h, small a, le-ltb (length behind) k.vars (omega (arith, a.counts.vars_is))) refl)

@@ -20,10 +20,10 @@ use Rattle.model.specs.Theorems.Reading.WellFormed.{TaskOk}
 use Rattle.model.specs.Theorems.Laws.Booleans.{T_true, true_t, false_not}
 use Rattle.model.specs.Theorems.Layers.Order.{usable_mono}
 use Rattle.model.specs.Theorems.Layers.NextLayer.{layer_rises, move_ok}
-use Rattle.model.specs.Theorems.Layers.Settled.{settled-equal}
-use Rattle.model.specs.Theorems.Layers.Answer.{passed_next, passed-bound, unsettled-unequal}
+use Rattle.model.specs.Theorems.Layers.Settled.{settled_equal}
+use Rattle.model.specs.Theorems.Layers.Answer.{passed_next, passed_bound, unsettled_unequal}
 use Rattle.model.specs.Theorems.Layers.Building.{Stored, BuildsFrom}
-use Rattle.model.specs.Theorems.Layers.Memories.{Holds, size, holds-memory}
+use Rattle.model.specs.Theorems.Layers.Memories.{Holds, size, holds_memory}
 use Rattle.table.specs.Outlines.{Outline}
 use Rattle.block.specs.Parts.{ranges_of}
 use Rattle.block.specs.Blocks.{LayerState}
@@ -32,7 +32,7 @@ use Rattle.layer_memory.specs.Arrays.{Truths, row_values}
 use Rattle.layers.specs.Goal.{IsMet, GoalTestable}
 use Rattle.layer_moves.specs.UsingMoves.{UsedIn}
 use Rattle.layer_step.specs.Step.{Counts, Steppable, Judged, judged, PartAfter, StepFrom, Stepped, state_truths}
-use Rattle.layer_memory.specs.Storing.{FilledAt, filled-behind, row-behind, holds_before, holds_layer, NotesMoves}
+use Rattle.layer_memory.specs.Storing.{FilledAt, filled_behind, row_behind, holds_before, holds_layer, NotesMoves}
 
 -- how building ended, as the definitions have it
 unfoldable pub built_of : BuiltAnswer → Built
@@ -86,56 +86,56 @@ built_by {k} {s} {old} b new e f g m =
 
 module _ {k : Task} (ok : TaskOk paper normal k) {s : State} {old : List ℤ} {t : ℕ} {mem : List ℤ} {has : List Bool} {row : List ℤ} (a : Layered k s old t mem has row) where
   -- the answer layer
-  pub layered-reached : meets_goal k s t ≡ true → IsBuilt k s old mem (answer.Reached t)
+  pub layered_reached : meets_goal k s t ≡ true → IsBuilt k s old mem (answer.Reached t)
   unfolding built_of built_memory
-  layered-reached met =
-      built_by (answered (reached t)) _ (a.built _ (BuildsFrom.answer a.stored met)) refl refl (holds-memory a.room a.holds)
+  layered_reached met =
+      built_by (answered (reached t)) _ (a.built _ (BuildsFrom.answer a.stored met)) refl refl (holds_memory a.room a.holds)
 
   -- "the number of the last stored layer" is within the bound
-  pub layered-bound : t ≤ bound (length k.moves) k.vars
-  layered-bound = passed-bound ok s a.passed
+  pub layered_bound : t ≤ bound (length k.moves) k.vars
+  layered_bound = passed_bound ok s a.passed
 
   -- "no plan": the step that changes nothing counts
-  pub layered-exhausted : {mem' : List ℤ} → meets_goal k s t ≡ false → settled k s t ≡ true → Holds k s (suc t) (suc t) old mem' → IsBuilt k s old mem' (answer.Exhausted t)
+  pub layered_exhausted : {mem' : List ℤ} → meets_goal k s t ≡ false → settled k s t ≡ true → Holds k s (suc t) (suc t) old mem' → IsBuilt k s old mem' (answer.Exhausted t)
   unfolding built_of built_memory
-  layered-exhausted unmet same held =
-      built_by (answered (exhausted t)) _ (a.built _ (BuildsFrom.no_plan a.stored unmet ((settled-equal ok s t).0 same)))
-      refl refl (holds-memory a.room held)
+  layered_exhausted unmet same held =
+      built_by (answered (exhausted t)) _ (a.built _ (BuildsFrom.no_plan a.stored unmet ((settled_equal ok s t).0 same)))
+      refl refl (holds_memory a.room held)
 
   module _ (unmet : meets_goal k s t ≡ false) (unsettled : settled k s t ≡ false) where
     passes : Passed k s (suc t)
-    passes = passed_next a.passed unmet (unsettled-unequal ok s t unsettled)
+    passes = passed_next a.passed unmet (unsettled_unequal ok s t unsettled)
 
     goes_on : (b : Built) → BuildsFrom paper k s (length old) (suc t) b → build paper k s (length old) ≡ b
-    goes_on b r = a.built b (BuildsFrom.goesOn a.stored unmet (unsettled-unequal ok s t unsettled) r)
+    goes_on b r = a.built b (BuildsFrom.goes_on_lem a.stored unmet (unsettled_unequal ok s t unsettled) r)
 
     -- a layer more can be passed
-    pub layered-below : t < bound (length k.moves) k.vars
-    layered-below = passed-bound ok s passes
+    pub layered_below : t < bound (length k.moves) k.vars
+    layered_below = passed_bound ok s passes
 
     -- 15: the memory holds every layer before
-    pub layered-large : wrong15 paper k s (suc t) ≡ true → IsBuilt k s old mem (answer.Stopped 15 (t + 1))
+    pub layered_large : wrong15 paper k s (suc t) ≡ true → IsBuilt k s old mem (answer.Stopped 15 (t + 1))
     unfolding built_of built_memory
-    layered-large large =
+    layered_large large =
         built_by (stopped 15 (suc t)) _ (goes_on _ (BuildsFrom.too_large large))
-        (ap (stopped 15) (add-one t)) refl (holds-memory a.room a.holds)
+        (ap (stopped 15) (add-one t)) refl (holds_memory a.room a.holds)
 
     -- 14
-    pub layered-short : wrong15 paper k s (suc t) ≡ false → length old < size k s (suc (suc t)) → IsBuilt k s old mem (answer.Stopped 14 (t + 1))
+    pub layered_short : wrong15 paper k s (suc t) ≡ false → length old < size k s (suc (suc t)) → IsBuilt k s old mem (answer.Stopped 14 (t + 1))
     unfolding built_of built_memory
-    layered-short small short =
+    layered_short small short =
         built_by (stopped 14 (suc t)) _ (goes_on _ (BuildsFrom.too_short small (room_missing k s (length old) (suc t) short)))
-        (ap (stopped 14) (add-one t)) refl (holds-memory a.room a.holds)
+        (ap (stopped 14) (add-one t)) refl (holds_memory a.room a.holds)
 
     -- the next layer is stored
-    pub layered-next :
+    pub layered_next :
         {mem' : List ℤ} {has' : List Bool} {row' : List ℤ}
         → wrong15 paper k s (suc t) ≡ false
         → size k s (suc (suc t)) ≤ length old
         → Holds k s (suc (suc t)) (suc t) old mem'
         → LayerState (ranges_of normal k) has' row' (layer_at k s (suc t))
         → Layered k s old (suc t) mem' has' row'
-    layered-next small enough held state =
+    layered_next small enough held state =
         record {
           passed = passes;
           stored = record { small = small; fits = room_there k s (length old) (suc t) enough };
@@ -182,11 +182,11 @@ pub record Growing (table marks : List ℕ) (props vars moves : ℕ) (has₀ : L
   pub is : (k : Task) (s : State) (old : List ℤ) → Outline normal table marks k → Counts k props vars moves → Layered k s old 0 mem₀ has₀ row₀ → Grows k s old t mem has row used
 
 module _ {table marks : List ℕ} {props vars moves : ℕ} {k : Task} {s : State} {old : List ℤ} {t : ℕ} {mem : List ℤ} {has : List Bool} {row : List ℤ} (o : Outline normal table marks k) (c : Counts k props vars moves) (a : Layered k s old t mem has row) where
-  pub goal-testable-at : GoalTestable table marks moves has row
-  goal-testable-at = record { task = k; over = layer_at k s t; outlined = o; count = c.moves_is; state = a.state }
+  pub goal_testable_at : GoalTestable table marks moves has row
+  goal_testable_at = record { task = k; over = layer_at k s t; outlined = o; count = c.moves_is; state = a.state }
 
-  pub steppable-at : {used : List Bool} → moves ≤ length used → Steppable table marks props vars moves has row has used
-  steppable-at room =
+  pub steppable_at : {used : List Bool} → moves ≤ length used → Steppable table marks props vars moves has row has used
+  steppable_at room =
       record {
         task = k;
         over = layer_at k s t;
@@ -197,8 +197,8 @@ module _ {table marks : List ℕ} {props vars moves : ℕ} {k : Task} {s : State
         used_room = room;
       }
 
-  pub memory-room : props + moves + vars * suc t ≤ length mem
-  memory-room = rw (c.props_is, c.moves_is, c.vars_is) (omega (arith, a.room, a.holds.same_length))
+  pub memory_room : props + moves + vars * suc t ≤ length mem
+  memory_room = rw (c.props_is, c.moves_is, c.vars_is) (omega (arith, a.room, a.holds.same_length))
 
   pub has_room : props ≤ length has
   has_room = rw c.props_is a.state.long
@@ -211,18 +211,18 @@ module _ {table marks : List ℕ} {props vars moves : ℕ} {k : Task} {s : State
   count_small = omega (arith, c.moves_is, o.ok.moves)
 
   pub layer_small : t ≤ 3201
-  layer_small = omega (arith, layered-bound o.ok a, bound_small o.ok)
+  layer_small = omega (arith, layered_bound o.ok a, bound_small o.ok)
 
-  met-is : {r : Bool} → IsMet table marks moves has row r → r ≡ meets_goal k s t
+  met_is : {r : Bool} → IsMet table marks moves has row r → r ≡ meets_goal k s t
   unfolding meets_goal
-  met-is m = m.is k (layer_at k s t) o c.moves_is a.state
+  met_is m = m.is k (layer_at k s t) o c.moves_is a.state
 
-  pub reached-at : {r : Bool} → IsMet table marks moves has row r → r ≡ true → IsBuilt k s old mem (answer.Reached t)
-  reached-at m e = layered-reached o.ok a (sym (met-is m) ∙ e)
+  pub reached_at : {r : Bool} → IsMet table marks moves has row r → r ≡ true → IsBuilt k s old mem (answer.Reached t)
+  reached_at m e = layered_reached o.ok a (sym (met_is m) ∙ e)
 
   module _ {m : Bool} (met : IsMet table marks moves has row m) (no-goal : m ≡ false) {flags used used' : List Bool} {part : List ℤ} {r : NextLayer} {end : ℕ} (at : end ≡ props + moves + vars * suc t) (before : UsedIn k (layer_at k s t) used) (stepped : Stepped table marks props vars moves has row has used (mid_of end (length mem - end) mem) flags used' part r) where
     unmet : meets_goal k s t ≡ false
-    unmet = sym (met-is met) ∙ no-goal
+    unmet = sym (met_is met) ∙ no-goal
 
     abbrev behind : List ℤ
     behind = mid_of end (length mem - end) mem
@@ -234,11 +234,11 @@ module _ {table marks : List ℕ} {props vars moves : ℕ} {k : Task} {s : State
     place : end ≡ size k s (suc t)
     place = at ∙ rw (c.props_is, c.moves_is, c.vars_is) refl
 
-    behind-length : length behind ≡ length mem - end
-    behind-length = length-take-le (length mem - end) (drop end mem) (omega (arith, length-drop end mem))
+    behind_length : length behind ≡ length mem - end
+    behind_length = length-take-le (length mem - end) (drop end mem) (omega (arith, length-drop end mem))
 
-    next-size : size k s (suc (suc t)) ≡ end + k.vars
-    next-size = omega (arith, place, mul-suc k.vars (suc t))
+    next_size : size k s (suc (suc t)) ≡ end + k.vars
+    next_size = omega (arith, place, mul-suc k.vars (suc t))
 
     enough : end ≤ length mem
     enough = omega (arith, place, a.room, a.holds.same_length)
@@ -256,53 +256,53 @@ module _ {table marks : List ℕ} {props vars moves : ℕ} {k : Task} {s : State
     untouched e = ap (put_mid end (length mem - end) mem) e ∙ put_same end (length mem - end) mem
 
     -- "no plan"
-    pub exhausted-at : {mem' : List ℤ} → r ≡ outlook.Same → NotesMoves props moves t used' (put_mid end (length mem - end) mem part) mem' → IsBuilt k s old mem' (answer.Exhausted t)
-    exhausted-at {mem'} e n =
-        layered-exhausted o.ok a unmet (checks e)
+    pub exhausted_at : {mem' : List ℤ} → r ≡ outlook.Same → NotesMoves props moves t used' (put_mid end (length mem - end) mem part) mem' → IsBuilt k s old mem' (answer.Exhausted t)
+    exhausted_at {mem'} e n =
+        layered_exhausted o.ok a unmet (checks e)
         ((subst (λ (l : List ℤ). NotesMoves props moves t used' l mem') (untouched (written e)) n).is k s (suc t) old c.props_is c.moves_is step_from.uses a.holds)
 
     -- 15
-    pub large-at : r ≡ outlook.TooLarge → IsBuilt k s old (put_mid end (length mem - end) mem part) (answer.Stopped 15 (t + 1))
-    large-at e = rw (untouched (written e)) (layered-large o.ok a unmet (checks e).0 (checks e).1)
+    pub large_at : r ≡ outlook.TooLarge → IsBuilt k s old (put_mid end (length mem - end) mem part) (answer.Stopped 15 (t + 1))
+    large_at e = rw (untouched (written e)) (layered_large o.ok a unmet (checks e).0 (checks e).1)
 
     -- 14
-    pub short-at : r ≡ outlook.TooShort → IsBuilt k s old (put_mid end (length mem - end) mem part) (answer.Stopped 14 (t + 1))
-    short-at e =
+    pub short_at : r ≡ outlook.TooShort → IsBuilt k s old (put_mid end (length mem - end) mem part) (answer.Stopped 14 (t + 1))
+    short_at e =
         let short : length behind < k.vars = ltb-true (length behind) k.vars (checks e).2 in
-        rw (untouched (written e)) (layered-short o.ok a unmet (checks e).0 (checks e).1 (omega (arith, next-size, behind-length, enough, a.holds.same_length)))
+        rw (untouched (written e)) (layered_short o.ok a unmet (checks e).0 (checks e).1 (omega (arith, next_size, behind_length, enough, a.holds.same_length)))
 
     module _ (e : r ≡ outlook.New) where
-      pub below-bound : t < bound moves vars
-      below-bound = rw (c.moves_is, c.vars_is) (layered-below o.ok a unmet (checks e).0)
+      pub below_bound : t < bound moves vars
+      below_bound = rw (c.moves_is, c.vars_is) (layered_below o.ok a unmet (checks e).0)
 
       fits : end + k.vars ≤ length mem
-      fits = let long : k.vars ≤ length behind = ltb-false (length behind) k.vars (checks e).2 in omega (arith, behind-length, enough)
+      fits = let long : k.vars ≤ length behind = ltb-false (length behind) k.vars (checks e).2 in omega (arith, behind_length, enough)
 
-      pub new-room : end + vars ≤ length mem
-      new-room = rw c.vars_is fits
+      pub new_room : end + vars ≤ length mem
+      new_room = rw c.vars_is fits
 
       -- the next layer is the last one stored
-      pub next-at :
+      pub next_at :
           {mem' mem'' row' : List ℤ}
           → NotesMoves props moves t used' (put_mid end (length mem - end) mem part) mem'
           → Filled (pos 0) (noted_at mem' flags (t + 1)) props mem' mem''
           → Filled (pos 0) (row_at (mid_of end (length mem'' - end) mem'')) vars row row'
           → Grows k s old (suc t) mem'' flags row' used'
       unfolding row_at
-      next-at {mem'} {mem''} {row'} n f g =
+      next_at {mem'} {mem''} {row'} n f g =
           let mem₁ = put_mid end (length mem - end) mem part in
           let at₁ : FilledAt (row_at part) (size k s (suc t)) k.vars mem mem₁ =
           subst (λ (x : ℕ). FilledAt (row_at part) x k.vars mem mem₁) place
-          (filled-behind (row_at part) end k.vars mem part fits (record { same_length = (written e).same_length; done = λ i h. refl; kept = (written e).kept })) in
+          (filled_behind (row_at part) end k.vars mem part fits (record { same_length = (written e).same_length; done = λ i h. refl; kept = (written e).kept })) in
           let noted : Holds k s (suc t) (suc t) mem₁ mem' = n.is k s (suc t) mem₁ c.props_is c.moves_is step_from.uses (holds_before a.holds at₁) in
           let f₁ : Filled (pos 0) (noted_at mem' flags (suc t)) k.props mem' mem'' =
           subst (λ (x : ℕ). Filled (pos 0) (noted_at mem' flags (suc t)) x mem' mem'') c.props_is
           (subst (λ (x : ℕ). Filled (pos 0) (noted_at mem' flags x) props mem' mem'') (add-one t) f) in
           let held : Holds k s (suc (suc t)) (suc t) old mem'' =
-          holds_layer (row-behind s (row_values (written e).row) at₁ a.holds.same_length a.holds.kept) noted step_from.truths f₁ in
+          holds_layer (row_behind s (row_values (written e).row) at₁ a.holds.same_length a.holds.kept) noted step_from.truths f₁ in
           record {
             layered =
-                layered-next o.ok a unmet (checks e).0 (checks e).1 (omega (arith, next-size, fits, a.holds.same_length)) held
+                layered_next o.ok a unmet (checks e).0 (checks e).1 (omega (arith, next_size, fits, a.holds.same_length)) held
                 (record {
                   long = step_from.truths.long;
                   has = step_from.truths.same;
@@ -330,16 +330,16 @@ module _ {table marks : List ℕ} {props vars moves : ℕ} {k : Task} {s : State
               ∙ held.value (suc t) v (omega arith) h
 
 module _ {table marks : List ℕ} {props vars moves : ℕ} {has₀ : List Bool} {row₀ mem₀ : List ℤ} where
-  pub growing-start : Growing table marks props vars moves has₀ row₀ mem₀ 0 has₀ row₀ (replicate 64 false) mem₀ (props + moves + vars)
-  growing-start = record { end_is = omega arith; same_length = refl; is = λ k s old o c a. record { layered = a; used_in = used_none o.ok } }
+  pub growing_start : Growing table marks props vars moves has₀ row₀ mem₀ 0 has₀ row₀ (replicate 64 false) mem₀ (props + moves + vars)
+  growing_start = record { end_is = omega arith; same_length = refl; is = λ k s old o c a. record { layered = a; used_in = used_none o.ok } }
 
-  pub growing-next :
+  pub growing_next :
       {t : ℕ} {has : List Bool} {row : List ℤ} {used : List Bool} {mem : List ℤ} {end : ℕ} {has' : List Bool} {row' : List ℤ} {used' : List Bool} {mem' : List ℤ}
       → Growing table marks props vars moves has₀ row₀ mem₀ t has row used mem end
       → length mem' ≡ length mem
       → ((k : Task) (s : State) (old : List ℤ) → Outline normal table marks k → Counts k props vars moves → Grows k s old t mem has row used → Grows k s old (suc t) mem' has' row' used')
       → Growing table marks props vars moves has₀ row₀ mem₀ (t + 1) has' row' used' mem' (end + vars)
-  growing-next {t} {has'} {row'} {used'} {mem'} g l f =
+  growing_next {t} {has'} {row'} {used'} {mem'} g l f =
       record {
         end_is = rw (add-one t) (omega (arith, g.end_is, mul-suc vars (suc t)));
         same_length = l ∙ g.same_length;

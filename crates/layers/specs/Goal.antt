@@ -7,7 +7,7 @@ use Rattle.model.specs.Layer.{Layer, usable}
 use Rattle.table.specs.Outlines.{part_at, Outline}
 use Rattle.reader.specs.Parts.{PartIn, outline_part}
 use Rattle.block.specs.Items.{Left}
-use Rattle.block.specs.Parts.{ranges_of, goal-left}
+use Rattle.block.specs.Parts.{ranges_of, goal_left}
 use Rattle.block.specs.Blocks.{LayerState, LayerTestable, IsUsable}
 
 pub record GoalTestable (table marks : List ℕ) (moves : ℕ) (has : List Bool) (row : List ℤ) : Type 0 where
@@ -24,14 +24,14 @@ pub record IsMet (table marks : List ℕ) (moves : ℕ) (has : List Bool) (row :
 -- the goal stands in its part
 pub goal_at : {table marks : List ℕ} {moves : ℕ} {part : List ℕ} {k : Task} → part ≡ part_at table marks moves → Outline normal table marks k → moves ≡ length k.moves → Left (ranges_of normal k) part 1 k.goal
 goal_at {table} {marks} {k} e o c =
-    subst (λ (x : List ℕ). Left (ranges_of normal k) x 1 k.goal) (sym (e ∙ ap (part_at table marks) c)) (goal-left o.ok o.goal)
+    subst (λ (x : List ℕ). Left (ranges_of normal k) x 1 k.goal) (sym (e ∙ ap (part_at table marks) c)) (goal_left o.ok o.goal)
 
 module _ {table marks : List ℕ} {moves : ℕ} {has : List Bool} {row : List ℤ} (p : GoalTestable table marks moves has row) where
-  pub goal-part : PartIn table marks moves
-  goal-part = outline_part p.outlined moves (omega (arith, p.count))
+  pub goal_part : PartIn table marks moves
+  goal_part = outline_part p.outlined moves (omega (arith, p.count))
 
-  pub goal-testable : {part : List ℕ} → part ≡ part_at table marks moves → LayerTestable part has row
-  goal-testable e =
+  pub goal_testable : {part : List ℕ} → part ≡ part_at table marks moves → LayerTestable part has row
+  goal_testable e =
       record {
         ranges = ranges_of normal p.task;
         block = p.task.goal;

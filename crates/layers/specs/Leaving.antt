@@ -10,7 +10,7 @@ use Rattle.model.specs.Memory.{overwrite, Built, answered, build, built_memory}
 use Rattle.model.specs.StateTable.{state_refusal}
 use Rattle.model.specs.Theorems.Reading.WellFormed.{TaskOk}
 use Rattle.model.specs.Theorems.Sizes.States.{SmallState, accepted_small, normal_state_small}
-use Rattle.model.specs.Theorems.Sizes.Stored.{StoredLayers, steps_of, answered-layers}
+use Rattle.model.specs.Theorems.Sizes.Stored.{StoredLayers, steps_of, answered_layers}
 use Rattle.layers.specs.Building.{IsBuilt, built_of}
 use Rattle.layers.specs.Starting.{start_of}
 use Rattle.layers.specs.Preparing.{ReadyIn}
@@ -32,6 +32,6 @@ built_layers {bs} {props} {mem} r built o e =
     let k = r.task in
     let s = start_of props bs in
     let ended : build paper k s (length mem) ≡ answered o = sym built.ended ∙ e in
-    answered-layers r.outlined.ok (start_small props bs r.outlined.ok r.counts.vars_is r.accepted_state) mem ended
+    answered_layers r.outlined.ok (start_small props bs r.outlined.ok r.counts.vars_is r.accepted_state) mem ended
     (sym r.counts.props_is) (sym r.counts.vars_is) (sym r.counts.moves_is)
     (built.memory ∙ ap (λ (x : Built). overwrite (built_memory k s x) mem) ended)

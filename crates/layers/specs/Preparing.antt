@@ -43,13 +43,13 @@ table_refused t bs e = ap (λ (v : Verdict). ready_of paper v bs) e
 
 module _ {t m : List ℕ} {props vars moves : ℕ} (h : HeadRead normal t m props vars moves) where
   -- the counts keep within the limits
-  pub head-props : props ≤ 120
+  pub head_props : props ≤ 120
   unfolding paper
-  head-props = omega (arith, h.outline.ok.props, h.props_is)
+  head_props = omega (arith, h.outline.ok.props, h.props_is)
 
-  pub head-vars : vars ≤ 32
+  pub head_vars : vars ≤ 32
   unfolding paper
-  head-vars = omega (arith, h.outline.ok.vars.0, h.vars_is)
+  head_vars = omega (arith, h.outline.ok.vars.0, h.vars_is)
 
   module _ (bs : List ℕ) where
     by_state : prepared paper t bs ≡ ready_with h.table.task bs (state_refusal paper props (vars / 2) bs)
@@ -63,9 +63,9 @@ module _ {t m : List ℕ} {props vars moves : ℕ} (h : HeadRead normal t m prop
     unfolding ready_with
     state_refused e = by_state ∙ ap (ready_with h.table.task bs) e
 
-    pub both-accepted : state_refusal paper props (vars / 2) bs ≡ none → ReadyIn t bs m props vars moves
+    pub both_accepted : state_refusal paper props (vars / 2) bs ≡ none → ReadyIn t bs m props vars moves
     unfolding ready_with
-    both-accepted e =
+    both_accepted e =
         record {
           task = h.table.task;
           is = by_state ∙ ap (ready_with h.table.task bs) e ∙ ap (λ (n : ℕ). ready h.table.task (start_of n bs)) (sym h.props_is);

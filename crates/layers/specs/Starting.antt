@@ -22,9 +22,9 @@ use Rattle.model.specs.Layer.{finite, layer_of, layer, layer_at}
 use Rattle.model.specs.Memory.{encode, too_large, wrong15, overwrite, stopped, built_memory}
 use Rattle.model.specs.Theorems.Reading.WellFormed.{TaskOk}
 use Rattle.model.specs.Theorems.Laws.Booleans.{not-false, false_not}
-use Rattle.model.specs.Theorems.Laws.Searching.{anyBelow-cases}
+use Rattle.model.specs.Theorems.Laws.Searching.{any_below_cases}
 use Rattle.model.specs.Theorems.Layers.Answer.{passed_none}
-use Rattle.model.specs.Theorems.Layers.Building.{BuildsFrom, build-unrolled}
+use Rattle.model.specs.Theorems.Layers.Building.{BuildsFrom, build_unrolled}
 use Rattle.model.specs.Theorems.Layers.Memories.{size}
 use Rattle.table.specs.Outlines.{Outline}
 use Rattle.block.specs.Parts.{ranges_of}
@@ -36,7 +36,7 @@ use Rattle.state.specs.Loading.{accepted_signed}
 use Rattle.layer_memory.specs.Filling.{Filled, cleared, noted_at, row_at}
 use Rattle.layer_memory.specs.Arrays.{Values}
 use Rattle.layer_step.specs.Step.{Counts, state_truths}
-use Rattle.layer_memory.specs.Storing.{FilledAt, filled-behind, row-behind, holds-cleared, holds_layer}
+use Rattle.layer_memory.specs.Storing.{FilledAt, filled_behind, row_behind, holds_cleared, holds_layer}
 use Rattle.layers.specs.Building.{IsBuilt, Layered, built_of, room_there, room_missing, built_by}
 
 -- the signed variables of an accepted state
@@ -60,27 +60,27 @@ unfolding paper
 even_half ok = omega (arith, ok.vars.1)
 
 module _ {table marks : List ℕ} {props vars moves : ℕ} {bs : List ℕ} (p : Buildable table marks props vars moves bs) where
-  pub props-small : props ≤ 120
+  pub props_small : props ≤ 120
   unfolding paper
-  props-small = omega (arith, p.counts.props_is, p.outlined.ok.props)
+  props_small = omega (arith, p.counts.props_is, p.outlined.ok.props)
 
   pub vars_small : vars ≤ 32
   unfolding paper
   vars_small = omega (arith, p.counts.vars_is, p.outlined.ok.vars.0)
 
-  pub moves-small : moves ≤ 64
+  pub moves_small : moves ≤ 64
   unfolding paper
-  moves-small = omega (arith, p.counts.moves_is, p.outlined.ok.moves)
+  moves_small = omega (arith, p.counts.moves_is, p.outlined.ok.moves)
 
-  pub half-vars : 2 * (vars / 2) ≡ vars
-  half-vars = rw p.counts.vars_is (even_half p.outlined.ok)
+  pub half_vars : 2 * (vars / 2) ≡ vars
+  half_vars = rw p.counts.vars_is (even_half p.outlined.ok)
 
-  pub state-long : props + 4 * (vars / 2) ≤ length bs
-  state-long = omega (arith, (accepted_state paper props (vars / 2) bs p.accepted).length_is)
+  pub state_long : props + 4 * (vars / 2) ≤ length bs
+  state_long = omega (arith, (accepted_state paper props (vars / 2) bs p.accepted).length_is)
 
 -- the arrays hold layer 0
 module _ {k : Task} {props vars moves : ℕ} (ok : TaskOk paper normal k) (n : Counts k props vars moves) (bs : List ℕ) (accepted : state_refusal paper props (vars / 2) bs ≡ none) where
-  pub first-layer :
+  pub first_layer :
       {has : List Bool} {row : List ℤ} (has₀ : List Bool) (row₀ : List ℤ)
       → props ≤ length has
       → vars ≤ length row
@@ -88,7 +88,7 @@ module _ {k : Task} {props vars moves : ℕ} (ok : TaskOk paper normal k) (n : C
       → row ≡ overwrite (tabulate (start_of props bs).val 0 (2 * (vars / 2))) row₀
       → LayerState (ranges_of normal k) has row (layer_at k (start_of props bs) 0)
   unfolding layer_at layer layer_of normal_state encode paper
-  first-layer {has} {row} has₀ row₀ hl rl h r =
+  first_layer {has} {row} has₀ row₀ hl rl h r =
       record {
         long = omega (arith, n.props_is);
         has = λ q i. ap (λ (l : List Bool). get_or l q false) h ∙ written_at (state_of props bs).has has₀ props q false (omega (arith, n.props_is));
@@ -110,7 +110,7 @@ module _ {k : Task} {props vars moves : ℕ} (ok : TaskOk paper normal k) (n : C
   first_small =
       not-false (wrong15 paper k (start_of props bs) 0)
       (λ t.
-      anyBelow-cases (λ v. too_large paper ((layer_at k (start_of props bs) 0).val v)) k.vars t
+      any_below_cases (λ v. too_large paper ((layer_at k (start_of props bs) 0).val v)) k.vars t
       (λ v h big.
       let half : 2 * (vars / 2) ≡ vars = rw n.vars_is (even_half ok) in
       let small : nat_abs ((start_of props bs).val v) ≤ 1_000_000 = accepted_signed props (vars / 2) bs accepted v (omega (arith, n.vars_is)) in
@@ -121,12 +121,12 @@ module _ {k : Task} {props vars moves : ℕ} (ok : TaskOk paper normal k) (n : C
   unfolding built_of built_memory overwrite
   first_short {old} h =
       built_by (stopped 14 0) []
-      ((build-unrolled ok (start_of props bs) (length old) _).1
+      ((build_unrolled ok (start_of props bs) (length old) _).1
       (BuildsFrom.too_short first_small (room_missing k (start_of props bs) (length old) 0 (omega (arith, n.props_is, n.vars_is, n.moves_is)))))
       refl refl refl
 
   -- layer 0 is stored: its values, then the entries
-  pub first-stored :
+  pub first_stored :
       {old part mem mem' : List ℤ} {has : List Bool} {row : List ℤ}
       → props + moves + vars ≤ length old
       → LayerState (ranges_of normal k) has row (layer_at k (start_of props bs) 0)
@@ -135,7 +135,7 @@ module _ {k : Task} {props vars moves : ℕ} (ok : TaskOk paper normal k) (n : C
       → Filled (pos 0) (noted_at mem has 0) props mem mem'
       → Layered k (start_of props bs) old 0 mem' has row
   unfolding paper
-  first-stored {old} {part} {mem} {mem'} {has} {row} enough w r f g =
+  first_stored {old} {part} {mem} {mem'} {has} {row} enough w r f g =
       let s = start_of props bs in
       let mem₁ = put_mid (props + moves) (length old - (props + moves)) old part in
       let fits : size k s 1 ≤ length old = omega (arith, n.props_is, n.vars_is, n.moves_is) in
@@ -143,14 +143,14 @@ module _ {k : Task} {props vars moves : ℕ} (ok : TaskOk paper normal k) (n : C
       let place : props + moves ≡ size k s 0 = omega (arith, n.props_is, n.moves_is) in
       let at : FilledAt (row_at row) (size k s 0) k.vars old mem₁ =
       subst (λ (x : ℕ). FilledAt (row_at row) x k.vars old mem₁) place
-      (subst (λ (x : ℕ). FilledAt (row_at row) (props + moves) x old mem₁) n.vars_is (filled-behind (row_at row) (props + moves) vars old part enough r)) in
+      (subst (λ (x : ℕ). FilledAt (row_at row) (props + moves) x old mem₁) n.vars_is (filled_behind (row_at row) (props + moves) vars old part enough r)) in
       let values : Values paper.layer_value k.vars row (layer_at k s 0).val = record { long = w.row.long; each = w.row.each } in
       record {
         passed = passed_none;
         stored = record { small = first_small; fits = room_there k s (length old) 0 fits };
-        built = λ b r. (build-unrolled ok s (length old) b).1 r;
+        built = λ b r. (build_unrolled ok s (length old) b).1 r;
         holds =
-            holds_layer (row-behind s values at refl (λ i h. refl)) (holds-cleared (subst (λ (x : ℕ). Filled (pos 0) cleared x mem₁ mem) front f)) (state_truths k w)
+            holds_layer (row_behind s values at refl (λ i h. refl)) (holds_cleared (subst (λ (x : ℕ). Filled (pos 0) cleared x mem₁ mem) front f)) (state_truths k w)
             (subst (λ (x : ℕ). Filled (pos 0) (noted_at mem has 0) x mem mem') n.props_is g);
         room = fits;
         state = w;

@@ -12,10 +12,10 @@ use Rattle.model.specs.Limits.{paper}
 use Rattle.model.specs.Memory.{overwrite}
 use Rattle.model.specs.Calls.{Output, on_output, prepared, normalised, normalise_answer, normalise_out, plan_answer, plan_out}
 use Rattle.model.specs.Listing.{listing, listing_layers, listing_bytes, refusal_text, answer_text, ready_text}
-use Rattle.model.specs.Theorems.Printing.Outputs.{length-overwrite}
+use Rattle.model.specs.Theorems.Printing.Outputs.{length_overwrite}
 use Rattle.model.specs.Theorems.Campaigns.Demand2.{written_hands, refused_turns}
 use Rattle.report.specs.Answer.{Lists, Printable, Printed}
-use Rattle.report.specs.Plans.{planned_records, text_length, plan-lists, plan-text, plan-printable, refused_printable}
+use Rattle.report.specs.Plans.{planned_records, text_length, plan_lists, plan_text, plan_printable, refused_printable}
 
 -- "layer memory has 8,192 numbers, the plan 64,000 bytes"
 pub record Rooms (normal_form : List ℕ) (layers : List ℤ) (plan text : List ℕ) : Type 0 where
@@ -32,7 +32,7 @@ pub printed_is : (t bs : List ℕ) {old text new : List ℕ} {n : ℕ} → Print
 unfolding overwrite
 printed_is t bs {old} {text} {new} {n} p e = (
   subst (λ (m : ℕ). take m new ≡ text) (sym p.size) (ap (take (length text)) p.is ∙ take-append_seam text (drop (length text) old)) ∙ e,
-  omega (arith, p.size, p.fits, ap length p.is ∙ length-overwrite text old p.fits),
+  omega (arith, p.size, p.fits, ap length p.is ∙ length_overwrite text old p.fits),
 )
 
 -- what is listed once normalise has written or turned back
@@ -40,46 +40,46 @@ output_text : List ℕ → Output → List ℕ
 output_text bs o = on_output o (λ nb. ready_text paper (prepared paper nb bs)) (λ r. refusal_text r)
 
 module _ {normal_form : List ℕ} {layers : List ℤ} {plan text : List ℕ} (rooms : Rooms normal_form layers plan text) (t bs : List ℕ) where
-  layers-are : length layers ≡ listing_layers
+  layers_are : length layers ≡ listing_layers
   unfolding listing_layers
-  layers-are = rooms.layers_length
+  layers_are = rooms.layers_length
 
-  plan-is : length plan ≡ listing_bytes
+  plan_is : length plan ≡ listing_bytes
   unfolding listing_bytes
-  plan-is = rooms.plan_length
+  plan_is = rooms.plan_length
 
-  text-is : length text ≡ text_length
+  text_is : length text ≡ text_length
   unfolding text_length
-  text-is = rooms.text_length_holds
+  text_is = rooms.text_length_holds
 
-  listing-is : {o : Output} → normalised paper t (length normal_form) ≡ o → output_text bs o ≡ listing paper t bs
+  listing_is : {o : Output} → normalised paper t (length normal_form) ≡ o → output_text bs o ≡ listing paper t bs
   unfolding listing listing_bytes output_text
-  listing-is e = sym (ap (output_text bs) (ap (normalised paper t) (sym rooms.normal_length_lem) ∙ e))
+  listing_is e = sym (ap (output_text bs) (ap (normalised paper t) (sym rooms.normal_length_lem) ∙ e))
 
   -- normalise turns back
-  pub refused-room : (r : Refusal) → Printable (Refused r) plan text
-  refused-room r = refused_printable r plan text text-is
+  pub refused_room : (r : Refusal) → Printable (Refused r) plan text
+  refused_room r = refused_printable r plan text text_is
 
-  pub refused-text : (r : Refusal) → normalise_answer paper t normal_form ≡ write.Refused r → answer_text (Refused r) [] ≡ listing paper t bs
+  pub refused_text : (r : Refusal) → normalise_answer paper t normal_form ≡ write.Refused r → answer_text (Refused r) [] ≡ listing paper t bs
   unfolding answer_text output_text on_output
-  refused-text r e = listing-is (refused_turns t normal_form r e)
+  refused_text r e = listing_is (refused_turns t normal_form r e)
 
   -- normalise writes n bytes, and plan is given those
   module _ (part : List ℕ) {after : List ℕ} (is : after ≡ plan_out paper part bs layers plan) where
-    pub planned-room : Printable (plan_answer paper part bs layers plan) after text
-    planned-room = rw is (plan-printable part bs layers plan layers-are plan-is text text-is)
+    pub planned_room : Printable (plan_answer paper part bs layers plan) after text
+    planned_room = rw is (plan_printable part bs layers plan layers_are plan_is text text_is)
 
-    pub planned-lists : Lists (plan_answer paper part bs layers plan) after (planned_records (prepared paper part bs))
-    planned-lists = rw is (plan-lists part bs layers plan layers-are plan-is)
+    pub planned_lists : Lists (plan_answer paper part bs layers plan) after (planned_records (prepared paper part bs))
+    planned_lists = rw is (plan_lists part bs layers plan layers_are plan_is)
 
-  pub planned-text :
+  pub planned_text :
       (n : ℕ) (part : List ℕ)
       → normalise_answer paper t normal_form ≡ write.Written n
       → part ≡ take n (normalise_out paper t normal_form)
       → answer_text (plan_answer paper part bs layers plan) (planned_records (prepared paper part bs)) ≡ listing paper t bs
   unfolding output_text on_output
-  planned-text n part e f =
+  planned_text n part e f =
       let h = written_hands t normal_form n e in
-      plan-text part bs layers plan layers-are plan-is
+      plan_text part bs layers plan layers_are plan_is
       ∙ ap (λ (nb : List ℕ). ready_text paper (prepared paper nb bs)) (f ∙ h.part)
-      ∙ listing-is h.is
+      ∙ listing_is h.is

@@ -36,7 +36,7 @@ before_part k n =
 unfoldable pub part_offset : Task → ℕ → ℕ
 part_offset k n = length (before_part k n)
 
--- the offset of that part; with "no plan" there always is one (`Theorems.Blocking.Calls.blocks-where`)
+-- the offset of that part; with "no plan" there always is one (`Theorems.Blocking.Calls.blocks_where`)
 unfoldable pub unmet_answer : Task → Option ℕ → BlockingAnswer
 unmet_answer k none = blocking.Nothing
 unmet_answer k (some n) = blocking.Blocks (part_offset k n)

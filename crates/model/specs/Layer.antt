@@ -142,7 +142,7 @@ unfoldable pub same_layer : ℕ → ℕ → Layer → Layer → Bool
 same_layer props vars l k =
     all_below (λ p. beq (l.has p) (k.has p)) props && all_below (λ v. same_value (l.val v) (k.val v)) vars
 
--- is the next layer equal to layer t (`Theorems.Layers.Settled.settled-equal`)
+-- is the next layer equal to layer t (`Theorems.Layers.Settled.settled_equal`)
 unfoldable pub settled : Task → State → ℕ → Bool
 settled k s t = same_layer k.props k.vars (layer_at k s t) (layer_at k s (suc t))
 

@@ -77,7 +77,7 @@ unfoldable pub stop_at : Limits → Task → State → Option ℕ → Outcome �
 stop_at L k s none o = answered o
 stop_at L k s (some t) o = stopped (stop_number (wrong15 L k s t)) t
 
--- the first layer up to the last one that is refused; layer by layer, in document 01's order: `Theorems.Layers.Building.build-unrolled`
+-- the first layer up to the last one that is refused; layer by layer, in document 01's order: `Theorems.Layers.Building.build_unrolled`
 unfoldable pub build : Limits → Task → State → ℕ → Built
 build L k s size =
     let o = outcome k s in

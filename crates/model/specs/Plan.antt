@@ -203,7 +203,7 @@ unfoldable pub plan_list : List (ℕ × ℕ) → List ℕ
 plan_list [] = []
 plan_list ((move, count) ∷ rs) = replicate count move ++ plan_list rs
 
--- ---- the wants of each layer, on the walk of `records` (`Theorems.Plans.Records.records-down`)
+-- ---- the wants of each layer, on the walk of `records` (`Theorems.Plans.Records.records_down`)
 
 -- n layers below the answer layer m: "Begin with the goal in m."
 unfoldable pub wants_below : Task → State → ℕ → ℕ → Wants

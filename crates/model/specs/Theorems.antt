@@ -24,7 +24,7 @@
 --
 -- Plans: the list of a plan's records solves the relaxed task; each record is the only one of its move in its layer; the wants and the
 -- records of each layer.
---   Solving.plan-solves; Records.records-rising, wantsAt-down, records-down
+--   Solving.plan-solves; Records.records-rising, wants_at_down, records-down
 --
 -- Sizes: every number on the way, and every number of an answer, is small enough for the machine's.
 --   Layers.next-size; Plans.targets-small; Answers.plan-small, blocking-small

@@ -10,7 +10,7 @@ use Rattle.model.specs.declared.WriteAnswer.{WriteAnswer}
 use Rattle.model.specs.declared.WriteAnswer.TheVariants as write
 use Rattle.model.specs.Calls.{writes, normal_bytes, normal_of, normalised, normalise_answer, normalise_out}
 use Rattle.table.specs.Outlines.{HeadRead}
-use Rattle.reader.specs.Written.{read_task, task-is}
+use Rattle.reader.specs.Written.{read_task, task_is}
 use Rattle.output.specs.Answers.{Answered, answered_same, answered_refused}
 
 normalise_answered :
@@ -21,16 +21,16 @@ unfolding normalise_answer normalise_out normalised
 normalise_answered t a = (a.answer, a.output)
 
 module _ {t marks : List ℕ} {props vars moves : ℕ} (h : HeadRead written t marks props vars moves) where
-  normal-is : normal_of (reading paper (only written) t) ≡ writes (normal_bytes (read_task t))
+  normal_is : normal_of (reading paper (only written) t) ≡ writes (normal_bytes (read_task t))
   unfolding normal_of
-  normal-is = ap normal_of h.is ∙ ap (λ k. writes (normal_bytes k)) (sym (task-is h))
+  normal_is = ap normal_of h.is ∙ ap (λ k. writes (normal_bytes k)) (sym (task_is h))
 
   -- the call's answer is what was written
-  pub normalise-written :
+  pub normalise_written :
       {old new : List ℕ} {r : WriteAnswer}
       → Answered (writes (normal_bytes (read_task t))) old new r
       → (r ≡ normalise_answer paper t old) × (new ≡ normalise_out paper t old)
-  normalise-written a = normalise_answered t (answered_same a (sym normal-is))
+  normalise_written a = normalise_answered t (answered_same a (sym normal_is))
 
 -- the table is refused
 pub normalise_refused :

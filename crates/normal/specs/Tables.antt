@@ -11,8 +11,8 @@ use Rattle.model.specs.NormalForm.{normal_block, normal_task}
 use Rattle.model.specs.Calls.{normal_bytes}
 use Rattle.model.specs.Theorems.NormalForm.Print.{normal_length_lem, normal_fits, written_length_lem}
 use Rattle.table.specs.Outlines.{HeadRead}
-use Rattle.reader.specs.Written.{read_task, Source, task-is}
-use Rattle.output.specs.Writing.{Written, written_join, written_same, Writing, writing_start, writing-rest, writing-behind, writing_step, writing-end}
+use Rattle.reader.specs.Written.{read_task, Source, task_is}
+use Rattle.output.specs.Writing.{Written, written_join, written_same, Writing, writing_start, writing_rest, writing_behind, writing_step, writing_end}
 use Rattle.normal_block.specs.Blocks.{block_print}
 
 -- "normal 64,000 bytes at most"
@@ -21,7 +21,7 @@ source_small {t} s = normal_fits (read_task t) (unfold paper length_limit in s.o
 
 -- an output of twice the table's length is long enough
 pub normal_twice : {t marks : List ℕ} {props vars moves : ℕ} → HeadRead written t marks props vars moves → length (normal_bytes (read_task t)) ≤ 2 * length t
-normal_twice {t} h = rw (task-is h) (omega (arith, normal_length_lem h.table.task, written_length_lem t h.is))
+normal_twice {t} h = rw (task_is h) (omega (arith, normal_length_lem h.table.task, written_length_lem t h.is))
 
 -- ---- the bytes of the moves
 
@@ -66,20 +66,20 @@ pub moves_start : (ms : List Block) (old : List ℕ) (start : ℕ) → MovesWrit
 moves_start ms old start = record { within = omega arith; writing = writing_start old start (moves_print ms) }
 
 module _ {ms : List Block} {b : ℕ} {old : List ℕ} {start : ℕ} {new : List ℕ} {to : ℕ} (p : MovesWriting ms b old start new to) where
-  pub moves-short : b < length ms → start + length (moves_print ms) ≤ 64_000 → to + 1 + length (block_print (get_or ms b [])) ≤ 64_000
-  moves-short h short =
+  pub moves_short : b < length ms → start + length (moves_print ms) ≤ 64_000 → to + 1 + length (block_print (get_or ms b [])) ≤ 64_000
+  moves_short h short =
       omega
-      (arith, writing-behind p.writing, ap length (moves_next ms b h), length-append (code_of open_move ∷ block_print (get_or ms b [])) (moves_print (drop (b + 1) ms)))
+      (arith, writing_behind p.writing, ap length (moves_next ms b h), length-append (code_of open_move ∷ block_print (get_or ms b [])) (moves_print (drop (b + 1) ms)))
 
-  pub moves-step :
+  pub moves_step :
       b < length ms
       → {next : List ℕ} {on : ℕ}
       → Written new to (code_of open_move ∷ block_print (get_or ms b [])) next on
       → MovesWriting ms (b + 1) old start next on
-  moves-step h w = record { within = omega arith; writing = writing_step (writing-rest p.writing (moves_next ms b h)) w }
+  moves_step h w = record { within = omega arith; writing = writing_step (writing_rest p.writing (moves_next ms b h)) w }
 
-  pub moves-end : length ms ≤ b → Written old start (moves_print ms) new to
-  moves-end h = writing-end (writing-rest p.writing (moves_none ms b (omega (arith, p.within))))
+  pub moves_end : length ms ≤ b → Written old start (moves_print ms) new to
+  moves_end h = writing_end (writing_rest p.writing (moves_none ms b (omega (arith, p.within))))
 
 -- ---- the whole table
 

@@ -8,10 +8,10 @@ use Rattle.model.specs.Seen.{comparison_of, kind_of}
 use Rattle.model.specs.NormalForm.{normal_condition, normal_effect, normal_item, normal_block}
 use Rattle.block.specs.Items.{behind, Next}
 use Rattle.block.specs.Terms.{terms_at}
-use Rattle.block.specs.Remaining.{items_of, Remaining, remaining_none, FirstItem, first-item}
+use Rattle.block.specs.Remaining.{items_of, Remaining, remaining_none, FirstItem, first_item}
 use Rattle.block.specs.declared.ItemAt.{ItemAt}
 use Rattle.block.specs.declared.ItemAt.TheVariants.{Need, Add, Delete, Condition as ConditionAt, Effect as EffectAt, End}
-use Rattle.output.specs.Writing.{Written, Writing, writing_start, writing-rest, writing-behind, writing_step, writing-end}
+use Rattle.output.specs.Writing.{Written, Writing, writing_start, writing_rest, writing_behind, writing_step, writing_end}
 use Rattle.normal_condition.specs.Conditions.{items_append}
 use Rattle.normal_block.specs.Effects.{effect_print, effect_print_lem}
 
@@ -74,13 +74,13 @@ pub items_start :
 items_start {b} old start r = record { rest = b; remaining = r; writing = writing_start old start (block_print b) }
 
 module _ {part : List ℕ} {b : Block} {at : ℕ} {old : List ℕ} {start : ℕ} {new : List ℕ} {to : ℕ} (p : ItemsWriting part b at old start new to) where
-  pub items-split : at < length part → {i : ItemAt} → Next part at i → FirstItem part i p.rest
-  items-split h {i} n = first-item p.remaining h i n
+  pub items_split : at < length part → {i : ItemAt} → Next part at i → FirstItem part i p.rest
+  items_split h {i} n = first_item p.remaining h i n
 
-  pub items-short : start + length (block_print b) ≤ 64_000 → to ≤ 64_000
-  items-short h = omega (arith, writing-behind p.writing)
+  pub items_short : start + length (block_print b) ≤ 64_000 → to ≤ 64_000
+  items_short h = omega (arith, writing_behind p.writing)
 
-  pub items-step :
+  pub items_step :
       at < length part
       → {i : ItemAt}
       → Next part at i
@@ -88,13 +88,13 @@ module _ {part : List ℕ} {b : Block} {at : ℕ} {old : List ℕ} {start : ℕ}
       → Written new to (print_of part i) next on
       → after ≡ behind i
       → ItemsWriting part b after old start next on
-  items-step h {i} n q e =
-      let s = items-split h n in
+  items_step h {i} n q e =
+      let s = items_split h n in
       record {
         rest = s.others;
         remaining = rw e s.left;
-        writing = writing_step (writing-rest p.writing (first_bytes s)) q;
+        writing = writing_step (writing_rest p.writing (first_bytes s)) q;
       }
 
-  pub items-end : length part ≤ at → Written old start (block_print b) new to
-  items-end h = writing-end (writing-rest p.writing (remaining_end h p.remaining))
+  pub items_end : length part ≤ at → Written old start (block_print b) new to
+  items_end h = writing_end (writing_rest p.writing (remaining_end h p.remaining))

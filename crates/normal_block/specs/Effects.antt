@@ -8,7 +8,7 @@ use Rattle.model.specs.Command.{code_of, close_effect, kind_code, term_bytes, it
 use Rattle.model.specs.NormalForm.{negated, signed_sum, mirrored, normal_effect}
 use Rattle.block.specs.Terms.{SumAt, terms_at}
 use Rattle.normal_condition.specs.Signs.{negate_sum_if, negate_again, sum_bytes}
-use Rattle.normal_condition.specs.Sums.{sum-short}
+use Rattle.normal_condition.specs.Sums.{sum_short}
 
 -- the normal effect on v with value S + c, or −S + c
 unfoldable pub effect_bytes : Bool → ℕ → ℕ → List Term → ℤ → List ℕ
@@ -46,4 +46,4 @@ pub effect_long :
 unfolding effect_bytes
 effect_long m {part} {from} {n} s kd v c =
     let ts = terms_at part from n in
-    omega (arith, length-append (sum_bytes m ts) (code_of close_effect ∷ kd ∷ v ∷ signed_bytes 4 c), sum-short m s, length_signed_bytes 4 c)
+    omega (arith, length-append (sum_bytes m ts) (code_of close_effect ∷ kd ∷ v ∷ signed_bytes 4 c), sum_short m s, length_signed_bytes 4 c)

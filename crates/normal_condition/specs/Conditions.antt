@@ -8,7 +8,7 @@ use Rattle.model.specs.Command.{code_of, close_condition, comparison_code, item_
 use Rattle.model.specs.NormalForm.{least}
 use Rattle.block.specs.Terms.{SumAt, terms_at}
 use Rattle.normal_condition.specs.Signs.{negate_sum_if, sum_bytes}
-use Rattle.normal_condition.specs.Sums.{sum-short}
+use Rattle.normal_condition.specs.Sums.{sum_short}
 
 -- the items of two blocks, one behind the other
 pub items_append : (b d : Block) → items_bytes (b ++ d) ≡ items_bytes b ++ items_bytes d
@@ -29,4 +29,4 @@ pub condition_long :
 condition_long m {part} {from} {n} s c =
     let ts = terms_at part from n in
     rw (least_bytes m ts c)
-    (omega (arith, length-append (sum_bytes m ts) (code_of close_condition ∷ 0 ∷ signed_bytes 4 c), sum-short m s, length_signed_bytes 4 c))
+    (omega (arith, length-append (sum_bytes m ts) (code_of close_condition ∷ 0 ∷ signed_bytes 4 c), sum_short m s, length_signed_bytes 4 c))

@@ -62,13 +62,13 @@ unfoldable pub kept_bytes : Term → List ℕ
 kept_bytes t = elim (eqb (nat_abs t.weight) 0) [ true ↦ [] | false ↦ first_term (signed_term t) ]
 
 module _ (t : Term) where
-  pub bytes-dropped : eqb (nat_abs t.weight) 0 ≡ true → [] ≡ kept_bytes t
+  pub bytes_dropped : eqb (nat_abs t.weight) 0 ≡ true → [] ≡ kept_bytes t
   unfolding kept_bytes
-  bytes-dropped e = rw (kept_bytes, e) refl
+  bytes_dropped e = rw (kept_bytes, e) refl
 
-  pub bytes-kept : eqb (nat_abs t.weight) 0 ≡ false → first_term (signed_term t) ≡ kept_bytes t
+  pub bytes_kept : eqb (nat_abs t.weight) 0 ≡ false → first_term (signed_term t) ≡ kept_bytes t
   unfolding kept_bytes
-  bytes-kept e = rw (kept_bytes, e) refl
+  bytes_kept e = rw (kept_bytes, e) refl
 
 kept_first : (t : Term) (ts : List Term) → term_bytes (signed_sum (t ∷ ts)) ≡ kept_bytes t ++ term_bytes (signed_sum ts)
 unfolding signed_sum kept term_bytes kept_bytes first_term

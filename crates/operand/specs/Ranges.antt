@@ -58,9 +58,9 @@ module _ (o : ℕ) (b : Bool) (os : List Operand) where
   unfolding offset_of first_wrong
   wrong_first e = rw e refl
 
-  pub wrong-later : {n : ℕ} → b ≡ true → n ≡ offset_of (first_wrong os) → n ≡ offset_of (first_wrong (record { offset = o; in_range = b } ∷ os))
+  pub wrong_later : {n : ℕ} → b ≡ true → n ≡ offset_of (first_wrong os) → n ≡ offset_of (first_wrong (record { offset = o; in_range = b } ∷ os))
   unfolding first_wrong
-  wrong-later e k = rw e k
+  wrong_later e k = rw e k
 
 pub wrong_none : 0 ≡ offset_of (first_wrong [])
 unfolding offset_of first_wrong

@@ -7,7 +7,7 @@ use Rattle.model.specs.declared.WriteAnswer.{WriteAnswer}
 use Rattle.model.specs.declared.WriteAnswer.TheVariants as write
 use Rattle.model.specs.Memory.{overwrite}
 use Rattle.model.specs.Calls.{Output, writes, turns, fitted, write_answer, output_after}
-use Rattle.model.specs.Theorems.Printing.Outputs.{fitted-whole, fitted_short}
+use Rattle.model.specs.Theorems.Printing.Outputs.{fitted_whole, fitted_short}
 use Rattle.output.specs.Writing.{Written, written_first}
 
 -- o is what the call writes, or why it turns back, 13 apart
@@ -25,25 +25,25 @@ answered_refused old {q} e = answered_same {o = turns q} {old = old} (record { a
 
 -- the bytes are written, or the output is too short for them
 module _ {old bs : List ℕ} {n : ℕ} (e : n ≡ length bs) where
-  pub answered-short : length old < n → Answered (writes bs) old old (write.Refused (record { number = 13; place = 0 }))
+  pub answered_short : length old < n → Answered (writes bs) old old (write.Refused (record { number = 13; place = 0 }))
   unfolding write_answer output_after
-  answered-short h =
+  answered_short h =
       let o : turns (record { number = 13; place = 0 }) ≡ fitted (length old) (writes bs) = sym (fitted_short (length old) bs (omega arith)) in
       record { answer = ap write_answer o; output = ap (λ (x : Output). output_after x old) o }
 
-  pub answered-whole : n ≤ length old → {new : List ℕ} → new ≡ overwrite bs old → Answered (writes bs) old new (write.Written n)
+  pub answered_whole : n ≤ length old → {new : List ℕ} → new ≡ overwrite bs old → Answered (writes bs) old new (write.Written n)
   unfolding write_answer output_after
-  answered-whole h f =
-      let o : writes bs ≡ fitted (length old) (writes bs) = sym (fitted-whole (length old) bs (omega arith)) in
+  answered_whole h f =
+      let o : writes bs ≡ fitted (length old) (writes bs) = sym (fitted_whole (length old) bs (omega arith)) in
       record { answer = ap write.Written e ∙ ap write_answer o; output = f ∙ ap (λ (x : Output). output_after x old) o }
 
 -- the same by a test of the lengths
 module _ {old bs : List ℕ} {b : Bool} (test : b ≡ ltb (length old) (length bs)) where
-  pub answered-thirteen : b ≡ true → Answered (writes bs) old old (write.Refused (record { number = 13; place = 0 }))
-  answered-thirteen e = answered-short refl (ltb-true (length old) (length bs) (sym test ∙ e))
+  pub answered_thirteen : b ≡ true → Answered (writes bs) old old (write.Refused (record { number = 13; place = 0 }))
+  answered_thirteen e = answered_short refl (ltb-true (length old) (length bs) (sym test ∙ e))
 
-  pub answered-put : b ≡ false → {new : List ℕ} {n : ℕ} → Written old 0 bs new n → Answered (writes bs) old new (write.Written n)
-  answered-put e w =
+  pub answered_put : b ≡ false → {new : List ℕ} {n : ℕ} → Written old 0 bs new n → Answered (writes bs) old new (write.Written n)
+  answered_put e w =
       let size = w.behind ∙ zero-add (length bs) in
       let fits = ltb-false (length old) (length bs) (sym test ∙ e) in
-      answered-whole size (omega (arith, size, fits)) (written_first w (omega (arith, size, fits)))
+      answered_whole size (omega (arith, size, fits)) (written_first w (omega (arith, size, fits)))

@@ -2,9 +2,9 @@
 use Rattle.std.specs.Prelude.{ℕ, suc, ◌+◌, ◌-◌, ◌/◌, ◌%◌, ◌≤◌, ◌<◌, ◌≡◌, List, [], ◌∷◌, ◌++◌, length, set}
 use Rattle.std.proofs.Common.{add-one, arith, sym, ap, ◌∙◌, append-nil, length-append}
 use Rattle.std.proofs.Math.Seq.{append_snoc}
-use Rattle.integer.specs.Store.{put, put_nil, put_cons, length-put}
+use Rattle.integer.specs.Store.{put, put_nil, put_cons, length_put}
 use Rattle.model.specs.Listing.{decimal}
-use Rattle.model.specs.Theorems.Printing.Decimals.{decimal_small, decimal_large, decimal-some, length_small, length_large}
+use Rattle.model.specs.Theorems.Printing.Decimals.{decimal_small, decimal_large, decimal_some, length_small, length_large}
 use Rattle.output.specs.Writing.{Written, written_whole}
 
 -- `width` digits of n are counted, less one, and `rest` is the number that the other digits stand for
@@ -52,10 +52,10 @@ module _ {old : List ℕ} {at n width : ℕ} {new : List ℕ} {rest nth : ℕ} (
   place = at + (width - nth)
 
   pub nth_in : nth ≤ width
-  nth_in = omega (arith, s.left, decimal-some rest)
+  nth_in = omega (arith, s.left, decimal_some rest)
 
-  nth-less : 10 ≤ rest → nth < width
-  nth-less h = omega (arith, s.left, length_large rest h, decimal-some (rest / 10))
+  nth_less : 10 ≤ rest → nth < width
+  nth_less h = omega (arith, s.left, length_large rest h, decimal_some (rest / 10))
 
   -- the next digit and what stands behind it have room
   fits : place + suc (length s.behind) ≤ length old
@@ -64,18 +64,18 @@ module _ {old : List ℕ} {at n width : ℕ} {new : List ℕ} {rest nth : ℕ} (
       ap length s.whole ∙ length-append (decimal rest) s.behind in
       omega (arith, counts, s, nth_in)
 
-  pub stored-length : length new ≡ length old
-  stored-length = ap length s.is ∙ length-put old (place + 1) s.behind (omega (arith, fits))
+  pub stored_length : length new ≡ length old
+  stored_length = ap length s.is ∙ length_put old (place + 1) s.behind (omega (arith, fits))
 
-  next-digit : (d : ℕ) → set new place d ≡ put old place (d ∷ s.behind)
-  next-digit d =
+  next_digit : (d : ℕ) → set new place d ≡ put old place (d ∷ s.behind)
+  next_digit d =
       ap (λ (l : List ℕ). set l place d) (s.is ∙ ap (λ (k : ℕ). put old k s.behind) (add-one place))
       ∙ sym (put_cons old place d s.behind fits)
 
   pub stored_next : 10 ≤ rest → Stored old at n width (set new place (48 + rest % 10)) (rest / 10) (nth + 1)
   stored_next h =
       let d = 48 + rest % 10 in
-      let e : place ≡ at + (width - (nth + 1)) + 1 = omega (arith, nth-less h) in
+      let e : place ≡ at + (width - (nth + 1)) + 1 = omega (arith, nth_less h) in
       record {
         room = s.room;
         size = s.size;
@@ -86,14 +86,14 @@ module _ {old : List ℕ} {at n width : ℕ} {new : List ℕ} {rest nth : ℕ} (
             s.whole
             ∙ ap (λ (l : List ℕ). l ++ s.behind) (decimal_large rest h)
             ∙ append_snoc (decimal (rest / 10)) d s.behind;
-        is = next-digit d ∙ ap (λ (k : ℕ). put old k (d ∷ s.behind)) e;
+        is = next_digit d ∙ ap (λ (k : ℕ). put old k (d ∷ s.behind)) e;
       }
 
-  pub stored-all : rest < 10 → Written old at (decimal n) (set new place (48 + rest)) (at + width)
-  stored-all h =
+  pub stored_all : rest < 10 → Written old at (decimal n) (set new place (48 + rest)) (at + width)
+  stored_all h =
       let d = 48 + rest in
       let e : place ≡ at = omega (arith, s.left, length_small rest h) in
       let w : decimal n ≡ d ∷ s.behind = s.whole ∙ ap (λ (l : List ℕ). l ++ s.behind) (decimal_small rest h) in
       written_whole (omega (arith, s.room, s.size))
-      (next-digit d ∙ ap (λ (k : ℕ). put old k (d ∷ s.behind)) e ∙ ap (put old at) (sym w))
+      (next_digit d ∙ ap (λ (k : ℕ). put old k (d ∷ s.behind)) e ∙ ap (put old at) (sym w))
       (ap (λ (k : ℕ). at + k) s.size)

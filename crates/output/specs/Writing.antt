@@ -4,7 +4,7 @@
 use Rattle.std.specs.Prelude.{ℕ, suc, ◌+◌, ◌^◌, ◌≤◌, ◌<◌, ◌≡◌, refl, List, [], ◌∷◌, ◌++◌, length, get_or, set, take}
 use Rattle.std.proofs.Common.{add-one, arith, sym, ap, ap₂, ◌∙◌, subst, append_assoc, append-nil, length-append, length-set, take-suc}
 use Rattle.std.proofs.Math.Seq.{take-length}
-use Rattle.integer.specs.Store.{put, put_nil, put_cons, put_append, length-put}
+use Rattle.integer.specs.Store.{put, put_nil, put_cons, put_append, length_put}
 use Rattle.model.specs.Memory.{overwrite}
 use Rattle.model.specs.Theorems.Printing.Outputs.{put_first}
 
@@ -24,7 +24,7 @@ pub written_whole :
     → next ≡ at + length bs
     → Written old at bs new next
 written_whole {old} {at} {bs} fits is behind =
-    record { behind = behind; kept = ap length is ∙ length-put old at bs fits; is = λ h. is }
+    record { behind = behind; kept = ap length is ∙ length_put old at bs fits; is = λ h. is }
 
 -- they do not
 pub written_not :
@@ -102,16 +102,16 @@ pub writing_start : (old : List ℕ) (at : ℕ) (bs : List ℕ) → Writing old 
 writing_start old at bs = record { done = []; so_far = written_none old at; whole = refl }
 
 module _ {old : List ℕ} {at : ℕ} {bs new : List ℕ} {to : ℕ} where
-  pub writing-rest : {rest more : List ℕ} → Writing old at bs new to rest → rest ≡ more → Writing old at bs new to more
-  writing-rest p e = subst (Writing old at bs new to) e p
+  pub writing_rest : {rest more : List ℕ} → Writing old at bs new to rest → rest ≡ more → Writing old at bs new to more
+  writing_rest p e = subst (Writing old at bs new to) e p
 
   -- the offset behind all of it
-  pub writing-behind : {rest : List ℕ} → Writing old at bs new to rest → to + length rest ≡ at + length bs
-  writing-behind {rest} p = omega (arith, p.so_far.behind, ap length p.whole, length-append p.done rest)
+  pub writing_behind : {rest : List ℕ} → Writing old at bs new to rest → to + length rest ≡ at + length bs
+  writing_behind {rest} p = omega (arith, p.so_far.behind, ap length p.whole, length-append p.done rest)
 
   -- there is room for the next piece
-  pub writing-room : (cs ds : List ℕ) → Writing old at bs new to (cs ++ ds) → Room at bs → Room to cs
-  writing-room cs ds p r = record { short = omega (arith, writing-behind p, length-append cs ds, r.short) }
+  pub writing_room : (cs ds : List ℕ) → Writing old at bs new to (cs ++ ds) → Room at bs → Room to cs
+  writing_room cs ds p r = record { short = omega (arith, writing_behind p, length-append cs ds, r.short) }
 
   pub writing_step :
       {cs ds next : List ℕ} {on : ℕ} → Writing old at bs new to (cs ++ ds) → Written new to cs next on → Writing old at bs next on ds
@@ -122,8 +122,8 @@ module _ {old : List ℕ} {at : ℕ} {bs new : List ℕ} {to : ℕ} where
         whole = p.whole ∙ sym (append_assoc p.done cs ds);
       }
 
-  pub writing-end : Writing old at bs new to [] → Written old at bs new to
-  writing-end p = written_same p.so_far (sym (p.whole ∙ append-nil p.done))
+  pub writing_end : Writing old at bs new to [] → Written old at bs new to
+  writing_end p = written_same p.so_far (sym (p.whole ∙ append-nil p.done))
 
 -- ---- a word, byte by byte: the first i bytes stand there
 

@@ -4,18 +4,18 @@ use Rattle.std.proofs.Common.{arith, sym, ap₂, ◌∙◌, subst, length-append
 use Rattle.std.specs.Prelude.{◌≡◌, refl, List, [], ◌++◌, ℤ, length, take, drop}
 use Rattle.std.proofs.Math.Path.{ap}
 use Rattle.std.proofs.Math.ListN.{drop_of_length-le}
-use Rattle.integer.specs.Store.{put, drop-put-at}
+use Rattle.integer.specs.Store.{put, drop_put_at}
 use Rattle.model.specs.Plan.{Record, layer_records, records_from}
 use Rattle.model.specs.Calls.{record_bytes}
 use Rattle.model.specs.Theorems.Plans.Records.{length_record_bytes}
 use Rattle.descent.specs.Layers.{Stored}
 use Rattle.records.specs.Records.{kept_records, kept_bytes, KeptBefore, count_at, record_bytes_append, record_bytes_layer, records_layer_length}
-use Rattle.passes.specs.Passes.{recordsBelow, plan_records, Counted, split-start, split-next, down}
+use Rattle.passes.specs.Passes.{records_below, plan_records, Counted, split_start, split_next, down}
 
 -- the n records of the layers from t on stand at the end of the bytes, if they fit
 pub record Kept {table marks : List ℕ} {layers : List ℤ} {props vars moves m : ℕ} (x : Stored table marks layers props vars moves m) (t n : ℕ) (kept : List ℕ) : Type 0 where
   pub later : List Record
-  pub split : plan_records x ≡ recordsBelow x t ++ later
+  pub split : plan_records x ≡ records_below x t ++ later
   pub many : n ≡ length later
   pub bytes : n ≤ kept_records → drop (kept_bytes - 10 * n) kept ≡ record_bytes later
 
@@ -27,7 +27,7 @@ module _ {table marks : List ℕ} {layers : List ℤ} {props vars moves m : ℕ}
   pub kept_start : {kept : List ℕ} → kept_bytes ≡ length kept → Kept x m 0 kept
   unfolding record_bytes
   kept_start {kept} e =
-      record { later = []; split = split-start x; many = refl; bytes = λ h. drop_of_length-le kept {i = kept_bytes - 10 * 0} (omega arith) }
+      record { later = []; split = split_start x; many = refl; bytes = λ h. drop_of_length-le kept {i = kept_bytes - 10 * 0} (omega arith) }
 
   pub kept_next :
       {t n c : ℕ} {kept counts more : List ℕ} → t < m → kept_bytes ≡ length kept → Kept x (suc t) n kept → Counted x t counts
@@ -39,30 +39,30 @@ module _ {table marks : List ℕ} {layers : List ℤ} {props vars moves m : ℕ}
       let bs = record_bytes (layer_records 0 (count_at counts) 0 moves) in
       record {
         later = layer ++ s.later;
-        split = split-next x s.later h counted s.split;
+        split = split_next x s.later h counted s.split;
         many = omega (arith, is, s.many, length-append layer s.later, records_layer_length t (count_at counts) 0 moves);
         bytes =
             λ few.
             let at = kept_bytes - 10 * (n + c) in
             let place : at + length bs ≡ kept_bytes - 10 * n = omega (arith, length_record_bytes (layer_records 0 (count_at counts) 0 moves), is) in
             ap (drop at) (e.is few)
-            ∙ drop-put-at kept at bs (omega (arith, place))
+            ∙ drop_put_at kept at bs (omega (arith, place))
             ∙ ap (λ (i : ℕ). bs ++ drop i kept) place
             ∙ ap₂ ◌++◌ (sym (record_bytes_layer t (count_at counts) 0 moves)) (s.bytes (omega arith))
             ∙ sym (record_bytes_append layer s.later);
       }
 
-  pub kept-end : (t : ℕ) {n : ℕ} {kept : List ℕ} → t ≤ 0 → Kept x t n kept → KeptWhole x n kept
+  pub kept_end : (t : ℕ) {n : ℕ} {kept : List ℕ} → t ≤ 0 → Kept x t n kept → KeptWhole x n kept
   unfolding records_from
-  kept-end zero h s = record { bytes = λ few. s.bytes few ∙ ap record_bytes (sym s.split) }
-  kept-end (suc t) h s = absurd (omega arith)
+  kept_end zero h s = record { bytes = λ few. s.bytes few ∙ ap record_bytes (sym s.split) }
+  kept_end (suc t) h s = absurd (omega arith)
 
   -- the copy of the kept records is the plan's output
-  pub kept-copied :
+  pub kept_copied :
       {n : ℕ} {kept new : List ℕ} (out : List ℕ) → n ≤ kept_records → n ≡ length (plan_records x) → 10 * n ≤ length out → KeptWhole x n kept
       → new ≡ put out 0 (take (length out) (take (kept_bytes - (kept_bytes - 10 * n)) (drop (kept_bytes - 10 * n) kept)))
       → new ≡ put out 0 (record_bytes (plan_records x))
-  kept-copied {n} {kept} {new} out few total room k e =
+  kept_copied {n} {kept} {new} out few total room k e =
       let rs = record_bytes (plan_records x) in
       let long = length_record_bytes (plan_records x) in
       e

@@ -11,7 +11,7 @@ use Rattle.block.specs.Remaining.{items_of}
 use Rattle.block.specs.declared.ItemAt.{ItemAt}
 use Rattle.block.specs.declared.ItemAt.TheVariants.{Need, Add, Delete, Condition as ConditionAt, Effect as EffectAt}
 use Rattle.pddl_sum.specs.Names.{name_text}
-use Rattle.pddl_block.specs.Rows.{rows-one, conditionRows, effectRows, lose_name}
+use Rattle.pddl_block.specs.Rows.{rows_one, condition_rows, effect_rows, lose_name}
 
 unfoldable pub condition_text : List ℕ → ℕ → ℤ → ℕ → ℕ → List ℕ
 condition_text part o c from n =
@@ -24,30 +24,30 @@ effect_text part kd v c from n =
 -- ---- the line of an item, by its kind
 
 module _ (line part : List ℕ) {i : ItemAt} where
-  pub need-row : {p next : ℕ} → i ≡ Need p next → conditionRows line (items_of part i) ≡ line ++ name_text (ascii "(p") p
-  unfolding conditionRows items_of formulas_of formula_text atom_text name_text
-  need-row {p} e = ap (λ (j : ItemAt). conditionRows line (items_of part j)) e ∙ rows-one line formula_text (atom p)
+  pub need_row : {p next : ℕ} → i ≡ Need p next → condition_rows line (items_of part i) ≡ line ++ name_text (ascii "(p") p
+  unfolding condition_rows items_of formulas_of formula_text atom_text name_text
+  need_row {p} e = ap (λ (j : ItemAt). condition_rows line (items_of part j)) e ∙ rows_one line formula_text (atom p)
 
-  pub condition-row : {o : ℕ} {c : ℤ} {from n next : ℕ} → i ≡ ConditionAt o c from n next → conditionRows line (items_of part i) ≡ line ++ condition_text part o c from n
-  unfolding conditionRows items_of formulas_of formula_text compare_of condition_text expression_text
-  condition-row {o} {c} {from} {n} e =
-      ap (λ (j : ItemAt). conditionRows line (items_of part j)) e
-      ∙ rows-one line formula_text (compare (comparison_of o) (sum_of (terms_at part from n) (pos 0)) (number c))
+  pub condition_row : {o : ℕ} {c : ℤ} {from n next : ℕ} → i ≡ ConditionAt o c from n next → condition_rows line (items_of part i) ≡ line ++ condition_text part o c from n
+  unfolding condition_rows items_of formulas_of formula_text compare_of condition_text expression_text
+  condition_row {o} {c} {from} {n} e =
+      ap (λ (j : ItemAt). condition_rows line (items_of part j)) e
+      ∙ rows_one line formula_text (compare (comparison_of o) (sum_of (terms_at part from n) (pos 0)) (number c))
 
-  pub add_row : {p next : ℕ} → i ≡ Add p next → effectRows line (items_of part i) ≡ line ++ name_text (ascii "(p") p
-  unfolding effectRows items_of changes_of change_text atom_text name_text
-  add_row {p} e = ap (λ (j : ItemAt). effectRows line (items_of part j)) e ∙ rows-one line change_text (gain p)
+  pub add_row : {p next : ℕ} → i ≡ Add p next → effect_rows line (items_of part i) ≡ line ++ name_text (ascii "(p") p
+  unfolding effect_rows items_of changes_of change_text atom_text name_text
+  add_row {p} e = ap (λ (j : ItemAt). effect_rows line (items_of part j)) e ∙ rows_one line change_text (gain p)
 
-  pub delete-row : {p next : ℕ} → i ≡ Delete p next → effectRows line (items_of part i) ≡ line ++ name_text (ascii "(not (p") p ++ ascii ")"
-  unfolding effectRows items_of changes_of
-  delete-row {p} e =
-      ap (λ (j : ItemAt). effectRows line (items_of part j)) e
-      ∙ rows-one line change_text (lose p)
+  pub delete_row : {p next : ℕ} → i ≡ Delete p next → effect_rows line (items_of part i) ≡ line ++ name_text (ascii "(not (p") p ++ ascii ")"
+  unfolding effect_rows items_of changes_of
+  delete_row {p} e =
+      ap (λ (j : ItemAt). effect_rows line (items_of part j)) e
+      ∙ rows_one line change_text (lose p)
       ∙ ap (λ (l : List ℕ). line ++ l) (sym (lose_name p))
       ∙ sym (append_assoc line (name_text (ascii "(not (p") p) (ascii ")"))
 
-  pub effect-row : {kd v : ℕ} {c : ℤ} {from n next : ℕ} → i ≡ EffectAt kd v c from n next → effectRows line (items_of part i) ≡ line ++ effect_text part kd v c from n
-  unfolding effectRows items_of changes_of change_text alter_of effect_text head_text name_text
-  effect-row {kd} {v} {c} {from} {n} e =
-      ap (λ (j : ItemAt). effectRows line (items_of part j)) e
-      ∙ rows-one line change_text (alter (kind_of kd) v (sum_of (terms_at part from n) c))
+  pub effect_row : {kd v : ℕ} {c : ℤ} {from n next : ℕ} → i ≡ EffectAt kd v c from n next → effect_rows line (items_of part i) ≡ line ++ effect_text part kd v c from n
+  unfolding effect_rows items_of changes_of change_text alter_of effect_text head_text name_text
+  effect_row {kd} {v} {c} {from} {n} e =
+      ap (λ (j : ItemAt). effect_rows line (items_of part j)) e
+      ∙ rows_one line change_text (alter (kind_of kd) v (sum_of (terms_at part from n) c))

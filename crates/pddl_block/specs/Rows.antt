@@ -22,9 +22,9 @@ module _ {A : Type 0} (line : List ℕ) (print : A → List ℕ) where
   rows_append (x ∷ xs) ys =
       ap (λ (l : List ℕ). line ++ print x ++ l) (rows_append xs ys) ∙ sym (append_assoc (line ++ print x) (rows xs) (rows ys))
 
-  pub rows-one : (x : A) → rows (x ∷ []) ≡ line ++ print x
+  pub rows_one : (x : A) → rows (x ∷ []) ≡ line ++ print x
   unfolding rows
-  rows-one x = append-nil (line ++ print x)
+  rows_one x = append-nil (line ++ print x)
 
 -- a list of the text is its elements and a closing bracket
 pub lines_rows : {A : Type 0} (indent : String) (print : A → List ℕ) (xs : List A) → lines indent print xs ≡ rows (ascii "\n" ++ ascii indent) print xs ++ ascii ")"
@@ -38,11 +38,11 @@ lines_rows indent print (x ∷ xs) =
 -- ---- the conditions and the effects of a block
 
 module _ (line : List ℕ) where
-  unfoldable pub conditionRows : Block → List ℕ
-  conditionRows b = rows line formula_text (formulas_of b)
+  unfoldable pub condition_rows : Block → List ℕ
+  condition_rows b = rows line formula_text (formulas_of b)
 
-  unfoldable pub effectRows : Block → List ℕ
-  effectRows b = rows line change_text (changes_of b)
+  unfoldable pub effect_rows : Block → List ℕ
+  effect_rows b = rows line change_text (changes_of b)
 
 formulas_append : (b d : Block) → formulas_of (b ++ d) ≡ formulas_of b ++ formulas_of d
 unfolding formulas_of
@@ -63,13 +63,13 @@ changes_append (condition c ∷ b) d = changes_append b d
 changes_append (effect e ∷ b) d = ap (λ l. alter_of e ∷ l) (changes_append b d)
 
 module _ (line : List ℕ) where
-  pub conditions-append : (b d : Block) → conditionRows line (b ++ d) ≡ conditionRows line b ++ conditionRows line d
-  unfolding conditionRows
-  conditions-append b d = ap (rows line formula_text) (formulas_append b d) ∙ rows_append line formula_text (formulas_of b) (formulas_of d)
+  pub conditions_append : (b d : Block) → condition_rows line (b ++ d) ≡ condition_rows line b ++ condition_rows line d
+  unfolding condition_rows
+  conditions_append b d = ap (rows line formula_text) (formulas_append b d) ∙ rows_append line formula_text (formulas_of b) (formulas_of d)
 
-  pub effects-append : (b d : Block) → effectRows line (b ++ d) ≡ effectRows line b ++ effectRows line d
-  unfolding effectRows
-  effects-append b d = ap (rows line change_text) (changes_append b d) ∙ rows_append line change_text (changes_of b) (changes_of d)
+  pub effects_append : (b d : Block) → effect_rows line (b ++ d) ≡ effect_rows line b ++ effect_rows line d
+  unfolding effect_rows
+  effects_append b d = ap (rows line change_text) (changes_append b d) ∙ rows_append line change_text (changes_of b) (changes_of d)
 
 -- ---- names
 

@@ -3,9 +3,9 @@ use Rattle.std.specs.Prelude.{ℕ, ◌≤◌, ◌<◌, ◌≡◌, List, [], ◌+
 use Rattle.std.proofs.Common.{ap, ◌∙◌}
 use Rattle.model.specs.Task.{Block}
 use Rattle.block.specs.Items.{behind, Next}
-use Rattle.block.specs.Remaining.{items_of, Remaining, remaining_none, FirstItem, first-item}
+use Rattle.block.specs.Remaining.{items_of, Remaining, remaining_none, FirstItem, first_item}
 use Rattle.block.specs.declared.ItemAt.{ItemAt}
-use Rattle.output.specs.Writing.{Written, Room, Writing, writing_start, writing-rest, writing-room, writing_step, writing-end}
+use Rattle.output.specs.Writing.{Written, Room, Writing, writing_start, writing_rest, writing_room, writing_step, writing_end}
 
 -- the block's items stand in the part, and there is room for their text from `start` on
 pub record Printable (text : Block → List ℕ) (part : List ℕ) (start : ℕ) : Type 0 where
@@ -24,19 +24,19 @@ module _ (text : Block → List ℕ) where
   items_start {b} old start r = record { rest = b; remaining = r; writing = writing_start old start (text b) }
 
   module _ (append : (b d : Block) → text (b ++ d) ≡ text b ++ text d) {part : List ℕ} {b : Block} {at : ℕ} {old : List ℕ} {start : ℕ} {new : List ℕ} {to : ℕ} (p : ItemsWriting part b at old start new to) where
-    pub items-first : at < length part → {i : ItemAt} → Next part at i → FirstItem part i p.rest
-    items-first h {i} n = first-item p.remaining h i n
+    pub items_first : at < length part → {i : ItemAt} → Next part at i → FirstItem part i p.rest
+    items_first h {i} n = first_item p.remaining h i n
 
-    first-text : {i : ItemAt} (f : FirstItem part i p.rest) → text p.rest ≡ text (items_of part i) ++ text f.others
-    first-text {i} f = ap text f.is ∙ append (items_of part i) f.others
+    first_text : {i : ItemAt} (f : FirstItem part i p.rest) → text p.rest ≡ text (items_of part i) ++ text f.others
+    first_text {i} f = ap text f.is ∙ append (items_of part i) f.others
 
     -- there is room for the next
-    pub items-room : at < length part → {i : ItemAt} → Next part at i → Room start (text b) → Room to (text (items_of part i))
-    items-room h {i} n r =
-        let f = items-first h n in
-        writing-room (text (items_of part i)) (text f.others) (writing-rest p.writing (first-text f)) r
+    pub items_room : at < length part → {i : ItemAt} → Next part at i → Room start (text b) → Room to (text (items_of part i))
+    items_room h {i} n r =
+        let f = items_first h n in
+        writing_room (text (items_of part i)) (text f.others) (writing_rest p.writing (first_text f)) r
 
-    pub items-step :
+    pub items_step :
         at < length part
         → {i : ItemAt}
         → Next part at i
@@ -44,13 +44,13 @@ module _ (text : Block → List ℕ) where
         → Written new to (text (items_of part i)) next on
         → after ≡ behind i
         → ItemsWriting part b after old start next on
-    items-step h {i} n w e =
-        let f = items-first h n in
+    items_step h {i} n w e =
+        let f = items_first h n in
         record {
           rest = f.others;
           remaining = rw e f.left;
-          writing = writing_step (writing-rest p.writing (first-text f)) w;
+          writing = writing_step (writing_rest p.writing (first_text f)) w;
         }
 
-    pub items-end : text [] ≡ [] → length part ≤ at → Written old start (text b) new to
-    items-end none h = writing-end (writing-rest p.writing (ap text (remaining_none h p.remaining) ∙ none))
+    pub items_end : text [] ≡ [] → length part ≤ at → Written old start (text b) new to
+    items_end none h = writing_end (writing_rest p.writing (ap text (remaining_none h p.remaining) ∙ none))

@@ -8,7 +8,7 @@ ghost use Rattle.model.specs.Limits.{comparison_in_range};
 ghost use Rattle.model.specs.Pddl.{comparison_text, kind_text};
 ghost use Rattle.block.specs.Remaining.{items_of, Writable, ConditionWritable, EffectWritable, Remaining};
 ghost use Rattle.output.specs.Writing.{Written, Room};
-ghost use Rattle.pddl_block.specs.Rows.{conditionRows, effectRows};
+ghost use Rattle.pddl_block.specs.Rows.{condition_rows, effect_rows};
 ghost use Rattle.pddl_block.specs.Items.{condition_text, effect_text};
 ghost use Rattle.pddl_block.specs.Walking.{Printable};
 
@@ -83,8 +83,8 @@ fn put_effect(
 
 // The line of an item that is a condition; nothing for an effect.
 fn put_formula(part: &[u8], item: ItemAt, line: &[u8], out: &mut [u8], at: usize) -> usize
-    requires { (Writable part.now item) × Room at (conditionRows line.now (items_of part.now item)) }
-    ensures { Written out.old at (conditionRows line.now (items_of part.now item)) out.new result }
+    requires { (Writable part.now item) × Room at (condition_rows line.now (items_of part.now item)) }
+    ensures { Written out.old at (condition_rows line.now (items_of part.now item)) out.new result }
 {
     match item {
         ItemAt::Need { prop, after: _ } => {
@@ -107,8 +107,8 @@ fn put_formula(part: &[u8], item: ItemAt, line: &[u8], out: &mut [u8], at: usize
 
 // The line of an item that is an effect; nothing for a condition.
 fn put_change(part: &[u8], item: ItemAt, line: &[u8], out: &mut [u8], at: usize) -> usize
-    requires { (Writable part.now item) × Room at (effectRows line.now (items_of part.now item)) }
-    ensures { Written out.old at (effectRows line.now (items_of part.now item)) out.new result }
+    requires { (Writable part.now item) × Room at (effect_rows line.now (items_of part.now item)) }
+    ensures { Written out.old at (effect_rows line.now (items_of part.now item)) out.new result }
 {
     match item {
         ItemAt::Add { prop, after: _ } => {
@@ -137,8 +137,8 @@ fn put_change(part: &[u8], item: ItemAt, line: &[u8], out: &mut [u8], at: usize)
 
 // The conditions of a block in their order, each behind the bytes `line`.
 pub fn put_conditions(part: &[u8], line: &[u8], out: &mut [u8], start: usize) -> usize
-    requires { Printable (conditionRows line.now) part.now start }
-    ensures { (b : Block) → Remaining part.now 1 b → Written out.old start (conditionRows line.now b) out.new result }
+    requires { Printable (condition_rows line.now) part.now start }
+    ensures { (b : Block) → Remaining part.now 1 b → Written out.old start (condition_rows line.now b) out.new result }
 {
     let mut at = 1;
     let mut to = start;
@@ -152,8 +152,8 @@ pub fn put_conditions(part: &[u8], line: &[u8], out: &mut [u8], start: usize) ->
 
 // The effects of a block in their order, each behind the bytes `line`.
 pub fn put_effects(part: &[u8], line: &[u8], out: &mut [u8], start: usize) -> usize
-    requires { Printable (effectRows line.now) part.now start }
-    ensures { (b : Block) → Remaining part.now 1 b → Written out.old start (effectRows line.now b) out.new result }
+    requires { Printable (effect_rows line.now) part.now start }
+    ensures { (b : Block) → Remaining part.now 1 b → Written out.old start (effect_rows line.now b) out.new result }
 {
     let mut at = 1;
     let mut to = start;

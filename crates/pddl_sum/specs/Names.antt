@@ -4,7 +4,7 @@ use Rattle.std.proofs.Common.{add-one, sym, ap, ap₂, ◌∙◌}
 use native.Mathlib.Omega.{arith}
 use Rattle.model.specs.Ascii.{ascii}
 use Rattle.model.specs.Listing.{decimal}
-use Rattle.output.specs.Writing.{Written, Room, Writing, writing_start, writing-rest, writing-room, writing_step, writing-end}
+use Rattle.output.specs.Writing.{Written, Room, Writing, writing_start, writing_rest, writing_room, writing_step, writing_end}
 
 -- a name: what opens it, its number and a closing bracket
 unfoldable pub name_text : List ℕ → ℕ → List ℕ
@@ -40,15 +40,15 @@ each_next f n i h =
     ap (each f i) e ∙ ap (λ (j : ℕ). f i ++ each f j (n - (i + 1))) (sym (add-one i))
 
 module _ {f : ℕ → List ℕ} {n i : ℕ} {old : List ℕ} {at : ℕ} {new : List ℕ} {to : ℕ} (p : EachWriting f n i old at new to) where
-  pub each-room : i < n → Room at (each f 0 n) → Room to (f i)
-  each-room h r = writing-room (f i) (each f (i + 1) (n - (i + 1))) (writing-rest p.writing (each_next f n i h)) r
+  pub each_room : i < n → Room at (each f 0 n) → Room to (f i)
+  each_room h r = writing_room (f i) (each f (i + 1) (n - (i + 1))) (writing_rest p.writing (each_next f n i h)) r
 
   pub each_step : i < n → {next : List ℕ} {on : ℕ} → Written new to (f i) next on → EachWriting f n (i + 1) old at next on
-  each_step h w = record { within = omega arith; writing = writing_step (writing-rest p.writing (each_next f n i h)) w }
+  each_step h w = record { within = omega arith; writing = writing_step (writing_rest p.writing (each_next f n i h)) w }
 
-  pub each-end : n ≤ i → Written old at (each f 0 n) new to
+  pub each_end : n ≤ i → Written old at (each f 0 n) new to
   unfolding each
-  each-end h = let e : n - i ≡ 0 = omega arith in writing-end (writing-rest p.writing (ap (each f i) e))
+  each_end h = let e : n - i ≡ 0 = omega arith in writing_end (writing_rest p.writing (ap (each f i) e))
 
 -- ---- declarations
 

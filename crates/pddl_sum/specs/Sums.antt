@@ -8,8 +8,8 @@ use Rattle.model.specs.Listing.{decimal}
 use Rattle.model.specs.Task.{Term}
 use Rattle.model.specs.Pddl.{number_text, head_text, expression_text, sum_of}
 use Rattle.pddl_sum.specs.Names.{name_text}
-use Rattle.block.specs.Terms.{SumAt, term_of, terms_at, rest_all, rest-next, rest-none}
-use Rattle.output.specs.Writing.{Written, Writing, writing_start, writing-rest, writing-end}
+use Rattle.block.specs.Terms.{SumAt, term_of, terms_at, rest_all, rest_next, rest_none}
+use Rattle.output.specs.Writing.{Written, Writing, writing_start, writing_rest, writing_end}
 
 -- a number's text, by its sign
 pub number_negative : (z : ℤ) → z <ℤ pos 0 → number_text z ≡ ascii "-" ++ decimal (nat_abs z)
@@ -57,7 +57,7 @@ pub terms_start :
     (part : List ℕ) (from n : ℕ) (old : List ℕ) (at : ℕ)
     → Writing old at (term_texts (terms_at part from n)) old at (term_texts (terms_at part (from + 4 * 0) (n - 0)))
 terms_start part from n old at =
-    writing-rest (writing_start old at (term_texts (terms_at part from n))) (ap term_texts (sym (rest_all part from n)))
+    writing_rest (writing_start old at (term_texts (terms_at part from n))) (ap term_texts (sym (rest_all part from n)))
 
 -- the next term and the others
 pub terms_next :
@@ -66,7 +66,7 @@ pub terms_next :
     → term_texts (terms_at part (from + 4 * i) (n - i))
     ≡ term_text (term_of part (from + 4 * i)) ++ term_texts (terms_at part (from + 4 * (i + 1)) (n - (i + 1)))
 unfolding term_texts
-terms_next part from n i h = ap term_texts (rest-next part from n i h)
+terms_next part from n i h = ap term_texts (rest_next part from n i h)
 
 -- all are written
 pub terms_done :
@@ -75,7 +75,7 @@ pub terms_done :
     → Writing old at bs new to (term_texts (terms_at part (from + 4 * i) (n - i)))
     → Written old at bs new to
 unfolding term_texts
-terms_done part from n i h p = writing-end (writing-rest p (ap term_texts (rest-none part from n i h)))
+terms_done part from n i h p = writing_end (writing_rest p (ap term_texts (rest_none part from n i h)))
 
 -- ---- the closing brackets one by one
 
@@ -93,4 +93,4 @@ closes_next n i h = let e : n - i ≡ suc (n - (i + 1)) = omega arith in rw e re
 pub closes_done :
     (n i : ℕ) {old : List ℕ} {at : ℕ} {bs new : List ℕ} {to : ℕ} → n ≤ i → Writing old at bs new to (closes (n - i)) → Written old at bs new to
 unfolding closes
-closes_done n i h p = let e : n - i ≡ 0 = omega arith in writing-end (rw e at p)
+closes_done n i h p = let e : n - i ≡ 0 = omega arith in writing_end (rw e at p)

@@ -14,7 +14,7 @@ use Rattle.model.specs.Move.{State, move_at}
 use Rattle.model.specs.StateTable.{state_of}
 use Rattle.model.specs.Pddl.{given, equals, number_text, atom_text, head_text, formula_text, change_text, action_text, declarations, domain_text, fact_text, problem_text, formulas_of, changes_of, action_of, actions_from, domain_of, truths, values, problem_of}
 use Rattle.pddl_sum.specs.Names.{name_text, each, each_same, declared}
-use Rattle.pddl_block.specs.Rows.{rows, rows_append, lines_rows, conditionRows, effectRows}
+use Rattle.pddl_block.specs.Rows.{rows, rows_append, lines_rows, condition_rows, effect_rows}
 
 -- the lines of a list that is made from numbers
 pub rows_tabulate : {A : Type 0} (line : List ℕ) (print : A → List ℕ) (f : ℕ → A) (i n : ℕ) → rows line print (tabulate f i n) ≡ each (λ j. line ++ print (f j)) i n
@@ -68,13 +68,13 @@ truths_rows s i (suc n) = go (s.has i) (truths_rows s (suc i) n)
 
 -- by the proposition's byte
 module _ (props : ℕ) (bs : List ℕ) (p : ℕ) where
-  pub true-row : get_or bs p 0 ≡ 1 → truth_row (state_of props bs) p ≡ name_text (ascii "\n    (p") p
+  pub true_row : get_or bs p 0 ≡ 1 → truth_row (state_of props bs) p ≡ name_text (ascii "\n    (p") p
   unfolding truth_row state_of
-  true-row e = ap (λ (b : Bool). elim b [ true ↦ name_text (ascii "\n    (p") p | false ↦ [] ]) (eq-eqb (get_or bs p 0) 1 e)
+  true_row e = ap (λ (b : Bool). elim b [ true ↦ name_text (ascii "\n    (p") p | false ↦ [] ]) (eq-eqb (get_or bs p 0) 1 e)
 
-  pub false-row : (get_or bs p 0 ≡ 1 → ⊥) → truth_row (state_of props bs) p ≡ []
+  pub false_row : (get_or bs p 0 ≡ 1 → ⊥) → truth_row (state_of props bs) p ≡ []
   unfolding truth_row state_of
-  false-row n = ap (λ (b : Bool). elim b [ true ↦ name_text (ascii "\n    (p") p | false ↦ [] ]) (ne_eqb (get_or bs p 0) 1 n)
+  false_row n = ap (λ (b : Bool). elim b [ true ↦ name_text (ascii "\n    (p") p | false ↦ [] ]) (ne_eqb (get_or bs p 0) 1 n)
 
 -- a variable's value on its line
 unfoldable pub value_text : ℕ → ℤ → List ℕ
@@ -101,16 +101,16 @@ action_row b m =
     ascii "\n  (:action a"
     ++ decimal b
     ++ ascii "\n    :parameters ()\n    :precondition (and"
-    ++ conditionRows (ascii "\n      ") m
+    ++ condition_rows (ascii "\n      ") m
     ++ ascii ")\n    :effect (and"
-    ++ effectRows (ascii "\n      ") m
+    ++ effect_rows (ascii "\n      ") m
     ++ ascii "))"
 
 unfoldable pub action_at : Task → ℕ → List ℕ
 action_at k b = action_row b (move_at k b)
 
 action_line : (b : ℕ) (m : Block) → ascii "\n" ++ ascii "  " ++ action_text (action_of b m) ≡ action_row b m
-unfolding action_text action_of action_row conditionRows effectRows
+unfolding action_text action_of action_row condition_rows effect_rows
 action_line b m =
     rw (lines_rows "      " formula_text (formulas_of m), lines_rows "      " change_text (changes_of m))
     (simp append_assoc (unfold ascii in refl))
@@ -155,11 +155,11 @@ problem_pieces s props vars goal =
     ++ each (truth_row s) 0 props
     ++ each (value_row s) 0 vars
     ++ ascii ")\n  (:goal (and"
-    ++ conditionRows (ascii "\n    ") goal
+    ++ condition_rows (ascii "\n    ") goal
     ++ ascii ")))\n"
 
 pub problem_pieces_lem : (k : Task) (s : State) → problem_pieces s k.props k.vars k.goal ≡ problem_text (problem_of k s)
-unfolding problem_text problem_of conditionRows problem_pieces
+unfolding problem_text problem_of condition_rows problem_pieces
 problem_pieces_lem k s =
     rw (lines_rows "    " fact_text (truths s 0 k.props ++ values s k.vars), rows_append (ascii "\n" ++ ascii "    ") fact_text (truths s 0 k.props) (values s k.vars), truths_rows s 0 k.props, values_rows s k.vars, lines_rows "    " formula_text (formulas_of k.goal))
     (simp append_assoc (unfold ascii in refl))

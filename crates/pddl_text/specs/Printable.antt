@@ -11,10 +11,10 @@ use Rattle.model.specs.Move.{State}
 use Rattle.model.specs.StateTable.{state_of, state_refusal}
 use Rattle.model.specs.Pddl.{task_text}
 use Rattle.model.specs.Theorems.Reading.States.{accepted_state}
-use Rattle.model.specs.Theorems.Pddl.Sizes.{accepted-size}
+use Rattle.model.specs.Theorems.Pddl.Sizes.{accepted_size}
 use Rattle.table.specs.Outlines.{HeadRead}
 use Rattle.block.specs.Remaining.{Remaining}
-use Rattle.reader.specs.Written.{read_task, Source, task-is, head-source, head-short}
+use Rattle.reader.specs.Written.{read_task, Source, task_is, head_source, head_short}
 use Rattle.output.specs.Writing.{Room}
 use Rattle.pddl_text.specs.Documents.{action_row, domain_pieces, domain_pieces_lem, problem_pieces, problem_pieces_lem}
 
@@ -50,31 +50,31 @@ module _ {t marks : List ℕ} {props vars moves : ℕ} {bs : List ℕ} (p : Prin
   s = state_of props bs
 
   pub source : Source t marks moves
-  source = head-source p.read
+  source = head_source p.read
 
-  pub state-long : props + 4 * vars ≤ length bs
-  state-long = omega (arith, (accepted_state paper props vars bs p.state).length_is)
+  pub state_long : props + 4 * vars ≤ length bs
+  state_long = omega (arith, (accepted_state paper props vars bs p.state).length_is)
 
   -- the whole text in its pieces
-  pub text-pieces : domain_pieces (read_task t) props vars moves ++ problem_pieces s props vars (read_task t).goal ≡ task_text (read_task t) s
+  pub text_pieces : domain_pieces (read_task t) props vars moves ++ problem_pieces s props vars (read_task t).goal ≡ task_text (read_task t) s
   unfolding task_text
-  text-pieces =
+  text_pieces =
       let h = p.read in
       let k = read_task t in
-      let props_is : props ≡ k.props = rw (task-is h) h.props_is in
-      let vars_is : vars ≡ k.vars = rw (task-is h) h.vars_is in
+      let props_is : props ≡ k.props = rw (task_is h) h.props_is in
+      let vars_is : vars ≡ k.vars = rw (task_is h) h.vars_is in
       let moves_is : moves ≡ length k.moves = source.count in
       ap₂ ◌++◌
       (ap₂ (λ (n m : ℕ). domain_pieces k n m moves) props_is vars_is ∙ ap (domain_pieces k k.props k.vars) moves_is ∙ domain_pieces_lem k)
       (ap₂ (λ (n m : ℕ). problem_pieces s n m k.goal) props_is vars_is ∙ problem_pieces_lem k s)
 
   -- ten bytes for each byte of the table and 10,000 more are enough for it
-  pub text-size : length (task_text (read_task t) s) ≤ 10 * length t + 10_000
-  text-size =
+  pub text_size : length (task_text (read_task t) s) ≤ 10 * length t + 10_000
+  text_size =
       let h = p.read in
       let k = h.table.task in
       let right : state_refusal paper k.props k.vars bs ≡ none = ap₂ (λ (n m : ℕ). state_refusal paper n m bs) (sym h.props_is) (sym h.vars_is) ∙ p.state in
-      rw (task-is h, h.props_is) (accepted-size t bs h.is right)
+      rw (task_is h, h.props_is) (accepted_size t bs h.is right)
 
-  pub text-room : Room 0 (task_text (read_task t) s)
-  text-room = record { short = omega (arith, text-size, head-short p.read) }
+  pub text_room : Room 0 (task_text (read_task t) s)
+  text_room = record { short = omega (arith, text_size, head_short p.read) }

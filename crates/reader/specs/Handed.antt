@@ -40,8 +40,8 @@ verdict_found t b k e l =
     }
 
 module _ {t : List ℕ} {v : Verdict} {r : ReadAnswer} {m : List ℕ} (b : ℕ) (h : Outlined t v r m) where
-  pub part-refused : (x : Refusal) {part : List ℕ} → r ≡ read.Refused x → part ≡ [] → Handed t b v part 0 x.number x.place
-  part-refused x e p =
+  pub part_refused : (x : Refusal) {part : List ℕ} → r ≡ read.Refused x → part ≡ [] → Handed t b v part 0 x.number x.place
+  part_refused x e p =
       let f : v ≡ refused x = answer_refused v x (sym h.answer ∙ e) in
       rw (f, p) (unfold part_of start_of no_block refusal_number refusal_place in (record { part_is = refl; from_is = refl; number_is = refl; place_is = refl }))
 
@@ -49,8 +49,8 @@ module _ {t : List ℕ} {v : Verdict} {r : ReadAnswer} {m : List ℕ} (b : ℕ) 
     found : Accepted v kind props vars moves
     found = answer_accepted v kind props vars moves (sym h.answer ∙ e)
 
-    pub part-beyond : {part : List ℕ} → moves < b → part ≡ [] → Handed t b v part 0 10 0
-    part-beyond l p =
+    pub part_beyond : {part : List ℕ} → moves < b → part ≡ [] → Handed t b v part 0 10 0
+    part_beyond l p =
         rw (found.is, p) (verdict_beyond t b found.table (lt-leb b found.table.header.moves (omega (arith, found.moves_is))))
 
     -- the two marks of a block lie in order inside the table
@@ -63,8 +63,8 @@ module _ {t : List ℕ} {v : Verdict} {r : ReadAnswer} {m : List ℕ} (b : ℕ) 
           within = rw (add-one b) (omega (arith, h.inside found.table found.is (suc b) (omega (arith, found.moves_is))));
         }
 
-    pub part-found : {part : List ℕ} → b ≤ moves → part ≡ part_at t m b → Handed t b v part (get_or m b 0) 0 0
-    part-found l p =
+    pub part_found : {part : List ℕ} → b ≤ moves → part ≡ part_at t m b → Handed t b v part (get_or m b 0) 0 0
+    part_found l p =
         let first : get_or m b 0 ≡ get_or found.table.marks b 0 = h.marks found.table found.is b (omega (arith, found.moves_is)) in
         let last : get_or m (suc b) 0 ≡ get_or found.table.marks (suc b) 0 = h.marks found.table found.is (suc b) (omega (arith, found.moves_is)) in
         let ordered : get_or found.table.marks b 0 ≤ get_or found.table.marks (suc b) 0 = omega (arith, first, last, h.rising found.table found.is b (omega (arith, found.moves_is))) in

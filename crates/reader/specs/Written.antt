@@ -5,9 +5,9 @@ use Rattle.std.proofs.Math.Path.{ap}
 use Rattle.model.specs.Limits.{paper}
 use Rattle.model.specs.Task.{written, Task}
 use Rattle.model.specs.Reading.{Verdict, accepted, refused, only, length_limit, reading}
-use Rattle.model.specs.Theorems.Reading.Accepted.{reading-limit}
+use Rattle.model.specs.Theorems.Reading.Accepted.{reading_limit}
 use Rattle.table.specs.Outlines.{part_at, Outline, HeadRead}
-use Rattle.block.specs.Parts.{move-left, goal-left}
+use Rattle.block.specs.Parts.{move_left, goal_left}
 use Rattle.block.specs.Remaining.{Remaining}
 use Rattle.reader.specs.Parts.{PartIn, outline_part}
 
@@ -38,30 +38,30 @@ module _ {t marks : List ℕ} {moves : ℕ} (s : Source t marks moves) where
   unfolding paper
   few_vars = s.outline.ok.vars
 
-  pub few-moves : moves ≤ 64
+  pub few_moves : moves ≤ 64
   unfolding paper
-  few-moves = omega (arith, s.count, s.outline.ok.moves)
+  few_moves = omega (arith, s.count, s.outline.ok.moves)
 
-  pub move-remaining : (b : ℕ) → b < moves → {part : List ℕ} → part ≡ part_at t marks b → Remaining part 1 (get_or (read_task t).moves b [])
-  move-remaining b h e =
+  pub move_remaining : (b : ℕ) → b < moves → {part : List ℕ} → part ≡ part_at t marks b → Remaining part 1 (get_or (read_task t).moves b [])
+  move_remaining b h e =
       rw e
       (record {
         props = (read_task t).props;
         vars = (read_task t).vars;
         few_props = few_props;
         few_vars = few_vars;
-        left = let i : b < length (read_task t).moves = omega (arith, s.count) in move-left s.outline.ok b i (s.outline.move b i);
+        left = let i : b < length (read_task t).moves = omega (arith, s.count) in move_left s.outline.ok b i (s.outline.move b i);
       })
 
-  pub goal-remaining : {part : List ℕ} → part ≡ part_at t marks moves → Remaining part 1 (read_task t).goal
-  goal-remaining e =
+  pub goal_remaining : {part : List ℕ} → part ≡ part_at t marks moves → Remaining part 1 (read_task t).goal
+  goal_remaining e =
       rw e
       (record {
         props = (read_task t).props;
         vars = (read_task t).vars;
         few_props = few_props;
         few_vars = few_vars;
-        left = rw s.count (goal-left s.outline.ok s.outline.goal);
+        left = rw s.count (goal_left s.outline.ok s.outline.goal);
       })
 
   -- the offsets of a block
@@ -70,21 +70,21 @@ module _ {t marks : List ℕ} {moves : ℕ} (s : Source t marks moves) where
 
 -- what the outline of the table answers
 module _ {t marks : List ℕ} {props vars moves : ℕ} (h : HeadRead written t marks props vars moves) where
-  pub task-is : read_task t ≡ h.table.task
+  pub task_is : read_task t ≡ h.table.task
   unfolding read_task task_in
-  task-is = ap task_in h.is
+  task_is = ap task_in h.is
 
-  pub head-source : Source t marks moves
-  head-source =
+  pub head_source : Source t marks moves
+  head_source =
       record {
-        outline = rw task-is h.outline;
-        count = rw task-is h.count;
+        outline = rw task_is h.outline;
+        count = rw task_is h.count;
       }
 
-  pub head-heads : Heads t props vars
-  head-heads = record { props_is = rw task-is h.props_is; vars_is = rw task-is h.vars_is }
+  pub head_heads : Heads t props vars
+  head_heads = record { props_is = rw task_is h.props_is; vars_is = rw task_is h.vars_is }
 
   -- "Length: written 32,000 .. bytes at most"
-  pub head-short : length t ≤ 32_000
+  pub head_short : length t ≤ 32_000
   unfolding length_limit paper
-  head-short = reading-limit paper (only written) t h.is
+  head_short = reading_limit paper (only written) t h.is

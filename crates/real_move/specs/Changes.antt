@@ -70,27 +70,27 @@ and-false true = refl
 and-false false = refl
 
 module _ (h : Bool) (p q : ℕ) (b : Block) where
-  pub truth-need : truth_after h p (need q ∷ b) ≡ truth_after h p b
+  pub truth_need : truth_after h p (need q ∷ b) ≡ truth_after h p b
   unfolding truth_after adds deletes any is_add is_delete
-  truth-need = refl
+  truth_need = refl
 
-  pub truth-add : T (not (any (clashes (add q)) b)) → q ≡ p → truth_after h p (add q ∷ b) ≡ truth_after true p b
+  pub truth_add : T (not (any (clashes (add q)) b)) → q ≡ p → truth_after h p (add q ∷ b) ≡ truth_after true p b
   unfolding truth_after adds deletes any is_add is_delete
-  truth-add t e =
+  truth_add t e =
       let d : deletes p b ≡ false = ap (λ (n : ℕ). deletes n b) (sym e) ∙ not_deleted q b t in
       rw (eq-eqb q p e) (sym (ap (λ (x : Bool). adds p b || (true && not x)) d ∙ or-true (adds p b)))
 
-  pub truth-add-other : (q ≡ p → ⊥) → truth_after h p (add q ∷ b) ≡ truth_after h p b
+  pub truth_add_other : (q ≡ p → ⊥) → truth_after h p (add q ∷ b) ≡ truth_after h p b
   unfolding truth_after adds deletes any is_add is_delete
-  truth-add-other e = rw (ne_eqb q p e) refl
+  truth_add_other e = rw (ne_eqb q p e) refl
 
-  pub truth-delete : q ≡ p → truth_after h p (delete q ∷ b) ≡ truth_after false p b
+  pub truth_delete : q ≡ p → truth_after h p (delete q ∷ b) ≡ truth_after false p b
   unfolding truth_after adds deletes any is_add is_delete
-  truth-delete e = rw (eq-eqb q p e) (ap (λ (x : Bool). adds p b || x) (and-false h))
+  truth_delete e = rw (eq-eqb q p e) (ap (λ (x : Bool). adds p b || x) (and-false h))
 
-  pub truth-delete-other : (q ≡ p → ⊥) → truth_after h p (delete q ∷ b) ≡ truth_after h p b
+  pub truth_delete_other : (q ≡ p → ⊥) → truth_after h p (delete q ∷ b) ≡ truth_after h p b
   unfolding truth_after adds deletes any is_add is_delete
-  truth-delete-other e = rw (ne_eqb q p e) refl
+  truth_delete_other e = rw (ne_eqb q p e) refl
 
 -- the effect on v comes first, or another
 module _ (e : Effect) (v : ℕ) (b : Block) where

@@ -51,11 +51,11 @@ module _ {props vars : ℕ} {has : List Bool} {values : List ℤ} {s : State} (w
   holds_row : Row vars values s.val
   holds_row = record { long = w.long_values; same = w.same; size = λ v h. omega (arith, w.small v h) }
 
-  pub holds-state : StateRow (ranges_of props vars) has values s
-  holds-state = record { long = w.long_has; has = w.truths; row = holds_row }
+  pub holds_state : StateRow (ranges_of props vars) has values s
+  holds_state = record { long = w.long_has; has = w.truths; row = holds_row }
 
-  pub holds-small : (v : ℕ) → v < vars → nat_abs (get_or values v (pos 0)) ≤ 1_000_000
-  holds-small v h = rw (w.same v h) (w.small v h)
+  pub holds_small : (v : ℕ) → v < vars → nat_abs (get_or values v (pos 0)) ≤ 1_000_000
+  holds_small v h = rw (w.same v h) (w.small v h)
 
 -- ---- the move
 
@@ -107,8 +107,8 @@ pub record KeptValues (values : List ℤ) (next : List ℤ) (vars : ℕ) (r : Bo
   pub kept : r ≡ true → (v : ℕ) → v < vars → get_or values v (pos 0) ≡ get_or next v (pos 0)
 
 module _ {part : List ℕ} {props vars : ℕ} {had : List Bool} {values : List ℤ} {has : List Bool} {next : List ℤ} where
-  move-runs : {b : Block} {s : State} → Chosen part props vars b → Twice props vars had values has next s → Runs part values has next (ranges_of props vars) b s
-  move-runs c w =
+  move_runs : {b : Block} {s : State} → Chosen part props vars b → Twice props vars had values has next s → Runs part values has next (ranges_of props vars) b s
+  move_runs c w =
       record {
         left = c.left;
         once = c.once;
@@ -119,21 +119,21 @@ module _ {part : List ℕ} {props vars : ℕ} {had : List Bool} {values : List �
         long_next = w.new.long_values;
       }
 
-  pub move-triable : Movable part props vars had values has next → Triable part had values has next
-  move-triable m =
+  pub move_triable : Movable part props vars had values has next → Triable part had values has next
+  move_triable m =
       record {
-        runnable = record { ranges = ranges_of props vars; block = m.block; over = m.over; runs = move-runs m.chosen m.holds };
-        row = holds-state m.holds.old;
+        runnable = record { ranges = ranges_of props vars; block = m.block; over = m.over; runs = move_runs m.chosen m.holds };
+        row = holds_state m.holds.old;
       }
 
   module _ {has' : List Bool} {next' : List ℤ} {t : Bool} (q : Tried part had values has next has' next' t) where
     tested : {b : Block} {s : State} → Chosen part props vars b → Twice props vars had values has next s → t ≡ applicable s b
-    tested {b} {s} c w = q.test.is (ranges_of props vars) b s c.left (holds-state w.old)
+    tested {b} {s} c w = q.test.is (ranges_of props vars) b s c.left (holds_state w.old)
 
     -- "not allowed"
-    pub moved-refused : t ≡ false → {had'' : List Bool} {values'' : List ℤ} {has'' : List Bool} {next'' : List ℤ} → Moved part props vars had values has next had'' values'' has'' next'' (turn.Fails fault.NotAllowed)
+    pub moved_refused : t ≡ false → {had'' : List Bool} {values'' : List ℤ} {has'' : List Bool} {next'' : List ℤ} → Moved part props vars had values has next had'' values'' has'' next'' (turn.Fails fault.NotAllowed)
     unfolding turn_fault block_fault
-    moved-refused e =
+    moved_refused e =
         record {
           is = λ b s c w. record { fault = rw (block_fault, sym (tested c w) ∙ e) refl; after = λ f. absurd (some_none f) };
         }
@@ -143,7 +143,7 @@ module _ {part : List ℕ} {props vars : ℕ} {had : List Bool} {values : List �
 
     module _ (met : t ≡ true) {values' : List ℤ} {u : Bool} (p : KeptValues values' next' vars u) where
       reached : {b : Block} {s : State} → Chosen part props vars b → Twice props vars had values has next s → Reached (ranges_of props vars) b s has' next'
-      reached {b} {s} c w = (q.ran met).is (ranges_of props vars) b s (move-runs c w)
+      reached {b} {s} c w = (q.ran met).is (ranges_of props vars) b s (move_runs c w)
 
       range_same : {b : Block} {s : State} → Chosen part props vars b → Twice props vars had values has next s → u ≡ all_below (λ v. value_in_range paper ((real b s).val v)) vars
       unfolding all_in_range
@@ -152,20 +152,20 @@ module _ {part : List ℕ} {props vars : ℕ} {had : List Bool} {values : List �
           ∙ all_same (λ v. value_in_range paper (get_or next' v (pos 0))) (λ v. value_in_range paper ((real b s).val v)) vars
           (λ v h. ap (value_in_range paper) ((reached c w).values v h))
 
-      fault-is :
+      fault_is :
           {b : Block} {s : State}
           → Chosen part props vars b
           → Twice props vars had values has next s
           → block_fault paper vars s b ≡ elim u [ true ↦ none | false ↦ some fault.OutOfRange ]
       unfolding block_fault range_fault
-      fault-is c w = rw (block_fault, sym (tested c w) ∙ met, range_fault, sym (range_same c w)) refl
+      fault_is c w = rw (block_fault, sym (tested c w) ∙ met, range_fault, sym (range_same c w)) refl
 
       -- "out of range"
-      pub moved-beyond : u ≡ false → {had'' : List Bool} {values'' : List ℤ} {has'' : List Bool} {next'' : List ℤ} → Moved part props vars had values has next had'' values'' has'' next'' (turn.Fails fault.OutOfRange)
+      pub moved_beyond : u ≡ false → {had'' : List Bool} {values'' : List ℤ} {has'' : List Bool} {next'' : List ℤ} → Moved part props vars had values has next had'' values'' has'' next'' (turn.Fails fault.OutOfRange)
       unfolding turn_fault
-      moved-beyond e =
+      moved_beyond e =
           record {
-            is = λ b s c w. record { fault = sym (fault-is c w ∙ rw e refl); after = λ f. absurd (some_none f) };
+            is = λ b s c w. record { fault = sym (fault_is c w ∙ rw e refl); after = λ f. absurd (some_none f) };
           }
         where
           some_none : some fault.OutOfRange ≡ none → ⊥
@@ -187,7 +187,7 @@ module _ {part : List ℕ} {props vars : ℕ} {had : List Bool} {values : List �
                 let small : (v : ℕ) → v < vars → nat_abs ((real b s).val v) ≤ 1_000_000 =
                 λ v h. rw (sym ((reached c w).values v h)) (all_small next' vars (sym p.test ∙ e) v h) in
                 record {
-                  fault = sym (fault-is c w ∙ rw e refl);
+                  fault = sym (fault_is c w ∙ rw e refl);
                   after = λ f.
                       record {
                         old =

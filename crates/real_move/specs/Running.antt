@@ -12,7 +12,7 @@ use Rattle.model.specs.Move.{State, value, changed, real}
 use Rattle.model.specs.Theorems.Reading.WellFormed.{Once}
 use Rattle.block.specs.Items.{Ranges, Left, Followed, ConditionFound, EffectFound}
 use Rattle.block.specs.Sums.{Row}
-use Rattle.real_move.specs.Changes.{truth_after, value_after, value_start, truth-add, truth-add-other, truth-delete, truth-delete-other, effect_here, effect_other, no_effect, at_other}
+use Rattle.real_move.specs.Changes.{truth_after, value_after, value_start, truth_add, truth_add_other, truth_delete, truth_delete_other, effect_here, effect_other, no_effect, at_other}
 
 -- ---- a move and what it is run on
 
@@ -71,52 +71,52 @@ module _ {k : Ranges} {part : List ℕ} {b : Block} {s : State} {at : ℕ} {has 
   alone : {after : ℕ} {i : Item} (f : Followed k part after r.rest i) → T (not (any (clashes i) f.others)) × Once f.others
   alone f = subst Once f.is r.once
 
-  truths-left : {after : ℕ} {i : Item} (f : Followed k part after r.rest i) (p : ℕ) → p < k.props → (real b s).has p ≡ truth_after (get_or has p false) p (i ∷ f.others)
-  truths-left f p h = r.truths p h ∙ ap (truth_after (get_or has p false) p) f.is
+  truths_left : {after : ℕ} {i : Item} (f : Followed k part after r.rest i) (p : ℕ) → p < k.props → (real b s).has p ≡ truth_after (get_or has p false) p (i ∷ f.others)
+  truths_left f p h = r.truths p h ∙ ap (truth_after (get_or has p false) p) f.is
 
-  values-left : {after : ℕ} {i : Item} (f : Followed k part after r.rest i) (v : ℕ) → v < k.vars → (real b s).val v ≡ value_after s v (effect_on v (i ∷ f.others)) (get_or next v (pos 0))
-  values-left f v h = r.values v h ∙ ap (λ (l : Block). value_after s v (effect_on v l) (get_or next v (pos 0))) f.is
+  values_left : {after : ℕ} {i : Item} (f : Followed k part after r.rest i) (v : ℕ) → v < k.vars → (real b s).val v ≡ value_after s v (effect_on v (i ∷ f.others)) (get_or next v (pos 0))
+  values_left f v h = r.values v h ∙ ap (λ (l : Block). value_after s v (effect_on v l) (get_or next v (pos 0))) f.is
 
   -- an item that changes nothing
-  pub running-skip :
+  pub running_skip :
       {after : ℕ} {i : Item} (f : Followed k part after r.rest i)
       → ((x : Bool) (p : ℕ) (o : Block) → truth_after x p (i ∷ o) ≡ truth_after x p o)
       → ((v : ℕ) (o : Block) → effect_on v (i ∷ o) ≡ effect_on v o)
       → Running k part b s after has next
-  running-skip f same none-there =
+  running_skip f same none-there =
       record {
         rest = f.others;
         left = f.left;
         once = (alone f).1;
-        truths = λ p h. truths-left f p h ∙ same (get_or has p false) p f.others;
-        values = λ v h. values-left f v h ∙ ap (λ (o : Option Effect). value_after s v o (get_or next v (pos 0))) (none-there v f.others);
+        truths = λ p h. truths_left f p h ∙ same (get_or has p false) p f.others;
+        values = λ v h. values_left f v h ∙ ap (λ (o : Option Effect). value_after s v o (get_or next v (pos 0))) (none-there v f.others);
         long_has = r.long_has;
         long_next = r.long_next;
       }
 
-  pub running-need : {after p : ℕ} → Followed k part after r.rest (need p) → Running k part b s after has next
+  pub running_need : {after p : ℕ} → Followed k part after r.rest (need p) → Running k part b s after has next
   unfolding truth_after adds deletes any is_add is_delete effect_on
-  running-need f = running-skip f (λ x p o. refl) (λ v o. refl)
+  running_need f = running_skip f (λ x p o. refl) (λ v o. refl)
 
-  pub running-condition : {o : ℕ} {z : ℤ} {from n after : ℕ} → ConditionFound k part o z from n after r.rest → Running k part b s after has next
+  pub running_condition : {o : ℕ} {z : ℤ} {from n after : ℕ} → ConditionFound k part o z from n after r.rest → Running k part b s after has next
   unfolding truth_after adds deletes any is_add is_delete effect_on
-  running-condition f = running-skip f.followed (λ x p o. refl) (λ v o. refl)
+  running_condition f = running_skip f.followed (λ x p o. refl) (λ v o. refl)
 
   -- a truth is stored
-  stored-truth :
+  stored_truth :
       (x : Bool) (q : ℕ) {after : ℕ} {i : Item} (f : Followed k part after r.rest i)
       → q < k.props
       → ((v : ℕ) (o : Block) → effect_on v (i ∷ o) ≡ effect_on v o)
       → ((h : Bool) (p : ℕ) → q ≡ p → truth_after h p (i ∷ f.others) ≡ truth_after x p f.others)
       → ((h : Bool) (p : ℕ) → (q ≡ p → ⊥) → truth_after h p (i ∷ f.others) ≡ truth_after h p f.others)
       → Running k part b s after (set has q x) next
-  stored-truth x q {after} {i} f small none-there here other =
+  stored_truth x q {after} {i} f small none-there here other =
       record {
         rest = f.others;
         left = f.left;
         once = (alone f).1;
-        truths = λ p h. truths-left f p h ∙ by p (ℕ_discrete q p);
-        values = λ v h. values-left f v h ∙ ap (λ (o : Option Effect). value_after s v o (get_or next v (pos 0))) (none-there v f.others);
+        truths = λ p h. truths_left f p h ∙ by p (ℕ_discrete q p);
+        values = λ v h. values_left f v h ∙ ap (λ (o : Option Effect). value_after s v o (get_or next v (pos 0))) (none-there v f.others);
         long_has = omega (arith, r.long_has, length-set has q x);
         long_next = r.long_next;
       }
@@ -131,33 +131,33 @@ module _ {k : Ranges} {part : List ℕ} {b : Block} {s : State} {at : ℕ} {has 
       by p (no e) =
           other (get_or has p false) p e ∙ ap (λ (y : Bool). truth_after y p f.others) (sym (at_other has q p x false e))
 
-  pub running-add : {after q : ℕ} → Followed k part after r.rest (add q) → Running k part b s after (set has q true) next
+  pub running_add : {after q : ℕ} → Followed k part after r.rest (add q) → Running k part b s after (set has q true) next
   unfolding effect_on
-  running-add {after} {q} f =
-      stored-truth true q f f.ok (λ v o. refl)
-      (λ h p e. truth-add h p q f.others (alone f).0 e)
-      (λ h p e. truth-add-other h p q f.others e)
+  running_add {after} {q} f =
+      stored_truth true q f f.ok (λ v o. refl)
+      (λ h p e. truth_add h p q f.others (alone f).0 e)
+      (λ h p e. truth_add_other h p q f.others e)
 
-  pub running-delete : {after q : ℕ} → Followed k part after r.rest (delete q) → Running k part b s after (set has q false) next
+  pub running_delete : {after q : ℕ} → Followed k part after r.rest (delete q) → Running k part b s after (set has q false) next
   unfolding effect_on
-  running-delete {after} {q} f =
-      stored-truth false q f f.ok (λ v o. refl)
-      (λ h p e. truth-delete h p q f.others e)
-      (λ h p e. truth-delete-other h p q f.others e)
+  running_delete {after} {q} f =
+      stored_truth false q f f.ok (λ v o. refl)
+      (λ h p e. truth_delete h p q f.others e)
+      (λ h p e. truth_delete_other h p q f.others e)
 
   -- a value is stored
-  pub running-effect :
+  pub running_effect :
       {kd u : ℕ} {z : ℤ} {from n after : ℕ} (f : EffectFound k part kd u z from n after r.rest) {x : ℤ}
       → x ≡ changed f.it.kind (s.val u) (value s f.it)
       → Running k part b s after has (set next u x)
   unfolding truth_after adds deletes any is_add is_delete value_after
-  running-effect {u} {after} f {x} e =
+  running_effect {u} {after} f {x} e =
       record {
         rest = g.others;
         left = g.left;
         once = (alone g).1;
-        truths = λ p h. truths-left g p h;
-        values = λ v h. values-left g v h ∙ by v (ℕ_discrete u v);
+        truths = λ p h. truths_left g p h;
+        values = λ v h. values_left g v h ∙ by v (ℕ_discrete u v);
         long_has = r.long_has;
         long_next = omega (arith, r.long_next, length-set next u x);
       }
@@ -182,9 +182,9 @@ module _ {k : Ranges} {part : List ℕ} {b : Block} {s : State} {at : ℕ} {has 
           ∙ ap (value_after s v (effect_on v g.others)) (sym (at_other next u v x (pos 0) q))
 
   -- nothing is left
-  pub running-end : r.rest ≡ [] → Reached k b s has next
+  pub running_end : r.rest ≡ [] → Reached k b s has next
   unfolding truth_after adds deletes any effect_on value_after
-  running-end e =
+  running_end e =
       record {
         truths = λ p h. sym (r.truths p h ∙ ap (truth_after (get_or has p false) p) e ∙ keep (get_or has p false));
         values = λ v h. sym (r.values v h ∙ ap (λ (l : Block). value_after s v (effect_on v l) (get_or next v (pos 0))) e);

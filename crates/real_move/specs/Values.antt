@@ -7,7 +7,7 @@ use Rattle.model.specs.Limits.{paper}
 use Rattle.model.specs.Lists.{all_below}
 use Rattle.model.specs.StateTable.{value_in_range}
 use Rattle.model.specs.Theorems.Laws.Booleans.{T_true, T-equal, true_t, false_not, not-false}
-use Rattle.model.specs.Theorems.Laws.Searching.{below_suc, allBelow-at, at-allBelow}
+use Rattle.model.specs.Theorems.Laws.Searching.{below_suc, all_below_at, at_all_below}
 use Rattle.state.specs.Checking.{range_size}
 use Rattle.real_move.specs.Changes.{at_other}
 
@@ -20,27 +20,27 @@ module _ (f : ℕ → Bool) where
   and-true : (a b : Bool) → a ≡ true → b ≡ true → (a && b) ≡ true
   and-true a b p q = rw (p, q) refl
 
-  pub all-next : (n : ℕ) → all_below f n ≡ true → f n ≡ true → all_below f (n + 1) ≡ true
+  pub all_next : (n : ℕ) → all_below f n ≡ true → f n ≡ true → all_below f (n + 1) ≡ true
   unfolding all_below
-  all-next n e g = ap (all_below f) (add-one n) ∙ and-true (all_below f n) (f n) e g
+  all_next n e g = ap (all_below f) (add-one n) ∙ and-true (all_below f n) (f n) e g
 
   -- one that fails is enough
-  pub all-fails : (n i : ℕ) → i < n → f i ≡ false → all_below f n ≡ false
-  all-fails n i h e = not-false (all_below f n) (λ t. false_not e (allBelow-at f n t i h))
+  pub all_fails : (n i : ℕ) → i < n → f i ≡ false → all_below f n ≡ false
+  all_fails n i h e = not-false (all_below f n) (λ t. false_not e (all_below_at f n t i h))
 
 -- each value is in range
 pub all_small : (values : List ℤ) (vars : ℕ) → all_in_range values vars ≡ true → (v : ℕ) → v < vars → nat_abs (get_or values v (pos 0)) ≤ 1_000_000
 unfolding all_in_range
 all_small values vars e v h =
     range_size (get_or values v (pos 0))
-    (T_true (value_in_range paper (get_or values v (pos 0))) (allBelow-at (λ u. value_in_range paper (get_or values u (pos 0))) vars (true_t e) v h))
+    (T_true (value_in_range paper (get_or values v (pos 0))) (all_below_at (λ u. value_in_range paper (get_or values u (pos 0))) vars (true_t e) v h))
 
 -- only what stands below the counts matters
 pub all_same : (f g : ℕ → Bool) (n : ℕ) → ((i : ℕ) → i < n → f i ≡ g i) → all_below f n ≡ all_below g n
 all_same f g n e =
     T-equal (all_below f n) (all_below g n)
-    (λ t. at-allBelow g n (λ i h. subst T (e i h) (allBelow-at f n t i h)))
-    (λ t. at-allBelow f n (λ i h. subst T (sym (e i h)) (allBelow-at g n t i h)))
+    (λ t. at_all_below g n (λ i h. subst T (e i h) (all_below_at f n t i h)))
+    (λ t. at_all_below f n (λ i h. subst T (sym (e i h)) (all_below_at g n t i h)))
 
 -- ---- copying
 
@@ -51,11 +51,11 @@ pub record Copying {A : Type 0} (d : A) (from : List A) (n : ℕ) (old : List A)
   pub same : (j : ℕ) → j < i → get_or to j d ≡ get_or from j d
 
 module _ {A : Type 0} (d : A) (from : List A) (n : ℕ) where
-  pub copying-start : (old : List A) → Copying d from n old old 0
-  copying-start old = record { within = omega arith; kept = refl; same = λ j h. absurd (not-suc-le-zero h) }
+  pub copying_start : (old : List A) → Copying d from n old old 0
+  copying_start old = record { within = omega arith; kept = refl; same = λ j h. absurd (not-suc-le-zero h) }
 
-  pub copying-step : {old to : List A} {i : ℕ} → Copying d from n old to i → i < n → i < length to → Copying d from n old (set to i (get_or from i d)) (i + 1)
-  copying-step {old} {to} {i} c h l =
+  pub copying_step : {old to : List A} {i : ℕ} → Copying d from n old to i → i < n → i < length to → Copying d from n old (set to i (get_or from i d)) (i + 1)
+  copying_step {old} {to} {i} c h l =
       record {
         within = omega arith;
         kept = length-set to i (get_or from i d) ∙ c.kept;

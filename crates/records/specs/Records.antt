@@ -8,7 +8,7 @@ use Rattle.std.proofs.Math.Path.{sym, ap}
 use mathlib.Core.List.{List, [], ◌∷◌, ◌++◌, append_assoc, append-nil}
 use Rattle.std.proofs.Math.ListN.{length-append}
 use Rattle.integer.specs.BigEndian.{bytes, length_bytes}
-use Rattle.integer.specs.Store.{put, put_nil, put_cons, put_append, take-put-before, drop-put-at, length-put}
+use Rattle.integer.specs.Store.{put, put_nil, put_cons, put_append, take_put_before, drop_put_at, length_put}
 use Rattle.model.specs.Plan.{Record, layer_records}
 use Rattle.model.specs.Calls.{record_bytes}
 use Rattle.model.specs.Theorems.Plans.Records.{length_record_bytes}
@@ -20,23 +20,23 @@ count_at counts b = get_or counts b 0
 -- ---- the records of the moves from b on
 
 module _ (t : ℕ) (f : ℕ → ℕ) where
-  pub records-skip : {n b : ℕ} → b < n → f b ≡ 0 → layer_records t f b (n - b) ≡ layer_records t f (b + 1) (n - (b + 1))
+  pub records_skip : {n b : ℕ} → b < n → f b ≡ 0 → layer_records t f b (n - b) ≡ layer_records t f (b + 1) (n - (b + 1))
   unfolding layer_records
-  records-skip {n} {b} h e =
+  records_skip {n} {b} h e =
       let one_more : n - b ≡ suc (n - suc b) = omega arith in
       rw (add-one b) (ap (layer_records t f b) one_more ∙ rw (eq-eqb (f b) 0 e, layer_records))
 
-  pub records-take :
+  pub records_take :
       {n b : ℕ} → b < n → (f b ≡ 0 → ⊥)
       → layer_records t f b (n - b) ≡ record { layer = t; move = b; count = f b } ∷ layer_records t f (b + 1) (n - (b + 1))
   unfolding layer_records
-  records-take {n} {b} h e =
+  records_take {n} {b} h e =
       let one_more : n - b ≡ suc (n - suc b) = omega arith in
       rw (add-one b) (ap (layer_records t f b) one_more ∙ rw (ne_eqb (f b) 0 e, layer_records))
 
-  pub records-over : {n b : ℕ} → n ≤ b → layer_records t f b (n - b) ≡ []
+  pub records_over : {n b : ℕ} → n ≤ b → layer_records t f b (n - b) ≡ []
   unfolding layer_records
-  records-over {n} {b} h = let over : n - b ≡ 0 = omega arith in ap (layer_records t f b) over
+  records_over {n} {b} h = let over : n - b ≡ 0 = omega arith in ap (layer_records t f b) over
 
 -- a move's record before others, if its count is not 0
 unfoldable one_record : ℕ → ℕ → ℕ → List Record → List Record
@@ -65,15 +65,15 @@ module _ (f : ℕ → ℕ) where
       let all : n ≡ n - 0 = omega arith in
       record { total = omega (arith, ap (λ (i : ℕ). length (layer_records 0 f 0 i)) all); few = omega arith }
 
-  pub counting-skip : {n b done : ℕ} → b < n → f b ≡ 0 → Counting f n b done → Counting f n (b + 1) done
-  counting-skip {n} {b} {done} h e c = record { total = c.total ∙ ap (λ (rs : List Record). done + length rs) (records-skip 0 f h e); few = omega (arith, c.few) }
+  pub counting_skip : {n b done : ℕ} → b < n → f b ≡ 0 → Counting f n b done → Counting f n (b + 1) done
+  counting_skip {n} {b} {done} h e c = record { total = c.total ∙ ap (λ (rs : List Record). done + length rs) (records_skip 0 f h e); few = omega (arith, c.few) }
 
-  pub counting-take : {n b done : ℕ} → b < n → (f b ≡ 0 → ⊥) → Counting f n b done → Counting f n (b + 1) (done + 1)
-  counting-take {n} {b} {done} h e c =
-      record { total = omega (arith, c.total, ap length (records-take 0 f h e)); few = omega (arith, c.few) }
+  pub counting_take : {n b done : ℕ} → b < n → (f b ≡ 0 → ⊥) → Counting f n b done → Counting f n (b + 1) (done + 1)
+  counting_take {n} {b} {done} h e c =
+      record { total = omega (arith, c.total, ap length (records_take 0 f h e)); few = omega (arith, c.few) }
 
-  pub counting-end : {n b done : ℕ} → n ≤ b → Counting f n b done → done ≡ length (layer_records 0 f 0 n)
-  counting-end {n} {b} {done} h c = omega (arith, c.total, ap length (records-over 0 f h))
+  pub counting_end : {n b done : ℕ} → n ≤ b → Counting f n b done → done ≡ length (layer_records 0 f 0 n)
+  counting_end {n} {b} {done} h c = omega (arith, c.total, ap length (records_over 0 f h))
 
 -- ---- bytes
 
@@ -131,42 +131,42 @@ module _ (f : ℕ → ℕ) {n : ℕ} {out : List ℕ} {start : ℕ} where
       record { done = []; all = ap (λ (i : ℕ). record_bytes (layer_records 0 f 0 i)) whole; here = omega arith; new_is = sym (put_nil out start) }
 
   module _ {b at : ℕ} {new : List ℕ} (w : Writing f n out start b at new) where
-    pub writing-skip : b < n → f b ≡ 0 → Writing f n out start (b + 1) at new
-    writing-skip h e =
-        record { done = w.done; all = w.all ∙ ap (λ (rs : List Record). w.done ++ record_bytes rs) (records-skip 0 f h e); here = w.here; new_is = w.new_is }
+    pub writing_skip : b < n → f b ≡ 0 → Writing f n out start (b + 1) at new
+    writing_skip h e =
+        record { done = w.done; all = w.all ∙ ap (λ (rs : List Record). w.done ++ record_bytes rs) (records_skip 0 f h e); here = w.here; new_is = w.new_is }
 
     module _ (room : start + 10 * length (layer_records 0 f 0 n) ≤ length out) where
-      done-short : length w.done + 10 * length (layer_records 0 f b (n - b)) ≡ 10 * length (layer_records 0 f 0 n)
-      done-short =
+      done_short : length w.done + 10 * length (layer_records 0 f b (n - b)) ≡ 10 * length (layer_records 0 f 0 n)
+      done_short =
           omega (arith, ap length w.all, length-append w.done (record_bytes (layer_records 0 f b (n - b))), length_record_bytes (layer_records 0 f b (n - b)), length_record_bytes (layer_records 0 f 0 n))
 
-      pub writing-length : length new ≡ length out
-      writing-length = ap length w.new_is ∙ length-put out start w.done (omega (arith, done-short))
+      pub writing_length : length new ≡ length out
+      writing_length = ap length w.new_is ∙ length_put out start w.done (omega (arith, done_short))
 
-      pub writing-room : b < n → (f b ≡ 0 → ⊥) → at + 10 ≤ length new
-      writing-room h e = omega (arith, w.here, writing-length, done-short, ap length (records-take 0 f h e))
+      pub writing_room : b < n → (f b ≡ 0 → ⊥) → at + 10 ≤ length new
+      writing_room h e = omega (arith, w.here, writing_length, done_short, ap length (records_take 0 f h e))
 
-      pub writing-take : {more : List ℕ} → b < n → (f b ≡ 0 → ⊥) → more ≡ put new at (one_bytes b (f b)) → Writing f n out start (b + 1) (at + 10) more
+      pub writing_take : {more : List ℕ} → b < n → (f b ≡ 0 → ⊥) → more ≡ put new at (one_bytes b (f b)) → Writing f n out start (b + 1) (at + 10) more
       unfolding record_bytes one_bytes
-      writing-take {more} h e m =
+      writing_take {more} h e m =
           record {
             done = w.done ++ one_bytes b (f b);
             all =
-                w.all ∙ ap (λ (rs : List Record). w.done ++ record_bytes rs) (records-take 0 f h e)
+                w.all ∙ ap (λ (rs : List Record). w.done ++ record_bytes rs) (records_take 0 f h e)
                 ∙ sym (append_assoc w.done (one_bytes b (f b)) (record_bytes (layer_records 0 f (b + 1) (n - (b + 1)))));
             here = omega (arith, w.here, length-append w.done (one_bytes b (f b)), length_one_bytes b (f b));
             new_is =
                 m ∙ ap (λ (l : List ℕ). put l at (one_bytes b (f b))) w.new_is
                 ∙ ap (λ (i : ℕ). put (put out start w.done) i (one_bytes b (f b))) w.here
-                ∙ put_append out start w.done (one_bytes b (f b)) (omega (arith, done-short));
+                ∙ put_append out start w.done (one_bytes b (f b)) (omega (arith, done_short));
           }
 
-    pub writing-end : n ≤ b → new ≡ put out start (record_bytes (layer_records 0 f 0 n))
+    pub writing_end : n ≤ b → new ≡ put out start (record_bytes (layer_records 0 f 0 n))
     unfolding record_bytes
-    writing-end h =
+    writing_end h =
         w.new_is
         ∙ ap (put out start)
-        (sym (w.all ∙ ap (λ (rs : List Record). w.done ++ record_bytes rs) (records-over 0 f h) ∙ append-nil w.done))
+        (sym (w.all ∙ ap (λ (rs : List Record). w.done ++ record_bytes rs) (records_over 0 f h) ∙ append-nil w.done))
 
 -- bytes in front of bytes that are stored already
 pub put_before : (l : List ℕ) (at : ℕ) (bs cs : List ℕ) → at + length bs + length cs ≤ length l → put (put l (at + length bs) cs) at bs ≡ put l at (bs ++ cs)
@@ -174,8 +174,8 @@ unfolding put
 put_before l at bs cs h =
     let q = at + length bs in
     let rest = drop (q + length cs) l in
-    let front : take at (put l q cs) ≡ take at l = take-put-before l q cs h at (omega arith) in
-    let back : drop q (put l q cs) ≡ cs ++ rest = drop-put-at l q cs h in
+    let front : take at (put l q cs) ≡ take at l = take_put_before l q cs h at (omega arith) in
+    let back : drop q (put l q cs) ≡ cs ++ rest = drop_put_at l q cs h in
     let place : q + length cs ≡ at + length (bs ++ cs) = omega (arith, length-append bs cs) in
     ap₂ (λ (xs ys : List ℕ). xs ++ bs ++ ys) front back
     ∙ ap (λ (i : ℕ). take at l ++ bs ++ (cs ++ drop i l)) place

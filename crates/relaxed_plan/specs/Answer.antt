@@ -16,12 +16,12 @@ use Rattle.model.specs.Plan.{records, helpful_moves}
 use Rattle.model.specs.Calls.{writes, fitted, output_after, Ready, ready, unready, prepared, memory_of, decide_memory, record_bytes, plan_records, planned, plan_fitted, plan_of, plan_answer, plan_memory, plan_out_of, plan_out, Output}
 use Rattle.model.specs.Theorems.Plans.Records.{length_record_bytes}
 use Rattle.model.specs.Theorems.Campaigns.Demand3.{plan_layers}
-use Rattle.model.specs.Theorems.Printing.Outputs.{fitted-whole, fitted_short, plan-whole, plan-short, put_first}
+use Rattle.model.specs.Theorems.Printing.Outputs.{fitted_whole, fitted_short, plan_whole, plan_short, put_first}
 use Rattle.model.specs.Theorems.Campaigns.EndToEnd.{LayersWithin, plan_within}
 use Rattle.model.specs.Theorems.Sizes.Stored.{steps_of}
 use Rattle.table.specs.Outlines.{Outline}
 use Rattle.reader.specs.Parts.{outline_part}
-use Rattle.block.specs.Parts.{move-left, goal-left}
+use Rattle.block.specs.Parts.{move_left, goal_left}
 use Rattle.layers.specs.declared.Built.{Built as BuiltAnswer}
 use Rattle.layers.specs.declared.Built.TheVariants as building
 use Rattle.layers.specs.Starting.{start_of}
@@ -38,15 +38,15 @@ unfolding move_at
 outlined_parts {table} {marks} {k} o =
     record {
       inside = outline_part o;
-      move = λ b h. move-left o.ok b h (o.move b h);
-      goal = goal-left o.ok o.goal;
+      move = λ b h. move_left o.ok b h (o.move b h);
+      goal = goal_left o.ok o.goal;
     }
 
 module _ {t bs marks : List ℕ} {props vars moves m : ℕ} {mem mem' : List ℤ} (r : ReadyIn t bs marks props vars moves) (b : IsBuilt r.task (start_of props bs) mem mem' (building.Reached m)) where
   -- the memory holds the layers up to the answer layer
-  pub built-stored : Stored t marks mem' props vars moves m
+  pub built_stored : Stored t marks mem' props vars moves m
   unfolding built_of reported steps_of
-  built-stored =
+  built_stored =
       record {
         task = r.task;
         start = start_of props bs;
@@ -75,13 +75,13 @@ planned_refused t bs mem out e =
     }
 
 module _ (t bs : List ℕ) (mem mem' : List ℤ) (out : List ℕ) {k : Task} {s : State} {b : BuiltAnswer} (e : prepared paper t bs ≡ ready k s) (built : IsBuilt k s mem mem' b) where
-  pub planned-built :
+  pub planned_built :
       {out' : List ℕ} {r : PlanAnswer}
       → r ≡ plan_fitted (length out) k s (built_of b)
       → out' ≡ output_after (fitted (length out) (writes (record_bytes (plan_records k s (built_of b))))) out
       → Planned t bs mem mem' out out' r
   unfolding plan_answer plan_of plan_memory decide_memory memory_of plan_out plan_out_of
-  planned-built f g =
+  planned_built f g =
       record {
         answers =
             f ∙ ap (plan_fitted (length out) k s) built.ended
@@ -95,7 +95,7 @@ module _ (t bs : List ℕ) (mem mem' : List ℤ) (out : List ℕ) {k : Task} {s 
 -- no records
 none_fit : (n : ℕ) (k : Task) (s : State) (b : Built) → plan_records k s b ≡ [] → plan_fitted n k s b ≡ planned k s b
 unfolding record_bytes
-none_fit n k s b none = plan-whole n k s b (rw none (omega arith))
+none_fit n k s b none = plan_whole n k s b (rw none (omega arith))
 
 none_out : (out : List ℕ) → out ≡ output_after (fitted (length out) (writes (record_bytes []))) out
 unfolding record_bytes fitted output_after overwrite
@@ -103,14 +103,14 @@ none_out out = rw (le-ltb (length out) 0 (omega arith), fitted) refl
 
 module _ (t bs : List ℕ) (mem mem' : List ℤ) (out : List ℕ) {k : Task} {s : State} (e : prepared paper t bs ≡ ready k s) where
   -- "No plan" is no refusal: it writes no plan bytes and its set of helpful moves is empty.
-  pub planned-exhausted : {m : ℕ} → IsBuilt k s mem mem' (building.Exhausted m) → Planned t bs mem mem' out out (plan.NoPlan m 0 0)
+  pub planned_exhausted : {m : ℕ} → IsBuilt k s mem mem' (building.Exhausted m) → Planned t bs mem mem' out out (plan.NoPlan m 0 0)
   unfolding built_of plan_records planned
-  planned-exhausted {m} built =
-      planned-built t bs mem mem' out e built (sym (none_fit (length out) k s (answered (exhausted m)) refl)) (none_out out)
+  planned_exhausted {m} built =
+      planned_built t bs mem mem' out e built (sym (none_fit (length out) k s (answered (exhausted m)) refl)) (none_out out)
 
-  pub planned-stopped : {n m : ℕ} → IsBuilt k s mem mem' (building.Stopped n m) → Planned t bs mem mem' out out (plan.Refused (record { number = n; place = m }))
+  pub planned_stopped : {n m : ℕ} → IsBuilt k s mem mem' (building.Stopped n m) → Planned t bs mem mem' out out (plan.Refused (record { number = n; place = m }))
   unfolding built_of plan_records planned
-  planned-stopped {n} {m} built = planned-built t bs mem mem' out e built (sym (none_fit (length out) k s (stopped n m) refl)) (none_out out)
+  planned_stopped {n} {m} built = planned_built t bs mem mem' out e built (sym (none_fit (length out) k s (stopped n m) refl)) (none_out out)
 
 -- ---- the records of an answer layer
 
@@ -123,27 +123,27 @@ module _ (k : Task) (s : State) (m : ℕ) (out : List ℕ) {n set : ℕ} (total 
   bytes = record_bytes (records k s m)
 
   -- "13 | output shorter than the result | 0"
-  pub extracted-short : length out < 10 * n → Extracted k s m out out (plan.Refused (record { number = 13; place = 0 }))
+  pub extracted_short : length out < 10 * n → Extracted k s m out out (plan.Refused (record { number = 13; place = 0 }))
   unfolding output_after plan_records
-  extracted-short h =
+  extracted_short h =
       let short : length out < length bytes = omega (arith, length_record_bytes (records k s m)) in
       record {
-        answers = sym (plan-short (length out) k s (answered (reached m)) short);
+        answers = sym (plan_short (length out) k s (answered (reached m)) short);
         writes_is = sym (ap (λ (o : Output). output_after o out) (fitted_short (length out) bytes short));
       }
 
-  pub extracted-written : {out' : List ℕ} → 10 * n ≤ length out → out' ≡ put out 0 bytes → Extracted k s m out out' (plan.Plan m m n set)
+  pub extracted_written : {out' : List ℕ} → 10 * n ≤ length out → out' ≡ put out 0 bytes → Extracted k s m out out' (plan.Plan m m n set)
   unfolding output_after planned plan_records
-  extracted-written h e =
+  extracted_written h e =
       let fits : length bytes ≤ length out = omega (arith, length_record_bytes (records k s m)) in
       record {
-        answers = rw (total, helpful) (sym (plan-whole (length out) k s (answered (reached m)) fits));
+        answers = rw (total, helpful) (sym (plan_whole (length out) k s (answered (reached m)) fits));
         writes_is =
             e ∙ put_first out bytes
-            ∙ sym (ap (λ (o : Output). output_after o out) (fitted-whole (length out) bytes fits));
+            ∙ sym (ap (λ (o : Output). output_after o out) (fitted_whole (length out) bytes fits));
       }
 
 module _ {t bs marks : List ℕ} {props vars moves m : ℕ} {mem mem' : List ℤ} (out : List ℕ) (r : ReadyIn t bs marks props vars moves) (b : IsBuilt r.task (start_of props bs) mem mem' (building.Reached m)) where
-  pub planned-reached : {out' : List ℕ} {a : PlanAnswer} → Extracted (built-stored r b).task (built-stored r b).start m out out' a → Planned t bs mem mem' out out' a
-  unfolding built_of plan_records built-stored
-  planned-reached x = planned-built t bs mem mem' out r.is b x.answers x.writes_is
+  pub planned_reached : {out' : List ℕ} {a : PlanAnswer} → Extracted (built_stored r b).task (built_stored r b).start m out out' a → Planned t bs mem mem' out out' a
+  unfolding built_of plan_records built_stored
+  planned_reached x = planned_built t bs mem mem' out r.is b x.answers x.writes_is

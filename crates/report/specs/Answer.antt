@@ -52,18 +52,18 @@ module _ {plan text : List ℕ} {a : PlanAnswer} (p : Printable a plan text) whe
     unfolding record_count
     same_count = ap record_count is
 
-    pub plan-listable : Listable plan records
-    plan-listable = record { records = p.records; planned = same_lists p.records p.lists }
+    pub plan_listable : Listable plan records
+    plan_listable = record { records = p.records; planned = same_lists p.records p.lists }
 
     -- the records end within the buffer
-    pub records-short :
+    pub records_short :
         {mid : List ℕ} {next : ℕ}
         → Written text 0 (plan_line records layers) mid next
         → length (plan_line records layers) ≤ 54
         → next + 25 * records < 2 ^ 62
-    records-short w h = omega (arith, w.behind, p.room, p.short, same_count)
+    records_short w h = omega (arith, w.behind, p.room, p.short, same_count)
 
-    pub printed-plan :
+    pub printed_plan :
         {mid new : List ℕ} {next behind : ℕ}
         → length (plan_line records layers) ≤ 54
         → Written text 0 (plan_line records layers) mid next
@@ -72,7 +72,7 @@ module _ {plan text : List ℕ} {a : PlanAnswer} (p : Printable a plan text) whe
         → Lists a plan rs
         → Printed text (answer_text a rs) new behind
     unfolding answer_text plan_line pair_text
-    printed-plan {behind = behind} h v w rs l =
+    printed_plan {behind = behind} h v w rs l =
         let q = same_lists rs l in
         let all : Written text 0 (plan_line records layers ++ records_text rs) _ behind = written_join v (w rs q) in
         rw is
@@ -80,7 +80,7 @@ module _ {plan text : List ℕ} {a : PlanAnswer} (p : Printable a plan text) whe
         (omega (arith, length-append (plan_line records layers) (records_text rs), records_room rs q.small, q.many, p.room, same_count))
         all)
 
-  pub printed-no-plan :
+  pub printed_no_plan :
       {layers records firsts : ℕ} {new : List ℕ} {next : ℕ}
       → a ≡ NoPlan layers records firsts
       → layers < 2 ^ 64
@@ -88,9 +88,9 @@ module _ {plan text : List ℕ} {a : PlanAnswer} (p : Printable a plan text) whe
       → (rs : List Record)
       → Printed text (answer_text a rs) new next
   unfolding answer_text no_plan_text line_text
-  printed-no-plan {layers} is h w rs = rw is (printed (omega (arith, no_plan_room layers h, p.room)) w)
+  printed_no_plan {layers} is h w rs = rw is (printed (omega (arith, no_plan_room layers h, p.room)) w)
 
-  pub printed-refusal :
+  pub printed_refusal :
       {r : Refusal} {new : List ℕ} {next : ℕ}
       → a ≡ Refused r
       → r.number < 2 ^ 64
@@ -99,4 +99,4 @@ module _ {plan text : List ℕ} {a : PlanAnswer} (p : Printable a plan text) whe
       → (rs : List Record)
       → Printed text (answer_text a rs) new next
   unfolding answer_text
-  printed-refusal {r} is h k w rs = rw is (printed (omega (arith, refusal_room r h k, p.room)) w)
+  printed_refusal {r} is h k w rs = rw is (printed (omega (arith, refusal_room r h k, p.room)) w)

@@ -17,17 +17,17 @@ unfoldable pub pair_text : List ℕ → ℕ → List ℕ → ℕ → List ℕ
 pair_text first a second b = first ++ decimal a ++ second ++ decimal b ++ newline
 
 module _ (word : List ℕ) (n : ℕ) where
-  pub length-line : length (line_text word n) ≡ length word + length (decimal n) + 1
+  pub length_line : length (line_text word n) ≡ length word + length (decimal n) + 1
   unfolding line_text newline
-  length-line = rw (length-append (word ++ decimal n) newline, length-append word (decimal n)) refl
+  length_line = rw (length-append (word ++ decimal n) newline, length-append word (decimal n)) refl
 
 module _ (first : List ℕ) (a : ℕ) (second : List ℕ) (b : ℕ) where
   pub pair_line : first ++ decimal a ++ line_text second b ≡ pair_text first a second b
   unfolding line_text pair_text
   pair_line = simp append_assoc
 
-  pub length-pair : length (pair_text first a second b) ≡ length first + length (decimal a) + length (line_text second b)
-  length-pair =
+  pub length_pair : length (pair_text first a second b) ≡ length first + length (decimal a) + length (line_text second b)
+  length_pair =
       ap length (sym pair_line)
       ∙ rw (length-append (first ++ decimal a) (line_text second b), length-append first (decimal a)) refl
 
@@ -46,23 +46,23 @@ record_line move count = pair_text [] move space count
 -- ---- the room that a line takes: a 64-bit number has at most 20 digits
 
 pub line_room : (word : List ℕ) (n : ℕ) → n < 2 ^ 64 → length (line_text word n) ≤ length word + 21
-line_room word n h = omega (arith, length-line word n, decimal_word n h)
+line_room word n h = omega (arith, length_line word n, decimal_word n h)
 
 module _ (first : List ℕ) (a : ℕ) (second : List ℕ) (b : ℕ) (small : b < 2 ^ 64) where
-  pub pair-room : a < 2 ^ 64 → length (pair_text first a second b) ≤ length first + length second + 41
-  pair-room h = omega (arith, length-pair first a second b, decimal_word a h, line_room second b small)
+  pub pair_room : a < 2 ^ 64 → length (pair_text first a second b) ≤ length first + length second + 41
+  pair_room h = omega (arith, length_pair first a second b, decimal_word a h, line_room second b small)
 
   -- and a byte at most 3
-  pub byte-room : a < 256 → length (pair_text first a second b) ≤ length first + length second + 24
-  byte-room h = omega (arith, length-pair first a second b, decimal_byte a h, line_room second b small)
+  pub byte_room : a < 256 → length (pair_text first a second b) ≤ length first + length second + 24
+  byte_room h = omega (arith, length_pair first a second b, decimal_byte a h, line_room second b small)
 
 pub record_room : (move count : ℕ) → move < 256 → count < 2 ^ 64 → length (record_line move count) ≤ 25
 unfolding record_line space
-record_room move count h k = byte-room [] move space count k h
+record_room move count h k = byte_room [] move space count k h
 
 pub plan_room : (records layers : ℕ) → records < 2 ^ 64 → layers < 2 ^ 64 → length (plan_line records layers) ≤ 54
 unfolding plan_line plan_word layers_word
-plan_room records layers h k = pair-room plan_word records layers_word layers k h
+plan_room records layers h k = pair_room plan_word records layers_word layers k h
 
 pub no_plan_room : (layers : ℕ) → layers < 2 ^ 64 → length (no_plan_text layers) ≤ 36
 unfolding no_plan_text no_plan_word layers_word
@@ -70,4 +70,4 @@ no_plan_room layers h = line_room no_plan_word layers h
 
 pub refusal_room : (r : Refusal) → r.number < 2 ^ 64 → r.place < 2 ^ 64 → length (refusal_text r) ≤ 56
 unfolding refusal_text refusal_word place_word pair_text
-refusal_room r h k = pair-room refusal_word r.number place_word r.place k h
+refusal_room r h k = pair_room refusal_word r.number place_word r.place k h

@@ -17,12 +17,12 @@ use Rattle.model.specs.StateTable.{state_refusal}
 use Rattle.model.specs.Calls.{Output, on_output, output_after, Ready, ready, unready, ready_with, ready_of, prepared, record_bytes, plan_records, planned, plan_fitted, plan_of, plan_answer, plan_out_of, plan_out}
 use Rattle.model.specs.Listing.{listing_layers, listing_bytes, answer_text, ready_text}
 use Rattle.model.specs.Theorems.Reading.WellFormed.{All, TaskOk}
-use Rattle.model.specs.Theorems.Printing.Outputs.{fitted_cases, plan-cases}
+use Rattle.model.specs.Theorems.Printing.Outputs.{fitted_cases, plan_cases}
 use Rattle.model.specs.Theorems.Reading.Accepted.{reading_task}
-use Rattle.model.specs.Theorems.Layers.Building.{built-outcome}
-use Rattle.model.specs.Theorems.Plans.Records.{Bounded, length_record_bytes, records-bounded}
+use Rattle.model.specs.Theorems.Layers.Building.{built_outcome}
+use Rattle.model.specs.Theorems.Plans.Records.{Bounded, length_record_bytes, records_bounded}
 use Rattle.model.specs.Theorems.Sizes.States.{SmallState, accepted_small, normal_state_small}
-use Rattle.model.specs.Theorems.Sizes.Plans.{reported-most, records-counts, answered_passes}
+use Rattle.model.specs.Theorems.Sizes.Plans.{reported_most, records_counts, answered_passes}
 use Rattle.report.specs.Records.{Encodable}
 use Rattle.report.specs.Answer.{record_count, Lists, Printable}
 
@@ -65,18 +65,18 @@ planned_encodable : (t bs : List ℕ) → All Encodable (planned_records (prepar
 unfolding planned_records plan_records reported paper
 planned_encodable t bs = go (prepared paper t bs) (prepared_is t bs)
   where
-    by-built : (k : Task) (s : State) → TaskOk paper normal k → SmallState k.vars s → (b : Built) → build paper k s listing_layers ≡ b → All Encodable (plan_records k s b)
-    by-built k s ok small (answered (reached m)) e =
-        let same : reached m ≡ outcome k s = built-outcome paper k s listing_layers (reached m) e in
+    by_built : (k : Task) (s : State) → TaskOk paper normal k → SmallState k.vars s → (b : Built) → build paper k s listing_layers ≡ b → All Encodable (plan_records k s b)
+    by_built k s ok small (answered (reached m)) e =
+        let same : reached m ≡ outcome k s = built_outcome paper k s listing_layers (reached m) e in
         let last : m ≡ reported (outcome k s) = ap reported same in
-        let most : m ≤ 3201 = omega (arith, reported-most ok s) in
-        encodable m (length k.moves) (records k s m) (omega (arith, ok.moves)) (records-bounded k s m)
-        (records-counts ok small m (λ u h. answered_passes k s listing_layers e u (omega arith)) most)
-    by-built k s ok small (answered (exhausted m)) e = tt
-    by-built k s ok small (stopped n m) e = tt
+        let most : m ≤ 3201 = omega (arith, reported_most ok s) in
+        encodable m (length k.moves) (records k s m) (omega (arith, ok.moves)) (records_bounded k s m)
+        (records_counts ok small m (λ u h. answered_passes k s listing_layers e u (omega arith)) most)
+    by_built k s ok small (answered (exhausted m)) e = tt
+    by_built k s ok small (stopped n m) e = tt
 
     go : (r : Ready) → Prepared r → All Encodable (planned_records r)
-    go (ready k s) h = by-built k s h.0 h.1 (build paper k s listing_layers) refl
+    go (ready k s) h = by_built k s h.0 h.1 (build paper k s listing_layers) refl
     go (unready r) h = tt
 
 -- ---- what plan writes begins with the bytes of the records that it answers
@@ -116,7 +116,7 @@ few_ready : (q : Ready) (size room : ℕ) → 10 * record_count (plan_of paper s
 unfolding plan_of record_count
 few_ready (ready k s) size room =
     let b = build paper k s size in
-    plan-cases room k s b (λ (a : PlanAnswer). 10 * record_count a ≤ room)
+    plan_cases room k s b (λ (a : PlanAnswer). 10 * record_count a ≤ room)
     (λ whole. omega (arith, few_built k s b, length_record_bytes (plan_records k s b))) (omega arith)
 few_ready (unready r) size room = omega arith
 
@@ -132,20 +132,20 @@ unfoldable pub text_length : ℕ
 text_length = 160_056
 
 module _ (t bs : List ℕ) (layers : List ℤ) (out : List ℕ) (length-layers : length layers ≡ listing_layers) (length-out : length out ≡ listing_bytes) where
-  pub plan-lists : Lists (plan_answer paper t bs layers out) (plan_out paper t bs layers out) (planned_records (prepared paper t bs))
+  pub plan_lists : Lists (plan_answer paper t bs layers out) (plan_out paper t bs layers out) (planned_records (prepared paper t bs))
   unfolding plan_answer plan_out
-  plan-lists = rw (length-layers, length-out) (lists_ready (prepared paper t bs) out length-out (planned_encodable t bs))
+  plan_lists = rw (length-layers, length-out) (lists_ready (prepared paper t bs) out length-out (planned_encodable t bs))
 
-  pub plan-text : answer_text (plan_answer paper t bs layers out) (planned_records (prepared paper t bs)) ≡ ready_text paper (prepared paper t bs)
+  pub plan_text : answer_text (plan_answer paper t bs layers out) (planned_records (prepared paper t bs)) ≡ ready_text paper (prepared paper t bs)
   unfolding plan_answer
-  plan-text = rw (length-layers, length-out) (text_ready (prepared paper t bs))
+  plan_text = rw (length-layers, length-out) (text_ready (prepared paper t bs))
 
-  pub plan-printable : (text : List ℕ) → length text ≡ text_length → Printable (plan_answer paper t bs layers out) (plan_out paper t bs layers out) text
+  pub plan_printable : (text : List ℕ) → length text ≡ text_length → Printable (plan_answer paper t bs layers out) (plan_out paper t bs layers out) text
   unfolding plan_answer text_length listing_bytes
-  plan-printable text h =
+  plan_printable text h =
       record {
         records = planned_records (prepared paper t bs);
-        lists = plan-lists;
+        lists = plan_lists;
         room = omega (arith, few_ready (prepared paper t bs) (length layers) (length out), length-out);
         short = omega arith;
       }

@@ -10,7 +10,7 @@ use Rattle.model.specs.Calls.{record_bytes}
 use Rattle.model.specs.Listing.{records_text}
 use Rattle.model.specs.Theorems.Reading.WellFormed.{All}
 use Rattle.model.specs.Theorems.Plans.Records.{length_record_bytes}
-use Rattle.output.specs.Writing.{Written, Writing, writing_start, writing-rest, writing-behind, writing_step, writing-end}
+use Rattle.output.specs.Writing.{Written, Writing, writing_start, writing_rest, writing_behind, writing_step, writing_end}
 use Rattle.report.specs.Lines.{pair_text, record_line, record_room}
 
 -- a record that its bytes hold whole
@@ -48,22 +48,22 @@ records_room (r ∷ rs) small =
 
 module _ (plan : List ℕ) (i : ℕ) {m : ℕ} {r : Record} {rs : List Record} (p : Planned (drop (10 * i) plan) m (r ∷ rs)) where
   -- behind the two bytes before the count
-  count-bytes : drop 2 (drop (10 * i) plan) ≡ bytes 8 r.count ++ (record_bytes rs ++ p.behind)
+  count_bytes : drop 2 (drop (10 * i) plan) ≡ bytes 8 r.count ++ (record_bytes rs ++ p.behind)
   unfolding record_bytes
-  count-bytes = ap (drop 2) p.is ∙ append_assoc (bytes 8 r.count) (record_bytes rs) p.behind
+  count_bytes = ap (drop 2) p.is ∙ append_assoc (bytes 8 r.count) (record_bytes rs) p.behind
 
   move_read : get_or plan (10 * i + 1) 0 ≡ r.move
   unfolding record_bytes
   move_read = sym (get_or-drop (10 * i) plan 1 0) ∙ ap (λ (l : List ℕ). get_or l 1 0) p.is
 
-  count-read : unsigned (take 8 (drop (10 * i + 2) plan)) ≡ r.count
-  count-read =
-      ap (λ (l : List ℕ). unsigned (take 8 l)) (sym (drop-drop 2 (10 * i) plan) ∙ count-bytes)
+  count_read : unsigned (take 8 (drop (10 * i + 2) plan)) ≡ r.count
+  count_read =
+      ap (λ (l : List ℕ). unsigned (take 8 l)) (sym (drop-drop 2 (10 * i) plan) ∙ count_bytes)
       ∙ ap unsigned (take_at (bytes 8 r.count) (record_bytes rs ++ p.behind) 8 (length_bytes 8 r.count))
       ∙ unsigned_bytes 8 r.count p.small.0.count
 
-  others-planned : Planned (drop (10 * (i + 1)) plan) (length rs) rs
-  others-planned =
+  others_planned : Planned (drop (10 * (i + 1)) plan) (length rs) rs
+  others_planned =
       let e : 10 * (i + 1) ≡ 10 * i + 2 + 8 = omega arith in
       record {
         many = refl;
@@ -71,7 +71,7 @@ module _ (plan : List ℕ) (i : ℕ) {m : ℕ} {r : Record} {rs : List Record} (
         is =
             ap (λ (n : ℕ). drop n plan) e
             ∙ sym (drop-drop 8 (10 * i + 2) plan)
-            ∙ ap (drop 8) (sym (drop-drop 2 (10 * i) plan) ∙ count-bytes)
+            ∙ ap (drop 8) (sym (drop-drop 2 (10 * i) plan) ∙ count_bytes)
             ∙ drop_at (bytes 8 r.count) (record_bytes rs ++ p.behind) 8 (length_bytes 8 r.count);
         small = p.small.1;
       }
@@ -95,7 +95,7 @@ listed_none old at {rs = rs} p =
 
 module _ {old : List ℕ} {at : ℕ} {plan : List ℕ} {rs : List Record} {new : List ℕ} {next i : ℕ} (l : Listed old at plan rs new next i) where
   pub next_room : {n : ℕ} → Planned plan n rs → next ≤ at + 25 * n
-  next_room {n} p = omega (arith, p.many, writing-behind l.writing, records_room rs p.small)
+  next_room {n} p = omega (arith, p.many, writing_behind l.writing, records_room rs p.small)
 
   pub listed_next :
       i < length rs
@@ -115,22 +115,22 @@ module _ {old : List ℕ} {at : ℕ} {plan : List ℕ} {rs : List Record} {new :
           → Listed old at plan rs new' next' (i + 1)
       go [] p q v = absurd (omega arith)
       go (r ∷ others) p q v =
-          let line : record_line move count ≡ record_line r.move r.count = ap₂ record_line (m ∙ move_read plan i q) (c ∙ count-read plan i q) in
+          let line : record_line move count ≡ record_line r.move r.count = ap₂ record_line (m ∙ move_read plan i q) (c ∙ count_read plan i q) in
           record {
             rest = others;
             passed = omega arith;
-            left = others-planned plan i q;
-            writing = writing_step (writing-rest v (records_line r others)) (subst (λ (bs : List ℕ). Written new next bs new' next') line w);
+            left = others_planned plan i q;
+            writing = writing_step (writing_rest v (records_line r others)) (subst (λ (bs : List ℕ). Written new next bs new' next') line w);
           }
 
-  pub listed-all : length rs ≤ i → Written old at (records_text rs) new next
+  pub listed_all : length rs ≤ i → Written old at (records_text rs) new next
   unfolding records_text
-  listed-all h = go l.rest l.passed l.writing
+  listed_all h = go l.rest l.passed l.writing
     where
       go :
           (rest : List Record)
           → i + length rest ≡ length rs
           → Writing old at (records_text rs) new next (records_text rest)
           → Written old at (records_text rs) new next
-      go [] p v = writing-end v
+      go [] p v = writing_end v
       go (r ∷ others) p v = absurd (omega arith)

@@ -36,15 +36,15 @@ unfolding active_moves
 kept_idle b e = ap (λ (c : Bool). cond c (b ∷ []) []) e
 
 module _ {part : List ℕ} {r : Bool} (a : IsActive part r) where
-  pub count-one : r ≡ true → KeptCount part 1
-  count-one e = record { is = λ k b l. sym (ap length (kept_active b (sym (a.is k b l) ∙ e))) }
+  pub count_one : r ≡ true → KeptCount part 1
+  count_one e = record { is = λ k b l. sym (ap length (kept_active b (sym (a.is k b l) ∙ e))) }
 
   pub count_none : r ≡ false → KeptCount part 0
   count_none e = record { is = λ k b l. sym (ap length (kept_idle b (sym (a.is k b l) ∙ e))) }
 
-  pub kept-not : (old : List ℕ) (at : ℕ) → r ≡ false → Kept part old at old at
+  pub kept_not : (old : List ℕ) (at : ℕ) → r ≡ false → Kept part old at old at
   unfolding moves_bytes
-  kept-not old at e =
+  kept_not old at e =
       record {
         is = λ k b l same. written_same (written_none old at) (sym (ap moves_bytes (kept_idle b (sym (a.is k b l) ∙ e))));
         same = refl;
@@ -74,9 +74,9 @@ module _ (b : Block) (ms : List Block) where
       go true = omega arith
       go false = omega arith
 
-  pub bytes-first : moves_bytes (active_moves (b ∷ ms)) ≡ moves_bytes (active_moves (b ∷ [])) ++ moves_bytes (active_moves ms)
+  pub bytes_first : moves_bytes (active_moves (b ∷ ms)) ≡ moves_bytes (active_moves (b ∷ [])) ++ moves_bytes (active_moves ms)
   unfolding active_moves moves_bytes
-  bytes-first = go (active b)
+  bytes_first = go (active b)
     where
       go : (c : Bool) → moves_bytes (cond c (b ∷ active_moves ms) (active_moves ms)) ≡ moves_bytes (cond c (b ∷ []) []) ++ moves_bytes (active_moves ms)
       go true =

@@ -12,7 +12,7 @@ use Rattle.model.specs.Calls.{writes}
 use Rattle.model.specs.Rewrite.{rewritten, rewrite_of, rewrote, rewrite_answer, rewrite_out}
 use Rattle.table.specs.Outlines.{StoredRead}
 use Rattle.output.specs.Answers.{Answered, answered_same, answered_refused}
-use Rattle.rewrite.specs.Stored.{rewritten_bytes, form-is, task-is}
+use Rattle.rewrite.specs.Stored.{rewritten_bytes, form_is, task_is}
 
 rewrite_answered :
     (t : List ℕ) {old new : List ℕ} {r : WriteAnswer}
@@ -22,16 +22,16 @@ unfolding rewrite_answer rewrite_out rewrote
 rewrite_answered t a = (a.answer, a.output)
 
 module _ {t marks : List ℕ} {moves : ℕ} (h : StoredRead t marks moves) where
-  rewritten-is : rewrite_of (reading paper stored t) ≡ writes (rewritten_bytes t)
+  rewritten_is : rewrite_of (reading paper stored t) ≡ writes (rewritten_bytes t)
   unfolding rewrite_of rewritten_bytes
-  rewritten-is = ap rewrite_of h.is ∙ sym (rw (form-is h, task-is h) (λ i. writes (task_bytes h.table.header.form (rewritten h.table.task))))
+  rewritten_is = ap rewrite_of h.is ∙ sym (rw (form_is h, task_is h) (λ i. writes (task_bytes h.table.header.form (rewritten h.table.task))))
 
   -- the call's answer is what was written
-  pub rewrite-written :
+  pub rewrite_written :
       {old new : List ℕ} {r : WriteAnswer}
       → Answered (writes (rewritten_bytes t)) old new r
       → (r ≡ rewrite_answer paper t old) × (new ≡ rewrite_out paper t old)
-  rewrite-written a = rewrite_answered t (answered_same a (sym rewritten-is))
+  rewrite_written a = rewrite_answered t (answered_same a (sym rewritten_is))
 
 -- the table is refused
 pub rewrite_refused :

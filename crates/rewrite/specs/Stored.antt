@@ -12,14 +12,14 @@ use Rattle.model.specs.Command.{head, open_move, open_goal, end_table, code_of, 
 use Rattle.model.specs.Reading.{Verdict, accepted, refused, only, stored, length_limit, reading}
 use Rattle.model.specs.Rewrite.{active_moves, rewritten}
 use Rattle.model.specs.Theorems.NormalForm.Print.{length_task}
-use Rattle.model.specs.Theorems.Rewriting.Accepted.{kept_few, kept_bytes, rewritten-shorter}
+use Rattle.model.specs.Theorems.Rewriting.Accepted.{kept_few, kept_bytes, rewritten_shorter}
 use Rattle.table.specs.Outlines.{part_at, Outline, StoredRead}
 use Rattle.block.specs.Items.{Left}
-use Rattle.block.specs.Parts.{ranges_of, move-left}
+use Rattle.block.specs.Parts.{ranges_of, move_left}
 use Rattle.reader.specs.Parts.{PartIn, outline_part}
 use Rattle.reader.specs.Written.{task_in}
-use Rattle.output.specs.Writing.{Written, written_join, written_same, Writing, writing_start, writing-rest, writing-behind, writing_step, writing-end}
-use Rattle.rewrite.specs.Active.{kept_first, bytes-first}
+use Rattle.output.specs.Writing.{Written, written_join, written_same, Writing, writing_start, writing_rest, writing_behind, writing_step, writing_end}
+use Rattle.rewrite.specs.Active.{kept_first, bytes_first}
 
 -- the form and the task that a stored table stands for
 unfoldable pub form_in : Verdict → Form
@@ -44,26 +44,26 @@ pub record Stored (t marks : List ℕ) (moves : ℕ) : Type 0 where
 
 -- what the outline of the table answers
 module _ {t marks : List ℕ} {moves : ℕ} (h : StoredRead t marks moves) where
-  pub form-is : stored_form t ≡ h.table.header.form
+  pub form_is : stored_form t ≡ h.table.header.form
   unfolding stored_form form_in
-  form-is = ap form_in h.is
+  form_is = ap form_in h.is
 
-  pub task-is : stored_task t ≡ h.table.task
+  pub task_is : stored_task t ≡ h.table.task
   unfolding stored_task task_in
-  task-is = ap task_in h.is
+  task_is = ap task_in h.is
 
-  pub read-stored : Stored t marks moves
-  read-stored =
+  pub read_stored : Stored t marks moves
+  read_stored =
       record {
-        outline = rw (form-is, task-is) h.outline;
-        prints = rw (form-is, task-is) h.prints;
-        count = rw task-is h.count;
+        outline = rw (form_is, task_is) h.outline;
+        prints = rw (form_is, task_is) h.prints;
+        count = rw task_is h.count;
       }
 
 module _ {t marks : List ℕ} {moves : ℕ} (s : Stored t marks moves) where
-  pub few-moves : moves ≤ 64
+  pub few_moves : moves ≤ 64
   unfolding paper
-  few-moves = omega (arith, s.count, s.outline.ok.moves)
+  few_moves = omega (arith, s.count, s.outline.ok.moves)
 
   -- "normal 64,000 bytes at most", and written ones no more
   pub short : length t ≤ 64_000
@@ -75,13 +75,13 @@ module _ {t marks : List ℕ} {moves : ℕ} (s : Stored t marks moves) where
       go normal e h = omega arith
 
   pub move_in : (b : ℕ) → b < moves → {part : List ℕ} → part ≡ part_at t marks b → Left (ranges_of (stored_form t) (stored_task t)) part 1 (get_or (stored_task t).moves b [])
-  move_in b h e = rw e (let i : b < length (stored_task t).moves = omega (arith, s.count) in move-left s.outline.ok b i (s.outline.move b i))
+  move_in b h e = rw e (let i : b < length (stored_task t).moves = omega (arith, s.count) in move_left s.outline.ok b i (s.outline.move b i))
 
-  pub move-bytes : (b : ℕ) → b < moves → {part : List ℕ} → part ≡ part_at t marks b → part ≡ code_of open_move ∷ items_bytes (get_or (stored_task t).moves b [])
-  move-bytes b h e = e ∙ s.outline.move b (omega (arith, s.count))
+  pub move_bytes : (b : ℕ) → b < moves → {part : List ℕ} → part ≡ part_at t marks b → part ≡ code_of open_move ∷ items_bytes (get_or (stored_task t).moves b [])
+  move_bytes b h e = e ∙ s.outline.move b (omega (arith, s.count))
 
-  pub goal-bytes : {part : List ℕ} → part ≡ part_at t marks moves → part ≡ code_of open_goal ∷ items_bytes (stored_task t).goal
-  goal-bytes e = e ∙ ap (part_at t marks) s.count ∙ s.outline.goal
+  pub goal_bytes : {part : List ℕ} → part ≡ part_at t marks moves → part ≡ code_of open_goal ∷ items_bytes (stored_task t).goal
+  goal_bytes e = e ∙ ap (part_at t marks) s.count ∙ s.outline.goal
 
   -- the offsets of a block
   pub block_in : (b : ℕ) → b ≤ moves → PartIn t marks b
@@ -95,16 +95,16 @@ module _ {t marks : List ℕ} {moves : ℕ} (s : Stored t marks moves) where
       omega
       (arith, ap length e, length-take-le (to - from) (drop from t) (omega (arith, length-drop from t, p.rises, p.within)), p.within, short)
 
-  pub kept-most : length (active_moves (stored_task t).moves) ≤ 64
-  kept-most = omega (arith, kept_few (stored_task t).moves, s.count, few-moves)
+  pub kept_most : length (active_moves (stored_task t).moves) ≤ 64
+  kept_most = omega (arith, kept_few (stored_task t).moves, s.count, few_moves)
 
   -- the table and what is written of it
-  pub table-size : length t ≡ 6 + length (moves_bytes (stored_task t).moves) + length (items_bytes (stored_task t).goal)
-  table-size = ap length s.prints ∙ length_task (stored_form t) (stored_task t)
+  pub table_size : length t ≡ 6 + length (moves_bytes (stored_task t).moves) + length (items_bytes (stored_task t).goal)
+  table_size = ap length s.prints ∙ length_task (stored_form t) (stored_task t)
 
   pub not_longer : length (rewritten_bytes t) ≤ length t
   unfolding rewritten_bytes
-  not_longer = omega (arith, rewritten-shorter (stored_task t) (stored_form t), ap length s.prints)
+  not_longer = omega (arith, rewritten_shorter (stored_task t) (stored_form t), ap length s.prints)
 
   -- the bytes of the head
   head_bytes_lem : (get_or t 0 0 ≡ code_of (head (stored_form t))) × (get_or t 1 0 ≡ (stored_task t).props) × (get_or t 2 0 ≡ (stored_task t).vars)
@@ -127,7 +127,7 @@ module _ {t marks : List ℕ} {moves : ℕ} (s : Stored t marks moves) where
       let moved = moves_bytes (active_moves k.moves) in
       let goals = code_of open_goal ∷ items_bytes k.goal in
       written_same (written_join p (written_join q (written_join r u)))
-      (ap (λ (l : List ℕ). get_or t 0 0 ∷ get_or t 1 0 ∷ get_or t 2 0 ∷ kept ∷ (moved ++ (l ++ (code_of end_table ∷ [])))) (goal-bytes f)
+      (ap (λ (l : List ℕ). get_or t 0 0 ∷ get_or t 1 0 ∷ get_or t 2 0 ∷ kept ∷ (moved ++ (l ++ (code_of end_table ∷ [])))) (goal_bytes f)
       ∙ ap (λ (n : ℕ). n ∷ get_or t 1 0 ∷ get_or t 2 0 ∷ kept ∷ (moved ++ (goals ++ (code_of end_table ∷ [])))) head_bytes_lem.0
       ∙ ap₂ (λ (n m : ℕ). code_of (head (stored_form t)) ∷ n ∷ m ∷ kept ∷ (moved ++ (goals ++ (code_of end_table ∷ [])))) head_bytes_lem.1 head_bytes_lem.2
       ∙ ap (λ (n : ℕ). code_of (head (stored_form t)) ∷ k.props ∷ k.vars ∷ n ∷ (moved ++ (goals ++ (code_of end_table ∷ [])))) e
@@ -136,8 +136,8 @@ module _ {t marks : List ℕ} {moves : ℕ} (s : Stored t marks moves) where
 -- ---- the moves one by one
 
 module _ (ms : List Block) (b : ℕ) where
-  next-move : b < length ms → drop b ms ≡ get_or ms b [] ∷ drop (b + 1) ms
-  next-move h = drop-cons ms b [] h ∙ ap (λ (n : ℕ). get_or ms b [] ∷ drop n ms) (sym (add-one b))
+  next_move : b < length ms → drop b ms ≡ get_or ms b [] ∷ drop (b + 1) ms
+  next_move h = drop-cons ms b [] h ∙ ap (λ (n : ℕ). get_or ms b [] ∷ drop n ms) (sym (add-one b))
 
   no_move : b ≡ length ms → drop b ms ≡ []
   no_move e = ap (λ (n : ℕ). drop n ms) e ∙ drop-length ms
@@ -151,18 +151,18 @@ pub counting_start : (ms : List Block) → Counting ms 0 0
 counting_start ms = record { within = omega arith; same = omega arith }
 
 module _ {ms : List Block} {b kept : ℕ} (c : Counting ms b kept) where
-  pub counting-step : b < length ms → {n : ℕ} → n ≡ length (active_moves (get_or ms b [] ∷ [])) → Counting ms (b + 1) (kept + n)
-  counting-step h {n} e =
+  pub counting_step : b < length ms → {n : ℕ} → n ≡ length (active_moves (get_or ms b [] ∷ [])) → Counting ms (b + 1) (kept + n)
+  counting_step h {n} e =
       record {
         within = omega arith;
         same =
             omega
-            (arith, c.same, e, ap (λ (l : List Block). length (active_moves l)) (next-move ms b h), kept_first (get_or ms b []) (drop (b + 1) ms));
+            (arith, c.same, e, ap (λ (l : List Block). length (active_moves l)) (next_move ms b h), kept_first (get_or ms b []) (drop (b + 1) ms));
       }
 
-  pub counting-end : length ms ≤ b → kept ≡ length (active_moves ms)
+  pub counting_end : length ms ≤ b → kept ≡ length (active_moves ms)
   unfolding active_moves
-  counting-end h = omega (arith, c.same, ap (λ (l : List Block). length (active_moves l)) (no_move ms b (omega (arith, c.within))))
+  counting_end h = omega (arith, c.same, ap (λ (l : List Block). length (active_moves l)) (no_move ms b (omega (arith, c.within))))
 
 -- the moves before b are written
 pub record MovesWriting (ms : List Block) (b : ℕ) (old : List ℕ) (start : ℕ) (new : List ℕ) (to : ℕ) : Type 0 where
@@ -173,26 +173,26 @@ pub moves_start : (ms : List Block) (old : List ℕ) (start : ℕ) → MovesWrit
 moves_start ms old start = record { within = omega arith; writing = writing_start old start (moves_bytes (active_moves ms)) }
 
 module _ {ms : List Block} {b : ℕ} {old : List ℕ} {start : ℕ} {new : List ℕ} {to : ℕ} (p : MovesWriting ms b old start new to) where
-  pub moves-short : to ≤ start + length (moves_bytes ms)
-  moves-short = omega (arith, writing-behind p.writing, kept_bytes ms)
+  pub moves_short : to ≤ start + length (moves_bytes ms)
+  moves_short = omega (arith, writing_behind p.writing, kept_bytes ms)
 
-  pub moves-step :
+  pub moves_step :
       b < length ms
       → {next : List ℕ} {on : ℕ}
       → Written new to (moves_bytes (active_moves (get_or ms b [] ∷ []))) next on
       → MovesWriting ms (b + 1) old start next on
-  moves-step h w =
+  moves_step h w =
       record {
         within = omega arith;
         writing =
             writing_step
-            (writing-rest p.writing
-            (ap (λ (l : List Block). moves_bytes (active_moves l)) (next-move ms b h) ∙ bytes-first (get_or ms b []) (drop (b + 1) ms)))
+            (writing_rest p.writing
+            (ap (λ (l : List Block). moves_bytes (active_moves l)) (next_move ms b h) ∙ bytes_first (get_or ms b []) (drop (b + 1) ms)))
             w;
       }
 
-  pub moves-end : length ms ≤ b → Written old start (moves_bytes (active_moves ms)) new to
+  pub moves_end : length ms ≤ b → Written old start (moves_bytes (active_moves ms)) new to
   unfolding active_moves moves_bytes
-  moves-end h =
-      writing-end
-      (writing-rest p.writing (ap (λ (l : List Block). moves_bytes (active_moves l)) (no_move ms b (omega (arith, p.within)))))
+  moves_end h =
+      writing_end
+      (writing_rest p.writing (ap (λ (l : List Block). moves_bytes (active_moves l)) (no_move ms b (omega (arith, p.within)))))

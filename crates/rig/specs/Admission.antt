@@ -8,7 +8,7 @@ use Rattle.model.specs.declared.ReadAnswer.TheVariants as read
 use Rattle.model.specs.Limits.{paper}
 use Rattle.model.specs.Reading.{Verdict, accepted, refused, Wanted, reading}
 use Rattle.ceiling.specs.Ceiling as ceilings
-use Rattle.ceiling.specs.Theorems.Calls.{Beneath, seventeen-exactly}
+use Rattle.ceiling.specs.Theorems.Calls.{Beneath, seventeen_exactly}
 use Rattle.table.specs.Answer.{Outlined, answer_accepted, answer_refused}
 use Rattle.ceiling.specs.declared.Ceiling.{Ceiling}
 use Rattle.rig.specs.declared.Admission.{Admission}
@@ -25,20 +25,20 @@ not_not true = refl
 not_not false = refl
 
 module _ (c : Ceiling) (w : Wanted) (t : List ℕ) where
-  pub not-beyond-admits : {b : Bool} → IsBeyond c t b → not b ≡ true → Beneath (ceiling_of c) (reading paper w t)
-  not-beyond-admits {b} is e = go (reading paper w t) refl
+  pub not_beyond_admits : {b : Bool} → IsBeyond c t b → not b ≡ true → Beneath (ceiling_of c) (reading paper w t)
+  not_beyond_admits {b} is e = go (reading paper w t) refl
     where
       go : (v : Verdict) → reading paper w t ≡ v → Beneath (ceiling_of c) v
       go (accepted k) read_is = sym (is w k read_is) ∙ sym (not_not b) ∙ ap not e
       go (refused r) read_is = tt
 
-  pub beyond-refused :
+  pub beyond_refused :
       {b : Bool} {r : ReadAnswer} {marks : List ℕ} {kind props vars moves : ℕ} → IsBeyond c t b → not b ≡ false
       → Outlined t (reading paper w t) r marks → r ≡ read.Head kind props vars moves
       → ceilings.reading_under (ceiling_of c) paper w t ≡ refused (record { number = 17; place = 0 })
-  beyond-refused {b} {kind = kind} {props} {vars} {moves} is e o head-is =
+  beyond_refused {b} {kind = kind} {props} {vars} {moves} is e o head-is =
       let a = answer_accepted (reading paper w t) kind props vars moves (sym o.answer ∙ head-is) in
-      (seventeen-exactly (ceiling_of c) paper w t).1
+      (seventeen_exactly (ceiling_of c) paper w t).1
       (record { table = a.table; read = a.is; head = sym (is w a.table a.is) ∙ sym (not_not b) ∙ ap not e })
 
   pub table_refused :

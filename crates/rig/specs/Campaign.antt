@@ -11,9 +11,9 @@ use Rattle.model.specs.Task.{written}
 use Rattle.model.specs.Reading.{only, refused, reading}
 use Rattle.model.specs.Calls.{campaign_decision, campaign_plan, campaign_memory, campaign_out}
 use Rattle.ceiling.specs.Ceiling.{reading_under, normalise_out_under, campaign_decision_under, campaign_plan_under, campaign_memory_under, campaign_out_under}
-use Rattle.ceiling.specs.Theorems.Calls.{Beneath, same-writing, turned-writing}
-use Rattle.ceiling.specs.Theorems.Campaign.{same_campaign, turned-campaign}
-use Rattle.ceiling.specs.Theorems.EndToEnd.{PromiseUnder, promise-under}
+use Rattle.ceiling.specs.Theorems.Calls.{Beneath, same_writing, turned_writing}
+use Rattle.ceiling.specs.Theorems.Campaign.{same_campaign, turned_campaign}
+use Rattle.ceiling.specs.Theorems.EndToEnd.{PromiseUnder, promise_under}
 use Rattle.campaign.specs.Campaign as full
 use Rattle.ceiling.specs.declared.Ceiling.{Ceiling}
 use Rattle.ceiling.specs.Heads.{ceiling_of}
@@ -45,28 +45,28 @@ module _ (c : Ceiling) (t bs normal_form : List ℕ) (layers : List ℤ) (out : 
         normal = en;
         memory = em;
         list = eo;
-        promise = rw (ed, ep, eo) (promise-under (ceiling_of c) t bs normal_form layers out);
+        promise = rw (ed, ep, eo) (promise_under (ceiling_of c) t bs normal_form layers out);
       }
 
   -- the full call ran on the first numbers
-  pub done-admitted :
+  pub done_admitted :
       {n : ℕ} {normalFormAfter : List ℕ} {new : List ℤ} {outAfter : List ℕ} {d : DecideAnswer} {p : PlanAnswer}
       → Split c layers n
       → Beneath (ceiling_of c) (reading paper (only written) t)
       → full.Done t bs normal_form (take n layers) out normalFormAfter new outAfter d p
       → Done c t bs normal_form layers out normalFormAfter (new ++ drop n layers) outAfter d p
-  done-admitted s h done =
+  done_admitted s h done =
       let same = same_campaign (ceiling_of c) t bs normal_form layers out h in
       done_by (done.decision ∙ ap (campaign_decision paper t bs normal_form) s.first ∙ sym same.decides)
       (done.plan ∙ ap (λ (m : List ℤ). campaign_plan paper t bs normal_form m out) s.first ∙ sym same.plans)
-      (done.normal ∙ sym ((same-writing (ceiling_of c) paper t h).normal_form normal_form))
+      (done.normal ∙ sym ((same_writing (ceiling_of c) paper t h).normal_form normal_form))
       (ap₂ ◌++◌ (done.memory ∙ ap (campaign_memory paper t bs normal_form) s.first) s.behind ∙ sym same.leaves)
       (done.list ∙ ap (λ (m : List ℤ). campaign_out paper t bs normal_form m out) s.first ∙ sym same.writes)
 
   -- the table was turned away
-  pub done-turned :
+  pub done_turned :
       (r : Refusal) → reading_under (ceiling_of c) paper (only written) t ≡ refused r
       → Done c t bs normal_form layers out normal_form layers out (decide.Refused r) (plan.Refused r)
-  done-turned r u =
-      let back = turned-campaign (ceiling_of c) t bs normal_form layers out r u in
-      done_by (sym back.decides) (sym back.plans) (sym ((turned-writing (ceiling_of c) paper t r u).normal_form normal_form)) (sym back.leaves) (sym back.writes)
+  done_turned r u =
+      let back = turned_campaign (ceiling_of c) t bs normal_form layers out r u in
+      done_by (sym back.decides) (sym back.plans) (sym ((turned_writing (ceiling_of c) paper t r u).normal_form normal_form)) (sym back.leaves) (sym back.writes)

@@ -15,7 +15,7 @@ use Rattle.model.specs.Limits.{paper}
 use Rattle.model.specs.Lists.{first_from}
 use Rattle.model.specs.StateTable.{value_offset, state_value, value_in_range, refused_value, refused_byte, state_refusal}
 use Rattle.model.specs.Theorems.Laws.Booleans.{false_not}
-use Rattle.model.specs.Theorems.Laws.Searching.{firstFrom-cases}
+use Rattle.model.specs.Theorems.Laws.Searching.{first_from_cases}
 use Rattle.model.specs.Theorems.Reading.States.{AcceptedState}
 
 unfoldable pub check_of : StateCheck → Option Refusal
@@ -58,23 +58,23 @@ unfolding value_in_range paper
 range_size z e = leb-true (nat_abs z) 1_000_000 e
 
 module _ (bs : List ℕ) (p : ℕ) where
-  pub truth-wrong : 1 < get_or bs p 0 → wrong_truth bs p ≡ true
+  pub truth_wrong : 1 < get_or bs p 0 → wrong_truth bs p ≡ true
   unfolding wrong_truth
-  truth-wrong h = rw (lt-leb (get_or bs p 0) 1 h) refl
+  truth_wrong h = rw (lt-leb (get_or bs p 0) 1 h) refl
 
-  pub truth-right : get_or bs p 0 ≤ 1 → wrong_truth bs p ≡ false
+  pub truth_right : get_or bs p 0 ≤ 1 → wrong_truth bs p ≡ false
   unfolding wrong_truth
-  truth-right h = rw (le-leb (get_or bs p 0) 1 h) refl
+  truth_right h = rw (le-leb (get_or bs p 0) 1 h) refl
 
 module _ (props : ℕ) (bs : List ℕ) (v : ℕ) where
   -- by a flag that tells whether the value is in range
-  pub value-flag : (t : Bool) → t ≡ value_in_range paper (state_value props bs v) → wrong_value props bs v ≡ not t
+  pub value_flag : (t : Bool) → t ≡ value_in_range paper (state_value props bs v) → wrong_value props bs v ≡ not t
   unfolding wrong_value
-  value-flag t e = ap not (sym e)
+  value_flag t e = ap not (sym e)
 
-  value-right : nat_abs (state_value props bs v) ≤ 1_000_000 → wrong_value props bs v ≡ false
+  value_right : nat_abs (state_value props bs v) ≤ 1_000_000 → wrong_value props bs v ≡ false
   unfolding wrong_value value_in_range paper
-  value-right h = rw (le-leb (nat_abs (state_value props bs v)) 1_000_000 h) refl
+  value_right h = rw (le-leb (nat_abs (state_value props bs v)) 1_000_000 h) refl
 
 -- ---- the check by its parts
 
@@ -85,41 +85,41 @@ unfoldable pub values_refusal : ℕ → ℕ → List ℕ → Option Refusal
 values_refusal props vars bs = refused_value props (first_from (wrong_value props bs) 0 vars)
 
 module _ (props vars : ℕ) (bs : List ℕ) where
-  pub length-refused :
+  pub length_refused :
       (length bs ≡ props + 4 * vars → ⊥)
       → state_refusal paper props vars bs ≡ some (record { number = 8; place = 0 })
   unfolding state_refusal value_offset
-  length-refused h = rw (state_refusal, ne_eqb (length bs) (props + 4 * vars) h) refl
+  length_refused h = rw (state_refusal, ne_eqb (length bs) (props + 4 * vars) h) refl
 
-  pub length-right :
+  pub length_right :
       length bs ≡ props + 4 * vars
       → state_refusal paper props vars bs ≡ truths_refusal props bs (values_refusal props vars bs)
   unfolding state_refusal value_offset truths_refusal values_refusal wrong_truth wrong_value
-  length-right h = rw (state_refusal, eq-eqb (length bs) (props + 4 * vars) h) refl
+  length_right h = rw (state_refusal, eq-eqb (length bs) (props + 4 * vars) h) refl
 
 -- what the searches found
 module _ (props : ℕ) (bs : List ℕ) where
-  pub truths-found :
+  pub truths_found :
       (a : Option Refusal) {p : ℕ}
       → first_from (wrong_truth bs) 0 props ≡ some p
       → some (record { number = 9; place = p }) ≡ truths_refusal props bs a
   unfolding truths_refusal refused_byte
-  truths-found a e = rw e refl
+  truths_found a e = rw e refl
 
-  pub truths-none : (a : Option Refusal) → first_from (wrong_truth bs) 0 props ≡ none → a ≡ truths_refusal props bs a
+  pub truths_none : (a : Option Refusal) → first_from (wrong_truth bs) 0 props ≡ none → a ≡ truths_refusal props bs a
   unfolding truths_refusal refused_byte
-  truths-none a e = rw e refl
+  truths_none a e = rw e refl
 
-  pub values-found :
+  pub values_found :
       (vars : ℕ) {v : ℕ}
       → first_from (wrong_value props bs) 0 vars ≡ some v
       → some (record { number = 9; place = props + 4 * v }) ≡ values_refusal props vars bs
   unfolding values_refusal refused_value value_offset
-  values-found vars e = rw e refl
+  values_found vars e = rw e refl
 
-  pub values-none : (vars : ℕ) → first_from (wrong_value props bs) 0 vars ≡ none → none ≡ values_refusal props vars bs
+  pub values_none : (vars : ℕ) → first_from (wrong_value props bs) 0 vars ≡ none → none ≡ values_refusal props vars bs
   unfolding values_refusal refused_value
-  values-none vars e = rw e refl
+  values_none vars e = rw e refl
 
 -- the first refusal decides
 pub truths_refused :
@@ -148,7 +148,7 @@ truths_accepted props bs a e = by (first_from (wrong_truth bs) 0 props) e
 
 all_none : (f : ℕ → Bool) (n : ℕ) → ((i : ℕ) → i < n → f i ≡ false) → first_from f 0 n ≡ none
 all_none f n h =
-    firstFrom-cases f (λ (o : Option ℕ). o ≡ none) 0 n
+    first_from_cases f (λ (o : Option ℕ). o ≡ none) 0 n
     (λ j k l t before. absurd (false_not (h j (omega arith)) t))
     (λ all-fail. refl)
 
@@ -159,9 +159,9 @@ pub state_accepted :
     → state_refusal paper props vars bs ≡ none
 unfolding paper
 state_accepted props vars bs a =
-    length-right props vars bs a.length_is
+    length_right props vars bs a.length_is
     ∙ sym
-    (truths-none props bs (values_refusal props vars bs)
-    (all_none (wrong_truth bs) props (λ p h. truth-right bs p (a.truths p h))))
+    (truths_none props bs (values_refusal props vars bs)
+    (all_none (wrong_truth bs) props (λ p h. truth_right bs p (a.truths p h))))
     ∙ sym
-    (values-none props bs vars (all_none (wrong_value props bs) vars (λ v h. value-right props bs v (a.values v h))))
+    (values_none props bs vars (all_none (wrong_value props bs) vars (λ v h. value_right props bs v (a.values v h))))

@@ -13,7 +13,7 @@ use Rattle.model.specs.Move.{State}
 use Rattle.model.specs.NormalForm.{normal_state}
 use Rattle.model.specs.StateTable.{value_offset, state_value, state_of, state_refusal}
 use Rattle.model.specs.Theorems.Sizes.States.{accepted_small, normal_state_small}
-use Rattle.state.specs.Overwriting.{length-written, written_none, written_next}
+use Rattle.state.specs.Overwriting.{length_written, written_none, written_next}
 
 -- a value read from its place
 pub value_read : (props : ℕ) (bs : List ℕ) (v : ℕ) → signed (take 4 (drop (props + 4 * v) bs)) ≡ state_value props bs v
@@ -22,16 +22,16 @@ value_read props bs v = refl
 
 -- "Signed variable 2i is v_i and 2i+1 is −v_i."
 module _ (s : State) (v : ℕ) where
-  pub normal-even : (normal_state s).val (2 * v) ≡ s.val v
+  pub normal_even : (normal_state s).val (2 * v) ≡ s.val v
   unfolding normal_state
-  normal-even =
+  normal_even =
       let m : 2 * v % 2 ≡ 0 = omega arith in
       let d : 2 * v / 2 ≡ v = omega arith in
       rw (m, d) refl
 
-  pub normal-odd : (normal_state s).val (2 * v + 1) ≡ neg_ℤ (s.val v)
+  pub normal_odd : (normal_state s).val (2 * v + 1) ≡ neg_ℤ (s.val v)
   unfolding normal_state
-  normal-odd =
+  normal_odd =
       let m : (2 * v + 1) % 2 ≡ 1 = omega arith in
       let d : (2 * v + 1) / 2 ≡ v = omega arith in
       rw (m, d) refl
@@ -57,14 +57,14 @@ module _ {A : Type 0} {f : ℕ → A} {n : ℕ} {old : List A} where
 
   module _ (fits : n ≤ length old) {new : List A} {i : ℕ} (w : Written f n old new i) where
     pub written_length_lem : length new ≡ length old
-    written_length_lem = ap length w.is ∙ length-written f old i (omega (arith, w.within))
+    written_length_lem = ap length w.is ∙ length_written f old i (omega (arith, w.within))
 
     pub written_step : i < n → {x : A} → x ≡ f i → Written f n old (set new i x) (i + 1)
     written_step h {x} e =
         record { within = omega arith; is = rw (e, w.is) (written_next f old i (omega arith)) }
 
-  pub written-end : {new : List A} {i : ℕ} → Written f n old new i → n ≤ i → new ≡ overwrite (tabulate f 0 n) old
-  written-end {i} w h =
+  pub written_end : {new : List A} {i : ℕ} → Written f n old new i → n ≤ i → new ≡ overwrite (tabulate f 0 n) old
+  written_end {i} w h =
       let e : i ≡ n = omega (arith, w.within) in
       w.is ∙ ap (λ (k : ℕ). overwrite (tabulate f 0 k) old) e
 
@@ -81,5 +81,5 @@ pub signed_step :
 signed_step s vars v fits w h e f =
     let n : 2 * (v + 1) ≡ 2 * v + 1 + 1 = omega arith in
     rw n
-    (written_step fits (written_step fits w (omega arith) (e ∙ sym (normal-even s v))) (omega arith)
-    (f ∙ sym (normal-odd s v)))
+    (written_step fits (written_step fits w (omega arith) (e ∙ sym (normal_even s v))) (omega arith)
+    (f ∙ sym (normal_odd s v)))

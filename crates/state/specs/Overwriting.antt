@@ -12,18 +12,18 @@ use Rattle.std.proofs.Math.Seq.{set_at}
 use Rattle.integer.specs.Store.{put, put_append}
 use Rattle.model.specs.Lists.{tabulate}
 use Rattle.model.specs.Memory.{overwrite}
-use Rattle.model.specs.Theorems.Laws.Searching.{length-tabulate, get_d_tabulate}
-use Rattle.model.specs.Theorems.Printing.Outputs.{overwrite-at, overwrite-past, length-overwrite, put_first}
+use Rattle.model.specs.Theorems.Laws.Searching.{length_tabulate, get_d_tabulate}
+use Rattle.model.specs.Theorems.Printing.Outputs.{overwrite_at, overwrite_past, length_overwrite, put_first}
 
 -- ---- tables
 
 module _ {A : Type 0} (f : ℕ → A) where
   -- the last entry apart
-  pub tabulate-last : (i n : ℕ) → tabulate f i (suc n) ≡ tabulate f i n ++ (f (i + n) ∷ [])
+  pub tabulate_last : (i n : ℕ) → tabulate f i (suc n) ≡ tabulate f i n ++ (f (i + n) ∷ [])
   unfolding tabulate
-  tabulate-last i zero = rw (add-zero i) refl
-  tabulate-last i (suc n) =
-      ap (λ (l : List A). f i ∷ l) (tabulate-last (suc i) n ∙ rw (suc-add i n, add-suc i n) refl)
+  tabulate_last i zero = rw (add-zero i) refl
+  tabulate_last i (suc n) =
+      ap (λ (l : List A). f i ∷ l) (tabulate_last (suc i) n ∙ rw (suc-add i n, add-suc i n) refl)
 
 -- ---- tables written over the start of a list
 
@@ -31,15 +31,15 @@ module _ {A : Type 0} (f : ℕ → A) (old : List A) where
   -- the entry for j, and an element past the table
   pub written_at : (n j : ℕ) (d : A) → j < n → get_or (overwrite (tabulate f 0 n) old) j d ≡ f j
   written_at n j d h =
-      overwrite-at (tabulate f 0 n) old d j (omega (arith, length-tabulate f 0 n))
+      overwrite_at (tabulate f 0 n) old d j (omega (arith, length_tabulate f 0 n))
       ∙ get_d_tabulate f 0 n j d h
       ∙ ap f (omega arith)
 
-  pub written-past : (n j : ℕ) (d : A) → n ≤ j → get_or (overwrite (tabulate f 0 n) old) j d ≡ get_or old j d
-  written-past n j d h = overwrite-past (tabulate f 0 n) old d j (omega (arith, length-tabulate f 0 n))
+  pub written_past : (n j : ℕ) (d : A) → n ≤ j → get_or (overwrite (tabulate f 0 n) old) j d ≡ get_or old j d
+  written_past n j d h = overwrite_past (tabulate f 0 n) old d j (omega (arith, length_tabulate f 0 n))
 
-  pub length-written : (n : ℕ) → n ≤ length old → length (overwrite (tabulate f 0 n) old) ≡ length old
-  length-written n h = length-overwrite (tabulate f 0 n) old (omega (arith, length-tabulate f 0 n))
+  pub length_written : (n : ℕ) → n ≤ length old → length (overwrite (tabulate f 0 n) old) ≡ length old
+  length_written n h = length_overwrite (tabulate f 0 n) old (omega (arith, length_tabulate f 0 n))
 
   -- no entry, and one more
   pub written_none : old ≡ overwrite (tabulate f 0 0) old
@@ -55,9 +55,9 @@ module _ {A : Type 0} (f : ℕ → A) (old : List A) where
       let new = tabulate f 0 n in
       let z : f (0 + n) ≡ f n = ap f (omega arith) in
       let r = drop (suc n) old in
-      rw (add-one n, tabulate-last f 0 n, z, length-append new (f n ∷ []), length-tabulate f 0 n, add-one n)
+      rw (add-one n, tabulate_last f 0 n, z, length-append new (f n ∷ []), length_tabulate f 0 n, add-one n)
       (ap (λ (l : List A). set (new ++ l) n (f n)) (drop-cons old n (f n) h)
-      ∙ set_at new (get_or old n (f n)) r (f n) n (length-tabulate f 0 n)
+      ∙ set_at new (get_or old n (f n)) r (f n) n (length_tabulate f 0 n)
       ∙ sym (append_assoc new (f n ∷ []) r))
 
 -- a store behind what was written

@@ -14,7 +14,7 @@ use Rattle.model.specs.Limits.{paper}
 use Rattle.model.specs.Lists.{tabulate}
 use Rattle.model.specs.Move.{State}
 use Rattle.model.specs.StateTable.{value_offset, state_value, state_of, state_refusal, truth_byte, values_bytes, state_bytes}
-use Rattle.model.specs.Theorems.Laws.Searching.{length-tabulate, get_d_tabulate}
+use Rattle.model.specs.Theorems.Laws.Searching.{length_tabulate, get_d_tabulate}
 use Rattle.model.specs.Theorems.Reading.States.{length_state_bytes}
 use Rattle.state.specs.Checking.{state_accepted}
 
@@ -59,43 +59,43 @@ module _ (props vars : ℕ) (s : State) where
   unfolding state_bytes
   byte_at p h =
       let f : ℕ → ℕ = λ q. truth_byte (s.has q) in
-      get_or-append (tabulate f 0 props) (values_bytes (tabulate s.val 0 vars)) 0 p (omega (arith, length-tabulate f 0 props))
+      get_or-append (tabulate f 0 props) (values_bytes (tabulate s.val 0 vars)) 0 p (omega (arith, length_tabulate f 0 props))
       ∙ get_d_tabulate f 0 props p 0 h
       ∙ ap f (omega arith)
 
-  value-at : (v : ℕ) → v < vars → state_value props (state_bytes props vars s) v ≡ signed (signed_bytes 4 (s.val v))
+  value_at : (v : ℕ) → v < vars → state_value props (state_bytes props vars s) v ≡ signed (signed_bytes 4 (s.val v))
   unfolding state_bytes state_value value_offset
-  value-at v h =
+  value_at v h =
       let ts = tabulate (λ q. truth_byte (s.has q)) 0 props in
       let zs = tabulate s.val 0 vars in
-      let n : length ts ≡ props = length-tabulate (λ q. truth_byte (s.has q)) 0 props in
+      let n : length ts ≡ props = length_tabulate (λ q. truth_byte (s.has q)) 0 props in
       ap (λ (l : List ℕ). signed (take 4 l))
       (sym (drop-drop (4 * v) props (ts ++ values_bytes zs)) ∙ ap (drop (4 * v)) (drop_at ts (values_bytes zs) props n))
-      ∙ ap signed (values_bytes_at zs v (omega (arith, length-tabulate s.val 0 vars)))
+      ∙ ap signed (values_bytes_at zs v (omega (arith, length_tabulate s.val 0 vars)))
       ∙ ap (λ (z : ℤ). signed (signed_bytes 4 z)) (get_d_tabulate s.val 0 vars v (pos 0) h ∙ ap s.val (omega arith))
 
   -- ---- reading back what was written
 
-  pub truths-back : (p : ℕ) → p < props → (state_of props (state_bytes props vars s)).has p ≡ s.has p
+  pub truths_back : (p : ℕ) → p < props → (state_of props (state_bytes props vars s)).has p ≡ s.has p
   unfolding state_of
-  truths-back p h = ap (λ (n : ℕ). eqb n 1) (byte_at p h) ∙ truth_back (s.has p)
+  truths_back p h = ap (λ (n : ℕ). eqb n 1) (byte_at p h) ∙ truth_back (s.has p)
 
-  pub values-back :
+  pub values_back :
       (v : ℕ)
       → v < vars
       → nat_abs (s.val v) ≤ 1_000_000
       → (state_of props (state_bytes props vars s)).val v ≡ s.val v
   unfolding state_of
-  values-back v h k = value-at v h ∙ value_back (s.val v) k
+  values_back v h k = value_at v h ∙ value_back (s.val v) k
 
-  pub bytes-accepted :
+  pub bytes_accepted :
       ((v : ℕ) → v < vars → nat_abs (s.val v) ≤ 1_000_000)
       → state_refusal paper props vars (state_bytes props vars s) ≡ none
   unfolding paper
-  bytes-accepted small =
+  bytes_accepted small =
       state_accepted props vars (state_bytes props vars s)
       (record {
         length_is = length_state_bytes props vars s;
         truths = λ p h. rw (byte_at p h) (truth_most (s.has p));
-        values = λ v h. rw (value-at v h, value_back (s.val v) (small v h)) (small v h);
+        values = λ v h. rw (value_at v h, value_back (s.val v) (small v h)) (small v h);
       })

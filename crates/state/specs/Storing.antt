@@ -4,14 +4,14 @@ use Rattle.std.specs.Prelude.{ℕ, ◌+◌, ◌*◌, ◌≤◌, ◌<◌, ◌≡�
 use Rattle.std.proofs.Common.{add-one, arith, ap, ap₂, ◌∙◌, append_assoc, append-nil}
 use Rattle.std.proofs.Math.Path.{sym}
 use Rattle.integer.specs.BigEndian.{signed_bytes}
-use Rattle.integer.specs.Store.{put, put_nil, put_append, length-put}
+use Rattle.integer.specs.Store.{put, put_nil, put_append, length_put}
 use Rattle.model.specs.Lists.{tabulate}
 use Rattle.model.specs.Memory.{overwrite}
 use Rattle.model.specs.Move.{State}
 use Rattle.model.specs.StateTable.{truth_byte, values_bytes, state_bytes}
-use Rattle.model.specs.Theorems.Laws.Searching.{length-tabulate}
+use Rattle.model.specs.Theorems.Laws.Searching.{length_tabulate}
 use Rattle.model.specs.Theorems.Reading.States.{length_values_bytes, state_bytes_same}
-use Rattle.state.specs.Overwriting.{tabulate-last, overwrite_put}
+use Rattle.state.specs.Overwriting.{tabulate_last, overwrite_put}
 
 -- the state whose truths and values stand in two arrays
 unfoldable pub state_in : List Bool → List ℤ → State
@@ -59,48 +59,48 @@ pub record ValuesStored (f : ℕ → ℤ) (props n : ℕ) (old new : List ℕ) (
   pub is : new ≡ put old props (values_bytes (tabulate f 0 i))
 
 module _ (f : ℕ → ℤ) (props n : ℕ) (old : List ℕ) where
-  length-values : (i : ℕ) → length (values_bytes (tabulate f 0 i)) ≡ 4 * i
-  length-values i = length_values_bytes (tabulate f 0 i) ∙ ap (λ (k : ℕ). 4 * k) (length-tabulate f 0 i)
+  length_values : (i : ℕ) → length (values_bytes (tabulate f 0 i)) ≡ 4 * i
+  length_values i = length_values_bytes (tabulate f 0 i) ∙ ap (λ (k : ℕ). 4 * k) (length_tabulate f 0 i)
 
-  pub values-start : ValuesStored f props n old old 0
+  pub values_start : ValuesStored f props n old old 0
   unfolding tabulate values_bytes
-  values-start = record { within = omega arith; is = sym (put_nil old props) }
+  values_start = record { within = omega arith; is = sym (put_nil old props) }
 
   module _ (fits : props + 4 * n ≤ length old) {new : List ℕ} {i : ℕ} (w : ValuesStored f props n old new i) where
     pub values_length : length new ≡ length old
     values_length =
         ap length w.is
-        ∙ length-put old props (values_bytes (tabulate f 0 i)) (omega (arith, length-values i, w.within))
+        ∙ length_put old props (values_bytes (tabulate f 0 i)) (omega (arith, length_values i, w.within))
 
-    pub values-step :
+    pub values_step :
         i < n
         → {z : ℤ}
         → z ≡ f i
         → {next : List ℕ}
         → next ≡ put new (props + 4 * i) (signed_bytes 4 z)
         → ValuesStored f props n old next (i + 1)
-    values-step h {z} e stored =
+    values_step h {z} e stored =
         let bs = values_bytes (tabulate f 0 i) in
-        let k : props + 4 * i ≡ props + length bs = omega (arith, length-values i) in
+        let k : props + 4 * i ≡ props + length bs = omega (arith, length_values i) in
         let t : tabulate f 0 (i + 1) ≡ tabulate f 0 i ++ (z ∷ []) =
-        ap (tabulate f 0) (add-one i) ∙ tabulate-last f 0 i ∙ ap (λ (x : ℤ). tabulate f 0 i ++ (x ∷ [])) (ap f (omega arith) ∙ sym e) in
+        ap (tabulate f 0) (add-one i) ∙ tabulate_last f 0 i ∙ ap (λ (x : ℤ). tabulate f 0 i ++ (x ∷ [])) (ap f (omega arith) ∙ sym e) in
         record {
           within = omega arith;
           is =
               stored
               ∙ ap₂ (λ (l : List ℕ) (j : ℕ). put l j (signed_bytes 4 z)) w.is k
-              ∙ put_append old props bs (signed_bytes 4 z) (omega (arith, length-values i))
+              ∙ put_append old props bs (signed_bytes 4 z) (omega (arith, length_values i))
               ∙ ap (λ (c : List ℕ). put old props (bs ++ c)) (sym (values_bytes_one z))
               ∙ ap (put old props) (sym (values_bytes_append (tabulate f 0 i) (z ∷ [])))
               ∙ ap (λ (zs : List ℤ). put old props (values_bytes zs)) (sym t);
         }
 
-  pub values-end :
+  pub values_end :
       {new : List ℕ} {i : ℕ}
       → ValuesStored f props n old new i
       → n ≤ i
       → new ≡ put old props (values_bytes (tabulate f 0 n))
-  values-end {i} w h =
+  values_end {i} w h =
       let e : i ≡ n = omega (arith, w.within) in
       w.is ∙ ap (λ (k : ℕ). put old props (values_bytes (tabulate f 0 k))) e
 
@@ -112,5 +112,5 @@ pub stored_both :
 unfolding truth_bytes state_bytes
 stored_both props vars s old h =
     overwrite_put (truth_bytes props s) (values_bytes (tabulate s.val 0 vars)) old props
-    (length-tabulate (λ p. truth_byte (s.has p)) 0 props)
+    (length_tabulate (λ p. truth_byte (s.has p)) 0 props)
     h

@@ -13,24 +13,24 @@ use Rattle.model.specs.Theorems.Sizes.Stored.{StoredLayers}
 use Rattle.block.specs.Parts.{ranges_of}
 use Rattle.block.specs.Sums.{Row, LayerRow}
 use Rattle.block.specs.Blocks.{LayerState}
-use Rattle.stored_layer.specs.View.{Filled, held_at, number_at, low_at, view-has, view-row, start_row, low_row}
+use Rattle.stored_layer.specs.View.{Filled, held_at, number_at, low_at, view_has, view_row, start_row, low_row}
 
 module _ {k : Task} {s : State} {props vars moves m steps : ℕ} {layers : List ℤ} (x : StoredLayers k s props vars moves m steps layers) where
-  pub stored-props : props ≤ 120
+  pub stored_props : props ≤ 120
   unfolding paper
-  stored-props = omega (arith, x.ok.props, x.props_is)
+  stored_props = omega (arith, x.ok.props, x.props_is)
 
-  pub stored-vars : vars ≤ 32
+  pub stored_vars : vars ≤ 32
   unfolding paper
-  stored-vars = omega (arith, x.ok.vars.0, x.vars_is)
+  stored_vars = omega (arith, x.ok.vars.0, x.vars_is)
 
-  pub stored-moves : moves ≤ 64
+  pub stored_moves : moves ≤ 64
   unfolding paper
-  stored-moves = omega (arith, x.ok.moves, x.moves_is)
+  stored_moves = omega (arith, x.ok.moves, x.moves_is)
 
   -- the places of layer t
-  pub stored-room : {t : ℕ} → t ≤ m → props + moves + vars * t + vars ≤ length layers
-  stored-room {t} h =
+  pub stored_room : {t : ℕ} → t ≤ m → props + moves + vars * t + vars ≤ length layers
+  stored_room {t} h =
       let step : suc t ≤ suc m = omega arith in
       let most : vars * suc t ≤ vars * suc m = mul-le-mul_left vars step in
       let enough : props + moves + vars * suc m ≤ length x.old =
@@ -39,18 +39,18 @@ module _ {k : Task} {s : State} {props vars moves m steps : ℕ} {layers : List 
       (subst (λ (i : ℕ). k.props + i + k.vars * suc m ≤ length x.old) x.moves_is x.room)) in
       omega (arith, x.held.same_length, mul-suc vars t)
 
-  pub stored-entries : props + moves ≤ length layers
-  stored-entries = omega (arith, stored-room {t = 0} (omega arith))
+  pub stored_entries : props + moves ≤ length layers
+  stored_entries = omega (arith, stored_room {t = 0} (omega arith))
 
   module _ {t : ℕ} (h : t ≤ m) where
-    pub stored-has :
+    pub stored_has :
         {has : List Bool} → Filled false (held_at layers 0 t) props 120 has → (p : ℕ) → p < k.props → get_or has p false ≡ (layer_at k s t).has p
-    stored-has read p i = read.done p (omega (arith, x.props_is)) ∙ view-has x.ok x.held (omega arith) p i
+    stored_has read p i = read.done p (omega (arith, x.props_is)) ∙ view_has x.ok x.held (omega arith) p i
 
     -- a row of the numbers that stand in layer t's place
-    pub stored-values : {row : List ℤ} → vars ≤ length row → ((v : ℕ) → v < vars → get_or row v (pos 0) ≡ number_at layers (props + moves + vars * t) v) → LayerRow k.vars row (layer_at k s t).val
-    stored-values long same =
-        view-row x.ok x.held (omega arith) (layer_small k s t x.small (x.right t h))
+    pub stored_values : {row : List ℤ} → vars ≤ length row → ((v : ℕ) → v < vars → get_or row v (pos 0) ≡ number_at layers (props + moves + vars * t) v) → LayerRow k.vars row (layer_at k s t).val
+    stored_values long same =
+        view_row x.ok x.held (omega arith) (layer_small k s t x.small (x.right t h))
         (omega (arith, x.vars_is))
         (λ v i. same v (omega (arith, x.vars_is)) ∙ place v)
       where
@@ -62,22 +62,22 @@ module _ {k : Task} {s : State} {props vars moves m steps : ℕ} {layers : List 
 
     module _ {row : List ℤ} (read : Filled (pos 0) (number_at layers (props + moves + vars * t)) vars 32 row) where
       pub stored_row : LayerRow k.vars row (layer_at k s t).val
-      stored_row = stored-values (omega (arith, read.long, stored-vars)) read.done
+      stored_row = stored_values (omega (arith, read.long, stored_vars)) read.done
 
       pub stored_low : {start lows : List ℤ} → Row k.vars start s.val → Filled (pos 0) (low_at row start) vars 32 lows → Row k.vars lows (low (layer_at k s t) s)
       stored_low b filled =
           low_row (layer_at k s t) s x.small stored_row b
-          (omega (arith, filled.long, stored-vars, x.vars_is))
+          (omega (arith, filled.long, stored_vars, x.vars_is))
           (λ v i. filled.done v (omega (arith, x.vars_is)))
 
       -- both arrays hold layer t
       pub stored_state : {has : List Bool} → Filled false (held_at layers 0 t) props 120 has → LayerState (ranges_of normal k) has row (layer_at k s t)
       stored_state flags =
-          record { long = omega (arith, flags.long, stored-props, x.props_is); has = stored-has flags; row = stored_row }
+          record { long = omega (arith, flags.long, stored_props, x.props_is); has = stored_has flags; row = stored_row }
 
   -- "Layer 0 is the state."
-  pub stored-start : {row : List ℤ} → Filled (pos 0) (number_at layers (props + moves)) vars 32 row → Row k.vars row s.val
+  pub stored_start : {row : List ℤ} → Filled (pos 0) (number_at layers (props + moves)) vars 32 row → Row k.vars row s.val
   unfolding layer_at layer
-  stored-start {row} read =
+  stored_start {row} read =
       let here : props + moves ≡ props + moves + vars * 0 = omega (arith, mul-zero vars) in
       start_row x.small (stored_row {t = 0} (omega arith) (subst (λ (i : ℕ). Filled (pos 0) (number_at layers i) vars 32 row) here read))

@@ -17,7 +17,7 @@ use Rattle.model.specs.Theorems.Laws.Searching.{below_suc}
 use Rattle.model.specs.Theorems.Layers.Order.{usable_mono}
 use Rattle.model.specs.Theorems.Reading.WellFormed.{TaskOk}
 use Rattle.model.specs.Theorems.Layers.NextLayer.{layer_mono, move_ok}
-use Rattle.model.specs.Theorems.Layers.Entries.{entry-says}
+use Rattle.model.specs.Theorems.Layers.Entries.{entry_says}
 use Rattle.model.specs.Theorems.Layers.Memories.{Holds, size}
 use Rattle.model.specs.Theorems.Sizes.Bounds.{between_size}
 use Rattle.model.specs.Theorems.Sizes.States.{SmallState}
@@ -35,8 +35,8 @@ module _ {A : Type 0} {d : A} {g : ℕ → A} {size : ℕ} where
   pub filled_none : {l : List A} → length l ≡ size → Filled d g 0 size l
   filled_none e = record { long = e; done = λ i h. absurd (omega arith) }
 
-  pub filled-step : {l : List A} {i : ℕ} {x : A} → i < size → Filled d g i size l → x ≡ g i → Filled d g (i + 1) size (set l i x)
-  filled-step {l} {i} {x} room f e =
+  pub filled_step : {l : List A} {i : ℕ} {x : A} → i < size → Filled d g i size l → x ≡ g i → Filled d g (i + 1) size (set l i x)
+  filled_step {l} {i} {x} room f e =
       record {
         long = length-set l i x ∙ f.long;
         done =
@@ -46,8 +46,8 @@ module _ {A : Type 0} {d : A} {g : ℕ → A} {size : ℕ} where
             (λ q. subst (λ (m : ℕ). get_or (set l i x) m d ≡ g m) (sym q) (get_or-set_same l i x d (omega (arith, f.long)) ∙ e));
       }
 
-  pub filled-end : {l : List A} {i n : ℕ} → i ≤ n → n ≤ i → Filled d g i size l → Filled d g n size l
-  filled-end {l} {i} {n} h k f = let e : i ≡ n = omega arith in subst (λ (m : ℕ). Filled d g m size l) e f
+  pub filled_end : {l : List A} {i n : ℕ} → i ≤ n → n ≤ i → Filled d g i size l → Filled d g n size l
+  filled_end {l} {i} {n} h k f = let e : i ≡ n = omega arith in subst (λ (m : ℕ). Filled d g m size l) e f
 
 -- ---- entries
 
@@ -95,27 +95,27 @@ low_encoded x {z} y h e false m = rw (m, mark_no e m) refl
 -- ---- a layer of the memory
 
 module _ {k : Task} {s : State} (ok : TaskOk paper normal k) {n steps : ℕ} {old mem : List ℤ} (held : Holds k s n steps old mem) where
-  pub view-has : {t : ℕ} → t < n → (p : ℕ) → p < k.props → held_at mem 0 t p ≡ (layer_at k s t).has p
+  pub view_has : {t : ℕ} → t < n → (p : ℕ) → p < k.props → held_at mem 0 t p ≡ (layer_at k s t).has p
   unfolding held_at held_by layer_at prop_entry
-  view-has {t} h p i =
+  view_has {t} h p i =
       let place : 0 + p ≡ p = omega arith in
       ap (λ (e : ℤ). held_by e t) (ap (λ (j : ℕ). get_or mem j (pos 0)) place ∙ held.prop p i)
-      ∙ sym (entry-says (λ u. (layer k.moves s u).has p) (λ u w le. (layer_mono k.moves s {t = u} {u = w} le).has p) n t h)
+      ∙ sym (entry_says (λ u. (layer k.moves s u).has p) (λ u w le. (layer_mono k.moves s {t = u} {u = w} le).has p) n t h)
 
-  pub view-used : {t : ℕ} → t < steps → (b : ℕ) → b < length k.moves → held_at mem k.props t b ≡ usable (layer_at k s t) (move_at k b)
+  pub view_used : {t : ℕ} → t < steps → (b : ℕ) → b < length k.moves → held_at mem k.props t b ≡ usable (layer_at k s t) (move_at k b)
   unfolding held_at held_by layer_at move_entry move_at
-  view-used {t} h b i =
+  view_used {t} h b i =
       ap (λ (e : ℤ). held_by e t) (held.move b i)
-      ∙ sym (entry-says (λ u. usable (layer k.moves s u) (move_at k b)) (λ u w le. usable_mono (move_ok ok b i) (layer_mono k.moves s {t = u} {u = w} le)) steps t h)
+      ∙ sym (entry_says (λ u. usable (layer k.moves s u) (move_at k b)) (λ u w le. usable_mono (move_ok ok b i) (layer_mono k.moves s {t = u} {u = w} le)) steps t h)
 
   module _ {t : ℕ} (h : t < n) (small : SmallLayer k.vars (layer_at k s t)) where
     sized : (x : Value) → FiniteBetween 1_000_000 largest_value x → Sized largest_value x
     sized (finite z) i = between_size largest_value (omega arith) (omega arith) i.if_finite
     sized unbounded i = tt
 
-    pub view-row : {row : List ℤ} → k.vars ≤ length row → ((v : ℕ) → v < k.vars → get_or row v (pos 0) ≡ number_at mem (k.props + length k.moves + k.vars * t) v) → LayerRow k.vars row (layer_at k s t).val
+    pub view_row : {row : List ℤ} → k.vars ≤ length row → ((v : ℕ) → v < k.vars → get_or row v (pos 0) ≡ number_at mem (k.props + length k.moves + k.vars * t) v) → LayerRow k.vars row (layer_at k s t).val
     unfolding number_at
-    view-row {row} long same =
+    view_row {row} long same =
         record {
           long = long;
           each =
@@ -145,9 +145,9 @@ low_row l s {row} {start} small r b long each =
     record {
       long = long;
       same = λ v i. each v i ∙ ap (low_by (get_or row v (pos 0))) (b.same v i) ∙ low_encoded (l.val v) (s.val v) (omega arith) (r.each v i) (is_mark (get_or row v (pos 0))) refl;
-      size = λ v i. low-size (l.val v) (s.val v) (r.each v i).size (omega (arith, small.values v i));
+      size = λ v i. low_size (l.val v) (s.val v) (r.each v i).size (omega (arith, small.values v i));
     }
   where
-    low-size : (x : Value) (y : ℤ) → Sized largest_value x → nat_abs y ≤ largest_value → nat_abs (low_value x y) ≤ largest_value
-    low-size (finite z) y h i = h
-    low-size unbounded y h i = i
+    low_size : (x : Value) (y : ℤ) → Sized largest_value x → nat_abs y ≤ largest_value → nat_abs (low_value x y) ≤ largest_value
+    low_size (finite z) y h i = h
+    low_size unbounded y h i = i

@@ -32,9 +32,9 @@ use Rattle.command.specs.Names.{form_of, place_of}
 use Rattle.cursor.specs.State.{start_cursor, Stage, Valid, cursor_refusal, check_of, passes_none}
 use Rattle.advance.specs.Stamps.{needs, changes, affects, Stamped}
 use Rattle.advance.specs.Edges.{drawn_none}
-use Rattle.circle.specs.Walks.{table_edge, circular_in, circular-same}
+use Rattle.circle.specs.Walks.{table_edge, circular_in, circular_same}
 use Rattle.advance.specs.Marks.{marks_none}
-use Rattle.advance.specs.Tracks.{head_of, Tracks, tracks-refusal}
+use Rattle.advance.specs.Tracks.{head_of, Tracks, tracks_refusal}
 use Rattle.advance.specs.Steps.{Advanced}
 
 -- ---- the start
@@ -148,9 +148,9 @@ outlined_long w t r m h e =
 -- ---- one command
 
 module _ (w : Wanted) (t : List ℕ) (s : Seen) where
-  command-step : s.at < length t → read_command paper w t s ≡ step_with t s (command_of (get_or t s.at 0)) (refusal paper w t s (command_of (get_or t s.at 0)))
+  command_step : s.at < length t → read_command paper w t s ≡ step_with t s (command_of (get_or t s.at 0)) (refusal paper w t s (command_of (get_or t s.at 0)))
   unfolding read_command
-  command-step h = rw (lt-ltb s.at (length t) h, read_command) refl
+  command_step h = rw (lt-ltb s.at (length t) h, read_command) refl
 
   end_step : length t ≤ s.at → read_command paper w t s ≡ done (at_end t s s.place)
   unfolding read_command
@@ -171,7 +171,7 @@ module _ {w : Wanted} {t : List ℕ} {c : Cursor} {nd ch af : List ℕ} {es : Li
   turns = omega (arith, h.enough, h.valid.inside)
 
   -- a command that passes
-  pub reach-next :
+  pub reach_next :
       (k : Command) {c' : Cursor} {nd' ch' af' : List ℕ} {es' : List Bool} {mk' : List ℕ}
       → c.at < length t
       → k ≡ command_of (get_or t c.at 0)
@@ -179,11 +179,11 @@ module _ {w : Wanted} {t : List ℕ} {c : Cursor} {nd ch af : List ℕ} {es : Li
       → Advanced t c k nd ch af es mk c' nd' ch' af' es' mk'
       → Reach w t c' nd' ch' af' es' mk'
   unfolding step_with continue
-  reach-next k inside e pass a =
+  reach_next k inside e pass a =
       record {
         seen = advance t s k;
         left = h.left - 1;
-        same = h.same ∙ unroll w t s h.left (more (advance t s k)) turns (command-step w t s (omega (arith, h.tracks.at)) ∙ rw (← command, silent) refl);
+        same = h.same ∙ unroll w t s h.left (more (advance t s k)) turns (command_step w t s (omega (arith, h.tracks.at)) ∙ rw (← command, silent) refl);
         enough = omega (arith, h.enough, a.moved);
         valid = a.valid;
         tracks = a.tracks s h.tracks;
@@ -196,19 +196,19 @@ module _ {w : Wanted} {t : List ℕ} {c : Cursor} {nd ch af : List ℕ} {es : Li
       command = e ∙ ap (λ (x : ℕ). command_of (get_or t x 0)) h.tracks.at
 
       silent : refusal paper w t s k ≡ none
-      silent = sym (tracks-refusal h.tracks w k) ∙ passes_none (cursor_refusal w t c nd ch af k) pass
+      silent = sym (tracks_refusal h.tracks w k) ∙ passes_none (cursor_refusal w t c nd ch af k) pass
 
   -- a command that is refused
-  pub reach-refused :
+  pub reach_refused :
       (k : Command) (r : Refusal)
       → c.at < length t
       → k ≡ command_of (get_or t c.at 0)
       → Refused r ≡ check_of (cursor_refusal w t c nd ch af k)
       → Outlined t (reading paper w t) (read.Refused r) mk
   unfolding step_with continue
-  reach-refused k r inside e refuse =
+  reach_refused k r inside e refuse =
       outlined_refused t (reading paper w t) r mk
-      (h.same ∙ unroll w t s h.left (done (refused r)) turns (command-step w t s (omega (arith, h.tracks.at)) ∙ rw (← command, loud) refl))
+      (h.same ∙ unroll w t s h.left (done (refused r)) turns (command_step w t s (omega (arith, h.tracks.at)) ∙ rw (← command, loud) refl))
     where
       s : Seen
       s = h.seen
@@ -217,7 +217,7 @@ module _ {w : Wanted} {t : List ℕ} {c : Cursor} {nd ch af : List ℕ} {es : Li
       command = e ∙ ap (λ (x : ℕ). command_of (get_or t x 0)) h.tracks.at
 
       loud : refusal paper w t s k ≡ some r
-      loud = sym (tracks-refusal h.tracks w k) ∙ refused_some (cursor_refusal w t c nd ch af k) r refuse
+      loud = sym (tracks_refusal h.tracks w k) ∙ refused_some (cursor_refusal w t c nd ch af k) r refuse
 
   ended : length t ≤ c.at → reading paper w t ≡ at_end t h.seen h.seen.place
   unfolding continue
@@ -241,38 +241,38 @@ module _ {t : List ℕ} {c : Cursor} {nd ch af : List ℕ} {es : List Bool} {mk 
   unfolding accepted_answer read_of table_of head_of
   header_is b e = rw e (ap (λ (x : Head). read.Head (code_of (head x.form)) x.props x.vars x.moves) h.header)
 
-  vars-are : c.vars ≡ s.header.vars
+  vars_are : c.vars ≡ s.header.vars
   unfolding head_of
-  vars-are = ap (λ (x : Head). x.vars) h.header
+  vars_are = ap (λ (x : Head). x.vars) h.header
 
-  moves-are : c.moves ≡ s.header.moves
+  moves_are : c.moves ≡ s.header.moves
   unfolding head_of
-  moves-are = ap (λ (x : Head). x.moves) h.header
+  moves_are = ap (λ (x : Head). x.moves) h.header
 
-  circle-is : circular_in es c.vars ≡ circular (table_of s).task
+  circle_is : circular_in es c.vars ≡ circular (table_of s).task
   unfolding table_of
-  circle-is = rw vars-are (circular-same (record { props = s.header.props; vars = s.header.vars; moves = s.moves; goal = s.items }) es same)
+  circle_is = rw vars_are (circular_same (record { props = s.header.props; vars = s.header.vars; moves = s.moves; goal = s.items }) es same)
     where
       closing : closed s.place s.moves s.items ≡ s.moves
       closing = rw over (unfold closed in refl)
 
       same : (u w : ℕ) → u < s.header.vars → w < s.header.vars → table_edge es u w ≡ edge (record { props = s.header.props; vars = s.header.vars; moves = s.moves; goal = s.items }) u w
       same u w a b =
-          h.edges.same u w (omega (arith, v.vars, vars-are)) (omega (arith, v.vars, vars-are))
+          h.edges.same u w (omega (arith, v.vars, vars_are)) (omega (arith, v.vars, vars_are))
           ∙ (unfold edge in ap (λ (ms : List Block). any (λ (m : Block). any (item_edge u w) m) ms) closing)
 
   size : length s.marks ≡ s.header.moves + 2
-  size = omega (arith, h.marked, moves-are, stage.0, stage.1)
+  size = omega (arith, h.marked, moves_are, stage.0, stage.1)
 
   accepts : (k : Table) → accepted (table_of s) ≡ accepted k → table_of s ≡ k
   accepts k e = cc
 
-  outlined-accepted : Outlined t (accepted (table_of s)) (accepted_answer false c) mk
-  outlined-accepted =
+  outlined_accepted : Outlined t (accepted (table_of s)) (accepted_answer false c) mk
+  outlined_accepted =
       record {
         answer = header_is false refl;
         marks = λ k e. subst (λ (x : Table). (b : ℕ) → b ≤ x.header.moves + 1 → get_or mk b 0 ≡ get_or x.marks b 0) (accepts k e) (unfold table_of in (λ b l. h.marks.same b (omega (arith, size))));
-        few = λ k e. subst (λ (x : Table). x.header.moves ≤ 64) (accepts k e) (unfold table_of in omega (arith, moves-are, v.moves));
+        few = λ k e. subst (λ (x : Table). x.header.moves ≤ 64) (accepts k e) (unfold table_of in omega (arith, moves_are, v.moves));
         rising = λ k e. subst (λ (x : Table). (b : ℕ) → b ≤ x.header.moves → get_or mk b 0 < get_or mk (suc b) 0) (accepts k e)
             (unfold table_of in (λ b l. rw (h.marks.same b (omega (arith, size)), h.marks.same (suc b) (omega (arith, size))) (h.marks.rising b (omega (arith, size)))));
         inside = λ k e. subst (λ (x : Table). (b : ℕ) → b ≤ x.header.moves + 1 → get_or mk b 0 < length t) (accepts k e)
@@ -281,10 +281,10 @@ module _ {t : List ℕ} {c : Cursor} {nd ch af : List ℕ} {es : List Bool} {mk 
 
   verdict : (b : Bool) → circular (table_of s).task ≡ b → Outlined t (verdict_of (table_of s)) (accepted_answer b c) mk
   verdict true e = unfold verdict_of accepted_answer in (rw (e, verdict_of) (outlined_refused t (refused (record { number = 7; place = 0 })) (record { number = 7; place = 0 }) mk refl))
-  verdict false e = unfold verdict_of in (rw (e, verdict_of) outlined-accepted)
+  verdict false e = unfold verdict_of in (rw (e, verdict_of) outlined_accepted)
 
-  outlined-end : Outlined t (verdict_of (table_of s)) (accepted_answer (circular_in es c.vars) c) mk
-  outlined-end = verdict (circular_in es c.vars) (sym circle-is)
+  outlined_end : Outlined t (verdict_of (table_of s)) (accepted_answer (circular_in es c.vars) c) mk
+  outlined_end = verdict (circular_in es c.vars) (sym circle_is)
 
 reach_end :
     {w : Wanted} {t : List ℕ} {c : Cursor} {nd ch af : List ℕ} {es : List Bool} {mk : List ℕ} (h : Reach w t c nd ch af es mk)
@@ -304,7 +304,7 @@ reach_end {w} {t} {c} {nd} {ch} {af} {es} {mk} h past = go c.place h.tracks.plac
     go Finished e g =
         let over : h.seen.place ≡ finished = sym (unfold place_of in e) in
         let end : reading paper w t ≡ verdict_of (table_of h.seen) = ended h past ∙ ap (at_end t h.seen) over ∙ (unfold at_end in refl) in
-        rw end (outlined-end h.valid h.tracks over g)
+        rw end (outlined_end h.valid h.tracks over g)
 
 -- ---- the limit, by the first byte
 

@@ -12,18 +12,18 @@ use Rattle.model.specs.Task.{Form, Block, Task}
 use Rattle.model.specs.Command.{open_move, open_goal, code_of, items_bytes, moves_bytes, task_bytes}
 use Rattle.model.specs.Reading.{Table, accepted, refused, Wanted, only, stored, length_limit, reading}
 use Rattle.model.specs.Theorems.Reading.WellFormed.{TaskOk}
-use Rattle.model.specs.Theorems.Reading.Accepted.{Accepted, reading-accepted, reading-canonical, reading_form, reading-head}
+use Rattle.model.specs.Theorems.Reading.Accepted.{Accepted, reading_accepted, reading_canonical, reading_form, reading_head}
 use Rattle.model.specs.Theorems.Rewriting.Accepted.{stored_limit}
 use Rattle.model.specs.Theorems.Reading.Marks.{starts_at}
-use Rattle.model.specs.Theorems.Reading.Parts.{move-part, goal-part}
+use Rattle.model.specs.Theorems.Reading.Parts.{move_part, goal_part}
 use Rattle.table.specs.Answer.{Outlined, answer_accepted, answer_refused}
 
 -- a part by its start and its length
 pub part_slice : (f e : ℕ) (l : List ℕ) → f ≤ e → take (e - f) (drop f l) ≡ slice f e l
-part_slice zero e l h = ap (λ (n : ℕ). take n l) (zero-less e)
+part_slice zero e l h = ap (λ (n : ℕ). take n l) (zero_less e)
   where
-    zero-less : (n : ℕ) → n - 0 ≡ n
-    zero-less n = omega arith
+    zero_less : (n : ℕ) → n - 0 ≡ n
+    zero_less n = omega arith
 part_slice (suc f) zero l h = absurd (omega arith)
 part_slice (suc f) (suc e) [] h = take-nil (suc e - suc f)
 part_slice (suc f) (suc e) (x ∷ l) h = ap (λ (n : ℕ). take n (drop f l)) (both e f) ∙ part_slice f e l (omega arith)
@@ -55,51 +55,51 @@ inside_list (x ∷ l) (suc i) h = omega (arith, inside_list l i h)
 
 -- what reading and the offsets of the 41, 47 and 45 commands give, of a table of the form f
 module _ (w : Wanted) (f : Form) (table marks : List ℕ) (t : Table) (e : reading paper w table ≡ accepted t)
-    (form-is : t.header.form ≡ f) (limit : length_limit paper w table ≡ length_limit paper (only f) table) (all : AllBytes table)
+    (form_is : t.header.form ≡ f) (limit : length_limit paper w table ≡ length_limit paper (only f) table) (all : AllBytes table)
     (same : (b : ℕ) → b ≤ t.header.moves + 1 → get_or marks b 0 ≡ get_or t.marks b 0)
     (rising : (b : ℕ) → b ≤ t.header.moves → get_or marks b 0 < get_or marks (suc b) 0)
     (inside : (b : ℕ) → b ≤ t.header.moves + 1 → get_or marks b 0 < length table)
   where
     a : Accepted paper w table t
-    a = reading-accepted paper w table e
+    a = reading_accepted paper w table e
 
-    pub outline-moves : t.header.moves ≡ length t.task.moves
-    outline-moves = a.moves
+    pub outline_moves : t.header.moves ≡ length t.task.moves
+    outline_moves = a.moves
 
     order : (b : ℕ) → b ≤ length t.task.moves → get_or marks b 0 ≤ get_or marks (b + 1) 0
-    order b h = rw (add-one b) (omega (arith, rising b (omega (arith, outline-moves))))
+    order b h = rw (add-one b) (omega (arith, rising b (omega (arith, outline_moves))))
 
     last : (b : ℕ) → b ≤ length t.task.moves → get_or marks (b + 1) 0 ≤ length table
-    last b h = omega (arith, inside (b + 1) (omega (arith, outline-moves)))
+    last b h = omega (arith, inside (b + 1) (omega (arith, outline_moves)))
 
     part_is : (b : ℕ) → b ≤ length t.task.moves → part_at table marks b ≡ slice (get_or t.marks b 0) (get_or t.marks (suc b) 0) table
     part_is b h =
         part_slice (get_or marks b 0) (get_or marks (b + 1) 0) table (order b h)
-        ∙ ap₂ (λ (x y : ℕ). slice x y table) (same b (omega (arith, outline-moves)))
-        (same (b + 1) (omega (arith, outline-moves)) ∙ ap (λ (n : ℕ). get_or t.marks n 0) (add-one b))
+        ∙ ap₂ (λ (x y : ℕ). slice x y table) (same b (omega (arith, outline_moves)))
+        (same (b + 1) (omega (arith, outline_moves)) ∙ ap (λ (n : ℕ). get_or t.marks n 0) (add-one b))
 
     goal_at : get_or marks (length t.task.moves) 0 ≡ 4 + length (moves_bytes t.task.moves)
     goal_at =
         let ms = t.task.moves in
-        same (length ms) (omega (arith, outline-moves))
+        same (length ms) (omega (arith, outline_moves))
         ∙ ap (λ (l : List ℕ). get_or l (length ms) 0) a.marks
         ∙ starts_at 4 (ms ++ (t.task.goal ∷ [])) (length ms) (omega (arith, length-append ms (t.task.goal ∷ [])))
         ∙ ap (λ (bs : List Block). 4 + length (moves_bytes bs)) (take-append_seam ms (t.task.goal ∷ []))
 
-    pub outline-of : Outline f table marks t.task
-    outline-of =
+    pub outline_of : Outline f table marks t.task
+    outline_of =
         record {
-          ok = subst (λ (g : Form). TaskOk paper g t.task) form-is a.ok;
+          ok = subst (λ (g : Form). TaskOk paper g t.task) form_is a.ok;
           short =
-              subst (λ (g : Form). length (task_bytes g t.task) ≤ length_limit paper (only f) table) form-is
+              subst (λ (g : Form). length (task_bytes g t.task) ≤ length_limit paper (only f) table) form_is
               (omega (arith, a.prints.long, a.short, limit));
           long =
               omega
-              (arith, inside_list marks (suc t.header.moves) (omega (arith, rising t.header.moves (omega arith))), outline-moves);
+              (arith, inside_list marks (suc t.header.moves) (omega (arith, rising t.header.moves (omega arith))), outline_moves);
           ordered = order;
           within = last;
-          move = λ b h. part_is b (omega arith) ∙ move-part a all b h;
-          goal = part_is (length t.task.moves) (omega arith) ∙ goal-part a all;
+          move = λ b h. part_is b (omega arith) ∙ move_part a all b h;
+          goal = part_is (length t.task.moves) (omega arith) ∙ goal_part a all;
           goal_mark = goal_at;
         }
 
@@ -121,18 +121,18 @@ module _ (f : Form) {t marks : List ℕ} {r : ReadAnswer} (o : Outlined t (readi
   head_read {kind} {props} {vars} {moves} e all =
       let a = answer_accepted (reading paper (only f) t) kind props vars moves (sym o.answer ∙ e) in
       let k = a.table in
-      let h = reading-head paper (only f) t a.is in
+      let h = reading_head paper (only f) t a.is in
       record {
         table = k;
         is = a.is;
-        outline = outline-of (only f) f t marks k a.is (reading_form paper f t a.is) refl all (o.marks k a.is) (o.rising k a.is) (o.inside k a.is);
+        outline = outline_of (only f) f t marks k a.is (reading_form paper f t a.is) refl all (o.marks k a.is) (o.rising k a.is) (o.inside k a.is);
         props_is = sym a.props_is ∙ h.0;
         vars_is = sym a.vars_is ∙ h.1;
         count = sym a.moves_is ∙ h.2;
       }
 
-  pub head-refused : {q : Refusal} → r ≡ read.Refused q → reading paper (only f) t ≡ refused q
-  head-refused {q} e = answer_refused (reading paper (only f) t) q (sym o.answer ∙ e)
+  pub head_refused : {q : Refusal} → r ≡ read.Refused q → reading paper (only f) t ≡ refused q
+  head_refused {q} e = answer_refused (reading paper (only f) t) q (sym o.answer ∙ e)
 
 -- ---- a stored table, of either form
 
@@ -153,14 +153,14 @@ stored_read {t} {marks} {kind = kind} {props} {vars} {moves} o e all =
     let a = answer_accepted (reading paper stored t) kind props vars moves (sym o.answer ∙ e) in
     let k = a.table in
     let f = k.header.form in
-    let prints = reading-canonical paper stored t a.is all in
+    let prints = reading_canonical paper stored t a.is all in
     let limit : length_limit paper stored t ≡ length_limit paper (only f) t =
     ap (length_limit paper stored) prints ∙ stored_limit paper f k.task k.task ∙ sym (ap (length_limit paper (only f)) prints)
     in
     record {
       table = k;
       is = a.is;
-      outline = outline-of stored f t marks k a.is refl limit all (o.marks k a.is) (o.rising k a.is) (o.inside k a.is);
+      outline = outline_of stored f t marks k a.is refl limit all (o.marks k a.is) (o.rising k a.is) (o.inside k a.is);
       prints = prints;
-      count = sym a.moves_is ∙ (reading-head paper stored t a.is).2;
+      count = sym a.moves_is ∙ (reading_head paper stored t a.is).2;
     }

@@ -63,28 +63,28 @@ pub record PropsTaken {table marks : List ℕ} {has used : List Bool} {row lows 
   pub is : EncodesTaken x.scene.search.task t counts (props_below x.scene n)
 
 module _ {table marks : List ℕ} {has used : List Bool} {row lows : List ℤ} {moves props : ℕ} {wanted : List Bool} {t₀ : Targets} (x : PropsTakeable table marks has used row lows moves props wanted t₀) where
-  pub props-start : {counts : List ℕ} → counts ≡ replicate 64 0 → PropsTaken x 0 t₀ counts
+  pub props_start : {counts : List ℕ} → counts ≡ replicate 64 0 → PropsTaken x 0 t₀ counts
   unfolding fold_below
-  props-start e = rw e (record { is = taken_carried x.scene.search.over x.scene.wants x.kept (omega (arith, x.scene.few, x.scene.search.many)) })
+  props_start e = rw e (record { is = taken_carried x.scene.search.over x.scene.wants x.kept (omega (arith, x.scene.few, x.scene.search.many)) })
 
-  pub props-end : {n : ℕ} {t : Targets} {counts : List ℕ} → n ≤ props → props ≤ n → PropsTaken x n t counts → PropsTaken x props t counts
-  props-end {n} {t} {counts} h i d = let e : n ≡ props = omega arith in subst (λ (m : ℕ). PropsTaken x m t counts) e d
+  pub props_end : {n : ℕ} {t : Targets} {counts : List ℕ} → n ≤ props → props ≤ n → PropsTaken x n t counts → PropsTaken x props t counts
+  props_end {n} {t} {counts} h i d = let e : n ≡ props = omega arith in subst (λ (m : ℕ). PropsTaken x m t counts) e d
 
-  pub prop-room : {p : ℕ} → p < props → p < 120
-  prop-room h = omega (arith, x.kept.few_props, x.many)
+  pub prop_room : {p : ℕ} → p < props → p < 120
+  prop_room h = omega (arith, x.kept.few_props, x.many)
 
   module _ {p : ℕ} {t : Targets} {counts : List ℕ} (h : p < props) (d : PropsTaken x p t counts) where
-    pub prop-unwanted : get_or wanted p false ≡ false → PropsTaken x (p + 1) t counts
+    pub prop_unwanted : get_or wanted p false ≡ false → PropsTaken x (p + 1) t counts
     unfolding fold_below take_prop
-    prop-unwanted e = rw (add-one p) (record { is = rw (sym (x.wanted_is p h) ∙ e, take_prop) d.is })
+    prop_unwanted e = rw (add-one p) (record { is = rw (sym (x.wanted_is p h) ∙ e, take_prop) d.is })
 
-    pub prop-had : get_or wanted p false ≡ true → get_or has p false ≡ true → PropsTaken x (p + 1) t counts
+    pub prop_had : get_or wanted p false ≡ true → get_or has p false ≡ true → PropsTaken x (p + 1) t counts
     unfolding fold_below take_prop
-    prop-had e f = rw (add-one p) (record { is = rw (sym (x.wanted_is p h) ∙ e, take_prop, sym (x.has_is p h) ∙ f) d.is })
+    prop_had e f = rw (add-one p) (record { is = rw (sym (x.wanted_is p h) ∙ e, take_prop, sym (x.has_is p h) ∙ f) d.is })
 
-    pub prop-take : {r : Targets} {more : List ℕ} → get_or wanted p false ≡ true → get_or has p false ≡ false → AdderTaken (takeable x.scene d.is) p r more → PropsTaken x (p + 1) r more
+    pub prop_take : {r : Targets} {more : List ℕ} → get_or wanted p false ≡ true → get_or has p false ≡ false → AdderTaken (takeable x.scene d.is) p r more → PropsTaken x (p + 1) r more
     unfolding fold_below take_prop
-    prop-take e f taken = rw (add-one p) (record { is = rw (sym (x.wanted_is p h) ∙ e, take_prop, sym (x.has_is p h) ∙ f) taken.is })
+    prop_take e f taken = rw (add-one p) (record { is = rw (sym (x.wanted_is p h) ∙ e, take_prop, sym (x.has_is p h) ∙ f) taken.is })
 
 -- ---- variables
 
@@ -109,12 +109,12 @@ pub record ValuesTaken {table marks : List ℕ} {used : List Bool} {row lows sta
   pub is : EncodesTaken x.scene.search.task t counts (values_below x.scene x.descent n)
 
 module _ {table marks : List ℕ} {used : List Bool} {row lows start : List ℤ} {moves vars : ℕ} {targets : List ℤ} {t₀ : Targets} {counts₀ : List ℕ} (x : ValuesTakeable table marks used row lows start moves vars targets t₀ counts₀) where
-  pub values-start : ValuesTaken x 0 t₀ counts₀
+  pub values_start : ValuesTaken x 0 t₀ counts₀
   unfolding fold_below
-  values-start = record { is = x.taken }
+  values_start = record { is = x.taken }
 
-  pub values-end : {n : ℕ} {t : Targets} {counts : List ℕ} → n ≤ vars → vars ≤ n → ValuesTaken x n t counts → ValuesTaken x vars t counts
-  values-end {n} {t} {counts} h i d = let e : n ≡ vars = omega arith in subst (λ (m : ℕ). ValuesTaken x m t counts) e d
+  pub values_end : {n : ℕ} {t : Targets} {counts : List ℕ} → n ≤ vars → vars ≤ n → ValuesTaken x n t counts → ValuesTaken x vars t counts
+  values_end {n} {t} {counts} h i d = let e : n ≡ vars = omega arith in subst (λ (m : ℕ). ValuesTaken x m t counts) e d
 
   pub value_room : {v : ℕ} → v < vars → v < 32
   value_room h = omega (arith, x.taken.wants.few_vars, x.many)
@@ -122,42 +122,42 @@ module _ {table marks : List ℕ} {used : List Bool} {row lows start : List ℤ}
   pub row_room : {v : ℕ} → v < vars → v < length row
   row_room h = omega (arith, x.scene.values.long, x.many)
 
-  pub start-room : {v : ℕ} → v < vars → v < length start
-  start-room h = omega (arith, x.start_values.long)
+  pub start_room : {v : ℕ} → v < vars → v < length start
+  start_room h = omega (arith, x.start_values.long)
 
   module _ {v : ℕ} (h : v < vars) where
     target_is : get_or targets v (pos 0) ≡ code (x.scene.wants.target v)
     target_is = x.targets_are v h
 
     module _ (f : is_free (get_or targets v (pos 0)) ≡ false) where
-      least-is : x.scene.wants.target v ≡ least (get_or targets v (pos 0))
-      least-is = free_no (x.scene.wants.target v) target_is f
+      least_is : x.scene.wants.target v ≡ least (get_or targets v (pos 0))
+      least_is = free_no (x.scene.wants.target v) target_is f
 
-      pub target-size : nat_abs (get_or targets v (pos 0)) ≤ target_limit
-      target-size = subst SmallTarget least-is (x.small.each v)
+      pub target_size : nat_abs (get_or targets v (pos 0)) ≤ target_limit
+      target_size = subst SmallTarget least_is (x.small.each v)
 
-    pub value-is : {t : Bool} (z : ℤ) → ((w : Value) → get_or row v (pos 0) ≡ encode w → t ≡ reaches w z) → reaches (x.scene.search.over.val v) z ≡ t
-    value-is z q = sym (q (x.scene.search.over.val v) (x.scene.values.each v (omega (arith, x.many))).is)
+    pub value_is : {t : Bool} (z : ℤ) → ((w : Value) → get_or row v (pos 0) ≡ encode w → t ≡ reaches w z) → reaches (x.scene.search.over.val v) z ≡ t
+    value_is z q = sym (q (x.scene.search.over.val v) (x.scene.values.each v (omega (arith, x.many))).is)
 
-    pub old-is : get_or start v (pos 0) ≡ x.scene.start.val v
-    old-is = x.start_values.same v h
+    pub old_is : get_or start v (pos 0) ≡ x.scene.start.val v
+    old_is = x.start_values.same v h
 
-    pub old-size : nat_abs (get_or start v (pos 0)) ≤ largest_value
-    old-size = subst (λ (z : ℤ). nat_abs z ≤ largest_value) (sym old-is) (x.start_values.size v h)
+    pub old_size : nat_abs (get_or start v (pos 0)) ≤ largest_value
+    old_size = subst (λ (z : ℤ). nat_abs z ≤ largest_value) (sym old_is) (x.start_values.size v h)
 
     module _ {t : Targets} {counts : List ℕ} (d : ValuesTaken x v t counts) where
-      pub value-free : is_free (get_or targets v (pos 0)) ≡ true → ValuesTaken x (v + 1) t counts
+      pub value_free : is_free (get_or targets v (pos 0)) ≡ true → ValuesTaken x (v + 1) t counts
       unfolding fold_below take_value take_target
-      value-free e = rw (add-one v) (record { is = rw (free_yes (x.scene.wants.target v) target_is (x.small.each v) e, take_target) d.is })
+      value_free e = rw (add-one v) (record { is = rw (free_yes (x.scene.wants.target v) target_is (x.small.each v) e, take_target) d.is })
 
       module _ (f : is_free (get_or targets v (pos 0)) ≡ false) where
-        pub value-had : reaches (x.scene.search.over.val v) (get_or targets v (pos 0)) ≡ true → ValuesTaken x (v + 1) t counts
+        pub value_had : reaches (x.scene.search.over.val v) (get_or targets v (pos 0)) ≡ true → ValuesTaken x (v + 1) t counts
         unfolding fold_below take_value take_target
-        value-had e = rw (add-one v) (record { is = rw (least-is f, take_target, e) d.is })
+        value_had e = rw (add-one v) (record { is = rw (least_is f, take_target, e) d.is })
 
-        pub value-take :
+        pub value_take :
             {r : Targets} {more : List ℕ} → reaches (x.scene.search.over.val v) (get_or targets v (pos 0)) ≡ false
             → AchieverTaken (takeable x.scene d.is) v (get_or targets v (pos 0)) r more
             → ValuesTaken x (v + 1) r more
         unfolding fold_below take_value take_target
-        value-take e taken = rw (add-one v) (record { is = rw (least-is f, take_target, e) taken.is })
+        value_take e taken = rw (add-one v) (record { is = rw (least_is f, take_target, e) taken.is })

@@ -40,9 +40,9 @@ unfoldable pub counted_at : List ℕ → ℕ → ℕ → List ℕ
 counted_at counts b n = set counts b (max (get_or counts b 0) n)
 
 module _ {k : Task} {t : Targets} {counts : List ℕ} {d : Descent} (e : EncodesTaken k t counts d) {r : Targets} {w : Wants} (wanted : Encodes k.props k.vars r w) where
-  pub taken-counted : {b : ℕ} (n : ℕ) {more : List ℕ} → b < length k.moves → more ≡ counted_at counts b n → EncodesTaken k r more (record { wants = w; count = counted d.count b n })
+  pub taken_counted : {b : ℕ} (n : ℕ) {more : List ℕ} → b < length k.moves → more ≡ counted_at counts b n → EncodesTaken k r more (record { wants = w; count = counted d.count b n })
   unfolding counted counted_at
-  taken-counted {b} n lt same =
+  taken_counted {b} n lt same =
       record {
         wants = wanted;
         few = e.few;
@@ -133,8 +133,8 @@ pub record Takeable (table marks : List ℕ) (used : List Bool) (row lows : List
 
 module _ {table marks : List ℕ} {used : List Bool} {row lows : List ℤ} {moves : ℕ} {t : Targets} {counts : List ℕ} (x : Takeable table marks used row lows moves t counts) {b : ℕ} (lt : b < moves) where
   -- the move's conditions, as they are wanted in the layer
-  abbrev pub move-wantable : {part : List ℕ} → part ≡ part_at table marks b → BlockWantable part row lows t
-  move-wantable {part} e =
+  abbrev pub move_wantable : {part : List ℕ} → part ≡ part_at table marks b → BlockWantable part row lows t
+  move_wantable {part} e =
       record {
         ranges = ranges_of normal x.search.task;
         block = move_at x.search.task b;
@@ -148,8 +148,8 @@ module _ {table marks : List ℕ} {used : List Bool} {row lows : List ℤ} {move
         encoded = x.encoded.wants;
       }
 
-  pub move-small : b < 64
-  move-small = omega (arith, x.encoded.few, x.search.many)
+  pub move_small : b < 64
+  move_small = omega (arith, x.encoded.few, x.search.many)
 
 -- "take the first that adds the proposition .. Want its conditions in t−1 .. Count: 1"
 pub record AdderTaken {table marks : List ℕ} {used : List Bool} {row lows : List ℤ} {moves : ℕ} {t : Targets} {counts : List ℕ} (x : Takeable table marks used row lows moves t counts) (p : ℕ) (r : Targets) (more : List ℕ) : Type 0 where
@@ -158,18 +158,18 @@ pub record AdderTaken {table marks : List ℕ} {used : List Bool} {row lows : Li
       (take_adder x.search.task x.search.over x.start x.descent (adder x.search.task x.search.over p))
 
 module _ {table marks : List ℕ} {used : List Bool} {row lows : List ℤ} {moves : ℕ} {t : Targets} {counts : List ℕ} (x : Takeable table marks used row lows moves t counts) {p : ℕ} where
-  pub no-adder : adder x.search.task x.search.over p ≡ none → AdderTaken x p t counts
+  pub no_adder : adder x.search.task x.search.over p ≡ none → AdderTaken x p t counts
   unfolding take_adder
-  no-adder e = record { is = rw e x.encoded }
+  no_adder e = record { is = rw e x.encoded }
 
-  pub adder-taken :
+  pub adder_taken :
       {b : ℕ} {part : List ℕ} {w : Targets} {more : List ℕ} (h : AdderIs x.search.task x.search.over p moves b) (e : part ≡ part_at table marks b)
-      → BlockWanted (move-wantable x h.lt e) w
+      → BlockWanted (move_wantable x h.lt e) w
       → more ≡ counted_at counts b 1
       → AdderTaken x p w more
   unfolding take_adder
-  adder-taken h e wanted same =
-      record { is = rw h.is (taken-counted x.encoded wanted.encoded 1 (omega (arith, h.lt, x.search.many)) same) }
+  adder_taken h e wanted same =
+      record { is = rw h.is (taken_counted x.encoded wanted.encoded 1 (omega (arith, h.lt, x.search.many)) same) }
 
 -- "Want its conditions in t−1, and that value ≥ T (:=) or ≥ 1 (+=)."
 pub record AchieverTaken {table marks : List ℕ} {used : List Bool} {row lows : List ℤ} {moves : ℕ} {t : Targets} {counts : List ℕ} (x : Takeable table marks used row lows moves t counts) (v : ℕ) (z : ℤ) (r : Targets) (more : List ℕ) : Type 0 where
@@ -178,14 +178,14 @@ pub record AchieverTaken {table marks : List ℕ} {used : List Bool} {row lows :
       (take_achiever x.search.task x.search.over x.start x.descent v z (achiever x.search.task x.search.over v z))
 
 module _ {table marks : List ℕ} {used : List Bool} {row lows : List ℤ} {moves : ℕ} {t : Targets} {counts : List ℕ} (x : Takeable table marks used row lows moves t counts) {v : ℕ} {z : ℤ} where
-  pub no-achiever : achiever x.search.task x.search.over v z ≡ none → AchieverTaken x v z t counts
+  pub no_achiever : achiever x.search.task x.search.over v z ≡ none → AchieverTaken x v z t counts
   unfolding take_achiever
-  no-achiever e = record { is = rw e x.encoded }
+  no_achiever e = record { is = rw e x.encoded }
 
   module _ {b kd : ℕ} {base : ℤ} {from n : ℕ} {value : ℤ} (h : AchieverIs table marks x.search.task x.search.over v z moves b kd base from n value) {part : List ℕ} (e : part ≡ part_at table marks b) where
     -- the effect's sum, as it is wanted behind the move's conditions
-    abbrev pub effect-wantable : {w : Targets} → BlockWanted (move-wantable x h.lt e) w → Wantable part from n row lows w
-    effect-wantable wanted =
+    abbrev pub effect_wantable : {w : Targets} → BlockWanted (move_wantable x h.lt e) w → Wantable part from n row lows w
+    effect_wantable wanted =
         record {
           ranges = ranges_of normal x.search.task;
           ts = h.it.terms;
@@ -200,25 +200,25 @@ module _ {table marks : List ℕ} {used : List Bool} {row lows : List ℤ} {move
         }
 
     -- a += is taken for a value of 1 or more
-    pub effect-above : (kd ≡ 0 → ⊥) → Above0 value
+    pub effect_above : (kd ≡ 0 → ⊥) → Above0 value
     unfolding demand kind_code
-    effect-above ne = record { over = layer_value x.search.over h.it; encoded = h.encoded; positive = go h.it.kind h.effect.kind h.achieved }
+    effect_above ne = record { over = layer_value x.search.over h.it; encoded = h.encoded; positive = go h.it.kind h.effect.kind h.achieved }
       where
         go : (d : Kind) → kind_code d ≡ kd → reaches (layer_value x.search.over h.it) (demand d z) ≡ true → reaches (layer_value x.search.over h.it) (pos 1) ≡ true
         go assign p q = absurd (ne (sym p))
         go increase p q = q
         go decrease p q = q
 
-    pub achiever-taken :
-        {y c : ℤ} {w u : Targets} {m : ℕ} {more : List ℕ} (wanted : BlockWanted (move-wantable x h.lt e) w)
+    pub achiever_taken :
+        {y c : ℤ} {w u : Targets} {m : ℕ} {more : List ℕ} (wanted : BlockWanted (move_wantable x h.lt e) w)
         → y ≡ x.start.val v
         → c ≡ demand_by kd z -ℤ base
-        → Wanted (effect-wantable wanted) c u
+        → Wanted (effect_wantable wanted) c u
         → IsRuns kd z y value m
         → more ≡ counted_at counts b m
         → AchieverTaken x v z u more
     unfolding take_achiever take_effect
-    achiever-taken {y} {c} {w} {u} {m} {more} wanted old is sum counted-runs same =
+    achiever_taken {y} {c} {w} {u} {m} {more} wanted old is sum counted-runs same =
         let k = x.search.task in
         let l = x.search.over in
         let s = x.start in
@@ -230,7 +230,7 @@ module _ {table marks : List ℕ} {used : List Bool} {row lows : List ℤ} {move
         record {
           is =
               rw (h.is, h.found_it)
-              (taken-counted x.encoded
+              (taken_counted x.encoded
               (subst (λ (i : ℤ). Encodes k.props k.vars u (want_sum l s (want_block l s x.descent.wants (move_at k b)) h.it.terms i)) need sum.encoded)
               (runs h.it.kind z (s.val v) (layer_value l h.it))
               (omega (arith, h.lt, x.search.many))

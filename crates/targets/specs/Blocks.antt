@@ -8,11 +8,11 @@ use Rattle.model.specs.Layer.{Layer}
 use Rattle.model.specs.Plan.{Wants, low, want_prop, want_sum, want_item, want_block}
 use Rattle.block.specs.Items.{Ranges, Left, left_end, Followed, ConditionFound, Found, behind, Moves, Next, bound_small}
 use Rattle.block.specs.Sums.{Row, LayerRow}
-use Rattle.block.specs.Blocks.{Reading, reading_start, reading-next, reading-end}
+use Rattle.block.specs.Blocks.{Reading, reading_start, reading_next, reading_end}
 use Rattle.block.specs.declared.ItemAt.{ItemAt}
 use Rattle.block.specs.declared.ItemAt.TheVariants.{Need, Add, Delete, Condition as ConditionAt, Effect as EffectAt, End}
 use Rattle.targets.specs.declared.Targets.{Targets}
-use Rattle.targets.specs.Encoding.{Encodes, Added, encodes-prop}
+use Rattle.targets.specs.Encoding.{Encodes, Added, encodes_prop}
 use Rattle.targets.specs.Wanting.{Wantable, Wanted}
 
 -- some block, some layer and state and some wants stand so in the arguments
@@ -52,50 +52,50 @@ module _ {part : List ℕ} {row lows : List ℤ} {t : Targets} (x : BlockWantabl
       record { wants = x.wants; encoded = x.encoded; reading = reading_start (want_block x.over x.start x.wants) x.left }
 
   module _ {at : ℕ} {u : Targets} (d : BlockDone x at u) where
-    pub block-end : length part ≤ at → BlockWanted x u
+    pub block_end : length part ≤ at → BlockWanted x u
     unfolding want_block
-    block-end h =
-        record { encoded = subst (Encodes x.ranges.props x.ranges.vars u) (reading-end d.reading (left_end h d.reading.left) refl) d.encoded }
+    block_end h =
+        record { encoded = subst (Encodes x.ranges.props x.ranges.vars u) (reading_end d.reading (left_end h d.reading.left) refl) d.encoded }
 
     -- an item that wants nothing
-    block-pass :
+    block_pass :
         {after : ℕ} {i : Item} → Followed x.ranges part after d.reading.rest i
         → want_item x.over x.start d.wants i ≡ d.wants
         → BlockDone x after u
     unfolding want_block
-    block-pass f e =
+    block_pass f e =
         record {
           wants = d.wants;
           encoded = d.encoded;
           reading =
-              reading-next d.reading (want_block x.over x.start d.wants) f
+              reading_next d.reading (want_block x.over x.start d.wants) f
               (λ o. ap (λ (w : Wants). want_block x.over x.start w o) e);
         }
 
-    pub block-other : {i : ItemAt} → at < length part → Next part at i → NoCondition i → BlockDone x (behind i) u
+    pub block_other : {i : ItemAt} → at < length part → Next part at i → NoCondition i → BlockDone x (behind i) u
     unfolding want_item behind
-    block-other {i} lt t other = go i t.moves other (t.found x.ranges d.reading.rest d.reading.left)
+    block_other {i} lt t other = go i t.moves other (t.found x.ranges d.reading.rest d.reading.left)
       where
         go : (y : ItemAt) → Moves at (length part) y → NoCondition y → Found x.ranges part d.reading.rest y → BlockDone x (behind y) u
         go (Need p after) m h f = absurd h
-        go (Add p after) m h f = block-pass f refl
-        go (Delete p after) m h f = block-pass f refl
+        go (Add p after) m h f = block_pass f refl
+        go (Delete p after) m h f = block_pass f refl
         go (ConditionAt o z from n after) m h f = absurd h
-        go (EffectAt kd v z from n after) m h f = block-pass f.followed refl
+        go (EffectAt kd v z from n after) m h f = block_pass f.followed refl
         go End m h f = absurd (omega arith)
 
-    pub block-need : {after p : ℕ} {r : Targets} → Followed x.ranges part after d.reading.rest (need p) → Added u p r → BlockDone x after r
+    pub block_need : {after p : ℕ} {r : Targets} → Followed x.ranges part after d.reading.rest (need p) → Added u p r → BlockDone x after r
     unfolding want_block want_item
-    block-need {p} f added =
+    block_need {p} f added =
         record {
           wants = want_prop d.wants p;
-          encoded = encodes-prop d.encoded f.ok added;
-          reading = reading-next d.reading (want_block x.over x.start (want_prop d.wants p)) f (λ o. refl);
+          encoded = encodes_prop d.encoded f.ok added;
+          reading = reading_next d.reading (want_block x.over x.start (want_prop d.wants p)) f (λ o. refl);
         }
 
     module _ {o : ℕ} {z : ℤ} {from n after : ℕ} (f : ConditionFound x.ranges part o z from n after d.reading.rest) where
-      abbrev pub condition-wantable : Wantable part from n row lows u
-      condition-wantable =
+      abbrev pub condition_wantable : Wantable part from n row lows u
+      condition_wantable =
           record {
             ranges = x.ranges;
             ts = f.it.terms;
@@ -109,16 +109,16 @@ module _ {part : List ℕ} {row lows : List ℤ} {t : Targets} (x : BlockWantabl
             encoded = d.encoded;
           }
 
-      pub condition-size : nat_abs z ≤ 1_000_001
-      condition-size = subst (λ (y : ℤ). nat_abs y ≤ 1_000_001) f.is.bound (bound_small x.ranges.form f.it.bound f.is.ok.bound)
+      pub condition_size : nat_abs z ≤ 1_000_001
+      condition_size = subst (λ (y : ℤ). nat_abs y ≤ 1_000_001) f.is.bound (bound_small x.ranges.form f.it.bound f.is.ok.bound)
 
-      pub block-condition : {r : Targets} → Wanted condition-wantable z r → BlockDone x after r
+      pub block_condition : {r : Targets} → Wanted condition_wantable z r → BlockDone x after r
       unfolding want_block want_item
-      block-condition w =
+      block_condition w =
           record {
             wants = want_sum x.over x.start d.wants f.it.terms z;
             encoded = w.encoded;
             reading =
-                reading-next d.reading (want_block x.over x.start (want_sum x.over x.start d.wants f.it.terms z)) f.followed
+                reading_next d.reading (want_block x.over x.start (want_sum x.over x.start d.wants f.it.terms z)) f.followed
                 (λ b. ap (λ (y : ℤ). want_block x.over x.start (want_sum x.over x.start d.wants f.it.terms y) b) f.is.bound);
           }

@@ -6,7 +6,7 @@ use Rattle.model.specs.Plan.{Target, free, least, Wants, carried_target, carried
 use Rattle.block.specs.Sums.{LayerRow}
 use Rattle.targets.specs.declared.Targets.{Targets}
 use Rattle.targets.specs.Encoding.{lowest, code, holding, Encodes}
-use Rattle.stored_layer.specs.View.{Filled, filled_none, filled-step}
+use Rattle.stored_layer.specs.View.{Filled, filled_none, filled_step}
 
 -- ---- an array whose elements are changed from its start
 
@@ -16,13 +16,13 @@ pub record Mapped {A : Type 0} (d : A) (f : ℕ → A → A) (n : ℕ) (old new 
   pub rest : (i : ℕ) → n ≤ i → get_or new i d ≡ get_or old i d
 
 module _ {A : Type 0} {d : A} {f : ℕ → A → A} {old : List A} where
-  pub mapped-none : Mapped d f 0 old old
-  mapped-none = record { filled = filled_none refl; rest = λ i h. refl }
+  pub mapped_none : Mapped d f 0 old old
+  mapped_none = record { filled = filled_none refl; rest = λ i h. refl }
 
-  pub mapped-step : {new : List A} {i : ℕ} {x : A} → i < length old → Mapped d f i old new → x ≡ f i (get_or new i d) → Mapped d f (i + 1) old (set new i x)
-  mapped-step {new} {i} {x} room m e =
+  pub mapped_step : {new : List A} {i : ℕ} {x : A} → i < length old → Mapped d f i old new → x ≡ f i (get_or new i d) → Mapped d f (i + 1) old (set new i x)
+  mapped_step {new} {i} {x} room m e =
       record {
-        filled = filled-step room m.filled (e ∙ ap (f i) (m.rest i (omega arith)));
+        filled = filled_step room m.filled (e ∙ ap (f i) (m.rest i (omega arith)));
         rest = λ j h. get_or-set_other new i j x d (λ q. omega arith) ∙ m.rest j (omega arith);
       }
 

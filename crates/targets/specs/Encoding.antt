@@ -93,9 +93,9 @@ pub raised_at_lem : {ps : List Bool} {ts rs : List ℤ} {v : ℕ} {z : ℤ} → 
 raised_at_lem e = record { props = refl; target = e }
 
 module _ {props vars : ℕ} {t r : Targets} {w : Wants} (e : Encodes props vars t w) where
-  pub encodes-prop : {p : ℕ} → p < props → Added t p r → Encodes props vars r (want_prop w p)
+  pub encodes_prop : {p : ℕ} → p < props → Added t p r → Encodes props vars r (want_prop w p)
   unfolding want_prop
-  encodes-prop {p} h same =
+  encodes_prop {p} h same =
       record {
         few_props = e.few_props;
         few_vars = e.few_vars;
@@ -109,12 +109,12 @@ module _ {props vars : ℕ} {t r : Targets} {w : Wants} (e : Encodes props vars 
         target = λ v i. rw same.target (e.target v i);
       }
 
-  pub encodes-value :
+  pub encodes_value :
       {v : ℕ} (z : ℤ) → v < vars → mag z < 2 ^ 63
       → Raised t v z r
       → Encodes props vars r (want_value w v z)
   unfolding want_value raised_at
-  encodes-value {v} z h fits same =
+  encodes_value {v} z h fits same =
       record {
         few_props = e.few_props;
         few_vars = e.few_vars;

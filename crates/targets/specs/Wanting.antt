@@ -14,11 +14,11 @@ use Rattle.model.specs.Move.{State, sum}
 use Rattle.model.specs.Layer.{Value, finite, unbounded, Layer}
 use Rattle.model.specs.Plan.{Wants, low, want_value, want_finite, want_sum}
 use Rattle.model.specs.Theorems.Reading.WellFormed.{WeightOk}
-use Rattle.model.specs.Theorems.Plans.Wanting.{wantFinite-finite, wantFinite-unbounded, wantSum-finite, wantSum-unbounded, want_sum_nil}
-use Rattle.block.specs.Items.{Ranges, Terms, TermAt, IsVariable, IsWeight, IsScaled, first_of, term-at, terms_place, terms-behind, term-var-small}
+use Rattle.model.specs.Theorems.Plans.Wanting.{want_finite_finite, want_finite_unbounded, want_sum_finite, want_sum_unbounded, want_sum_nil}
+use Rattle.block.specs.Items.{Ranges, Terms, TermAt, IsVariable, IsWeight, IsScaled, first_of, term_at, terms_place, terms_behind, term_var_small}
 use Rattle.block.specs.Sums.{Row, Summable, IsSum, LayerRow, Encoded, Sized, is_mark, mark_yes, mark_no}
 use Rattle.targets.specs.declared.Targets.{Targets}
-use Rattle.targets.specs.Encoding.{Encodes, holding, Raised, encodes-value}
+use Rattle.targets.specs.Encoding.{Encodes, holding, Raised, encodes_value}
 
 -- ---- the term at an offset, and the value of its variable in a layer
 
@@ -42,7 +42,7 @@ pub term_read :
 term_read {k} {part} {at} {m} {row} {f} {ts} {v} h p r q =
     let g = first_of h p in
     let e : v ≡ g.first.var = q.is k m g.first g.others g.terms in
-    let s : v < k.vars = rw e (term-var-small g.terms) in
+    let s : v < k.vars = rw e (term_var_small g.terms) in
     record {
       first = g.first;
       behind = g.others;
@@ -55,17 +55,17 @@ term_read {k} {part} {at} {m} {row} {f} {ts} {v} h p r q =
     }
 
 module _ {k : Ranges} {part : List ℕ} {at m : ℕ} {row : List ℤ} {f : ℕ → Value} {ts : List Term} {v : ℕ} (r : TermRead k part at m row f ts v) where
-  pub read-unbounded : is_mark (get_or row v (pos 0)) ≡ true → f r.first.var ≡ unbounded
-  read-unbounded e = mark_yes (omega arith) r.value e
+  pub read_unbounded : is_mark (get_or row v (pos 0)) ≡ true → f r.first.var ≡ unbounded
+  read_unbounded e = mark_yes (omega arith) r.value e
 
-  pub read-finite : is_mark (get_or row v (pos 0)) ≡ false → f r.first.var ≡ finite (get_or row v (pos 0))
-  read-finite e = mark_no r.value e
+  pub read_finite : is_mark (get_or row v (pos 0)) ≡ false → f r.first.var ≡ finite (get_or row v (pos 0))
+  read_finite e = mark_no r.value e
 
   pub read_small : is_mark (get_or row v (pos 0)) ≡ false → nat_abs (get_or row v (pos 0)) ≤ largest_value
-  read_small e = subst (Sized largest_value) (read-finite e) r.value.size
+  read_small e = subst (Sized largest_value) (read_finite e) r.value.size
 
-  pub read-mag : is_mark (get_or row v (pos 0)) ≡ false → mag (get_or row v (pos 0)) < 2 ^ 63
-  read-mag e = small_mag (get_or row v (pos 0)) (omega (arith, read_small e))
+  pub read_mag : is_mark (get_or row v (pos 0)) ≡ false → mag (get_or row v (pos 0)) < 2 ^ 63
+  read_mag e = small_mag (get_or row v (pos 0)) (omega (arith, read_small e))
 
 -- ---- the finite terms
 
@@ -93,14 +93,14 @@ pub record FinitelyDone {part : List ℕ} {from n : ℕ} {row : List ℤ} {t : T
   pub same : want_finite x.over x.wants x.ts ≡ want_finite x.over wants others
 
 module _ {part : List ℕ} {from n : ℕ} {row : List ℤ} {t : Targets} (x : Finitely part from n row t) where
-  pub finitely-start : FinitelyDone x 0 t
-  finitely-start =
+  pub finitely_start : FinitelyDone x 0 t
+  finitely_start =
       record { others = x.ts; wants = x.wants; terms = terms_place x.terms (omega arith) (omega arith); encoded = x.encoded; same = refl }
 
   module _ {i : ℕ} {u : Targets} (d : FinitelyDone x i u) where
-    pub finitely-end : n ≤ i → Encodes x.ranges.props x.ranges.vars u (want_finite x.over x.wants x.ts)
+    pub finitely_end : n ≤ i → Encodes x.ranges.props x.ranges.vars u (want_finite x.over x.wants x.ts)
     unfolding want_finite
-    finitely-end h =
+    finitely_end h =
         subst (Encodes x.ranges.props x.ranges.vars u)
         (sym (d.same ∙ ended d.others (omega (arith, d.terms.many))))
         d.encoded
@@ -109,43 +109,43 @@ module _ {part : List ℕ} {from n : ℕ} {row : List ℤ} {t : Targets} (x : Fi
         ended [] e = refl
         ended (o ∷ os) e = absurd (omega arith)
 
-    pub finitely-term : i < n → TermAt part (from + 4 * i)
-    finitely-term h = term-at (first_of d.terms (omega arith)).terms
+    pub finitely_term : i < n → TermAt part (from + 4 * i)
+    finitely_term h = term_at (first_of d.terms (omega arith)).terms
 
     module _ {v : ℕ} (h : i < n) (q : IsVariable part (from + 4 * i) v) where
-      pub finitely-read : TermRead x.ranges part (from + 4 * i) (n - i) row x.over.val d.others v
-      finitely-read = term_read d.terms (omega arith) x.values q
+      pub finitely_read : TermRead x.ranges part (from + 4 * i) (n - i) row x.over.val d.others v
+      finitely_read = term_read d.terms (omega arith) x.values q
 
-      behind-terms : Terms x.ranges part (from + 4 * (i + 1)) (n - (i + 1)) finitely-read.behind
-      behind-terms = terms_place (terms-behind finitely-read.here (n - (i + 1)) (omega arith)) (omega arith) refl
+      behind_terms : Terms x.ranges part (from + 4 * (i + 1)) (n - (i + 1)) finitely_read.behind
+      behind_terms = terms_place (terms_behind finitely_read.here (n - (i + 1)) (omega arith)) (omega arith) refl
 
-      pub finitely-skip : is_mark (get_or row v (pos 0)) ≡ true → FinitelyDone x (i + 1) u
-      finitely-skip m =
-          let r = finitely-read in
+      pub finitely_skip : is_mark (get_or row v (pos 0)) ≡ true → FinitelyDone x (i + 1) u
+      finitely_skip m =
+          let r = finitely_read in
           record {
             others = r.behind;
             wants = d.wants;
-            terms = behind-terms;
+            terms = behind_terms;
             encoded = d.encoded;
             same =
                 d.same ∙ ap (want_finite x.over d.wants) r.is
-                ∙ wantFinite-unbounded x.over d.wants r.first r.behind (read-unbounded r m);
+                ∙ want_finite_unbounded x.over d.wants r.first r.behind (read_unbounded r m);
           }
 
-      pub finitely-raise :
+      pub finitely_raise :
           {r : Targets} → is_mark (get_or row v (pos 0)) ≡ false
           → Raised u v (get_or row v (pos 0)) r
           → FinitelyDone x (i + 1) r
-      finitely-raise m raised =
-          let r = finitely-read in
+      finitely_raise m raised =
+          let r = finitely_read in
           record {
             others = r.behind;
             wants = want_value d.wants v (get_or row v (pos 0));
-            terms = behind-terms;
-            encoded = encodes-value d.encoded (get_or row v (pos 0)) r.small (read-mag r m) raised;
+            terms = behind_terms;
+            encoded = encodes_value d.encoded (get_or row v (pos 0)) r.small (read_mag r m) raised;
             same =
                 d.same ∙ ap (want_finite x.over d.wants) r.is
-                ∙ wantFinite-finite x.over d.wants r.first r.behind (read-finite r m)
+                ∙ want_finite_finite x.over d.wants r.first r.behind (read_finite r m)
                 ∙ ap (λ (i : ℕ). want_finite x.over (want_value d.wants i (get_or row v (pos 0))) r.behind) (sym r.var);
           }
 
@@ -185,13 +185,13 @@ pub record WantedDone {part : List ℕ} {from n : ℕ} {row lows : List ℤ} {t 
   pub same : want_sum x.over x.start x.wants x.ts c ≡ want_sum x.over x.start wants others left
 
 module _ {part : List ℕ} {from n : ℕ} {row lows : List ℤ} {t : Targets} (x : Wantable part from n row lows t) (c : ℤ) where
-  pub wanted-start : WantedDone x c 0 c t
-  wanted-start =
+  pub wanted_start : WantedDone x c 0 c t
+  wanted_start =
       record { others = x.ts; wants = x.wants; terms = terms_place x.terms (omega arith) (omega arith); encoded = x.encoded; same = refl }
 
   module _ {i : ℕ} {left : ℤ} {u : Targets} (d : WantedDone x c i left u) where
-    pub wanted-end : n ≤ i → Wanted x c u
-    wanted-end h =
+    pub wanted_end : n ≤ i → Wanted x c u
+    wanted_end h =
         record {
           encoded =
               subst (Encodes x.ranges.props x.ranges.vars u)
@@ -203,12 +203,12 @@ module _ {part : List ℕ} {from n : ℕ} {row lows : List ℤ} {t : Targets} (x
         ended [] e = want_sum_nil x.over x.start d.wants left
         ended (o ∷ os) e = absurd (omega arith)
 
-    pub wanted-term : i < n → TermAt part (from + 4 * i)
-    wanted-term h = term-at (first_of d.terms (omega arith)).terms
+    pub wanted_term : i < n → TermAt part (from + 4 * i)
+    wanted_term h = term_at (first_of d.terms (omega arith)).terms
 
     -- the terms that are left, as a sum of their own
-    abbrev pub wanted-rest : Wantable part (from + 4 * i) (n - i) row lows u
-    wanted-rest =
+    abbrev pub wanted_rest : Wantable part (from + 4 * i) (n - i) row lows u
+    wanted_rest =
         record {
           ranges = x.ranges;
           ts = d.others;
@@ -222,30 +222,30 @@ module _ {part : List ℕ} {from n : ℕ} {row lows : List ℤ} {t : Targets} (x
           encoded = d.encoded;
         }
 
-    pub wanted-by-rest : {r : Targets} → Wanted wanted-rest left r → Wanted x c r
-    wanted-by-rest {r} h =
+    pub wanted_by_rest : {r : Targets} → Wanted wanted_rest left r → Wanted x c r
+    wanted_by_rest {r} h =
         record { encoded = subst (Encodes x.ranges.props x.ranges.vars r) (sym d.same) h.encoded }
 
     module _ {v : ℕ} (h : i < n) (q : IsVariable part (from + 4 * i) v) where
       pub wanted_read : TermRead x.ranges part (from + 4 * i) (n - i) row x.over.val d.others v
       wanted_read = term_read d.terms (omega arith) x.values q
 
-      pub wanted-next :
+      pub wanted_next :
           {z : ℤ} {r : Targets} → is_mark (get_or row v (pos 0)) ≡ false
           → Raised u v (get_or row v (pos 0)) r
           → IsScaled part (from + 4 * i) (get_or row v (pos 0)) z
           → WantedDone x c (i + 1) (left -ℤ z) r
-      wanted-next {z} m raised scaled =
+      wanted_next {z} m raised scaled =
           let r = wanted_read in
           let y = get_or row v (pos 0) in
           record {
             others = r.behind;
             wants = want_value d.wants v y;
-            terms = terms_place (terms-behind r.here (n - (i + 1)) (omega arith)) (omega arith) refl;
-            encoded = encodes-value d.encoded y r.small (read-mag r m) raised;
+            terms = terms_place (terms_behind r.here (n - (i + 1)) (omega arith)) (omega arith) refl;
+            encoded = encodes_value d.encoded y r.small (read_mag r m) raised;
             same =
                 d.same ∙ ap (λ (os : List Term). want_sum x.over x.start d.wants os left) r.is
-                ∙ wantSum-finite x.over d.wants r.first r.behind x.start left (read-finite r m)
+                ∙ want_sum_finite x.over d.wants r.first r.behind x.start left (read_finite r m)
                 ∙ ap (λ (i : ℕ). want_sum x.over x.start (want_value d.wants i y) r.behind (left -ℤ (r.first.weight *ℤ y))) (sym r.var)
                 ∙ ap (λ (p : ℤ). want_sum x.over x.start (want_value d.wants v y) r.behind (left -ℤ p))
                 (sym (scaled.is x.ranges (n - i) r.first r.behind r.here));
@@ -269,7 +269,7 @@ pub record NormalTerm (part : List ℕ) (at : ℕ) : Type 0 where
   pub form : ranges.form ≡ normal
 
 pub normal_term : {part : List ℕ} {at : ℕ} → NormalTerm part at → TermAt part at
-normal_term h = term-at h.terms
+normal_term h = term_at h.terms
 
 normal_weight : (f : Form) (w : ℤ) → f ≡ normal → WeightOk paper f w → pos 1 ≤ℤ w
 normal_weight f w e ok = (subst (λ (g : Form). WeightOk paper g w) e ok).0
@@ -300,54 +300,54 @@ pub record UnboundedIn (part : List ℕ) (at n v : ℕ) (c : ℤ) (row lows targ
   pub size : nat_abs c ≤ 2 * sum_limit
 
 module _ {part : List ℕ} {at n v : ℕ} {row lows : List ℤ} {t : Targets} (x : Wantable part at n row lows t) (p : 0 < n) (q : IsVariable part at v) (m : is_mark (get_or row v (pos 0)) ≡ true) where
-  abbrev pub open-read : TermRead x.ranges part at n row x.over.val x.ts v
-  open-read = term_read x.terms p x.values q
+  abbrev pub open_read : TermRead x.ranges part at n row x.over.val x.ts v
+  open_read = term_read x.terms p x.values q
 
-  pub open-term : NormalTerm part at
-  open-term =
-      record { ranges = x.ranges; n = n; first = open-read.first; others = open-read.behind; terms = open-read.here; form = x.form }
+  pub open_term : NormalTerm part at
+  open_term =
+      record { ranges = x.ranges; n = n; first = open_read.first; others = open_read.behind; terms = open_read.here; form = x.form }
 
-  abbrev pub open-behind : Terms x.ranges part (at + 4) (n - 1) open-read.behind
-  open-behind = terms-behind open-read.here (n - 1) (omega arith)
+  abbrev pub open_behind : Terms x.ranges part (at + 4) (n - 1) open_read.behind
+  open_behind = terms_behind open_read.here (n - 1) (omega arith)
 
-  abbrev pub open-finitely : Finitely part (at + 4) (n - 1) row t
-  open-finitely =
+  abbrev pub open_finitely : Finitely part (at + 4) (n - 1) row t
+  open_finitely =
       record {
         ranges = x.ranges;
-        ts = open-read.behind;
+        ts = open_read.behind;
         over = x.over;
         wants = x.wants;
-        terms = open-behind;
+        terms = open_behind;
         values = x.values;
         encoded = x.encoded;
       }
 
-  pub open-summable : Summable part (at + 4) (n - 1) lows
-  open-summable =
-      record { ranges = x.ranges; ts = open-read.behind; val = low x.over x.start; terms = open-behind; row = x.low_values }
+  pub open_summable : Summable part (at + 4) (n - 1) lows
+  open_summable =
+      record { ranges = x.ranges; ts = open_read.behind; val = low x.over x.start; terms = open_behind; row = x.low_values }
 
-  pub open-wanted :
+  pub open_wanted :
       {c rest z : ℤ} {d : ℕ} {u r : Targets}
-      → Encodes x.ranges.props x.ranges.vars u (want_finite x.over x.wants open-read.behind)
+      → Encodes x.ranges.props x.ranges.vars u (want_finite x.over x.wants open_read.behind)
       → IsSum part (at + 4) (n - 1) lows rest
       → IsDivisor part at d
       → z ≡ ceiling (c -ℤ rest) d
       → mag z < 2 ^ 63
       → Raised u v z r
       → Wanted x c r
-  open-wanted {c} {rest} {z} {d} {u} {r} e s g is fits raised =
-      let o = open-read in
+  open_wanted {c} {rest} {z} {d} {u} {r} e s g is fits raised =
+      let o = open_read in
       record {
         encoded =
             subst (Encodes x.ranges.props x.ranges.vars r)
             (sym
             (ap (λ (os : List Term). want_sum x.over x.start x.wants os c) o.is
-            ∙ wantSum-unbounded x.over x.wants o.first o.behind x.start c (read-unbounded o m)
+            ∙ want_sum_unbounded x.over x.wants o.first o.behind x.start c (read_unbounded o m)
             ∙ ap (λ (i : ℕ). want_value (want_finite x.over x.wants o.behind) i (ceiling (c -ℤ sum (low x.over x.start) o.behind) (nat_abs o.first.weight))) (sym o.var)
             ∙ ap (want_value (want_finite x.over x.wants o.behind) v)
             (sym
             (is
-            ∙ ap (λ (y : ℤ). ceiling (c -ℤ y) d) (s.is x.ranges o.behind (low x.over x.start) open-behind x.low_values)
+            ∙ ap (λ (y : ℤ). ceiling (c -ℤ y) d) (s.is x.ranges o.behind (low x.over x.start) open_behind x.low_values)
             ∙ ap (ceiling (c -ℤ sum (low x.over x.start) o.behind)) (g.is x.ranges n o.first o.behind o.here)))))
-            (encodes-value e z o.small fits raised);
+            (encodes_value e z o.small fits raised);
       }

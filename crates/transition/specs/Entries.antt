@@ -11,7 +11,7 @@ use Rattle.model.specs.Theorems.Laws.Searching.{below_suc}
 use Rattle.schedule.specs.declared.Fault.{Fault}
 use Rattle.schedule.specs.Run.{state_after}
 use Rattle.schedule.specs.Check.{fault_of}
-use Rattle.schedule.specs.Theorems.Lists.{faultAt, Made, FirstFault}
+use Rattle.schedule.specs.Theorems.Lists.{fault_at, Made, FirstFault}
 use Rattle.schedule.specs.Theorems.Steps.{state_next}
 use Rattle.real_move.specs.declared.Turn.{Turn}
 use Rattle.real_move.specs.declared.Turn.TheVariants as turn
@@ -40,17 +40,17 @@ module _ (t marks : List ℕ) (props vars moves : ℕ) (list : List ℕ) (had : 
     pub made : (h : Read t marks props vars moves) (s : State) → Twice props vars had values has next s → Made paper h.table.task s list i
     pub holds : (h : Read t marks props vars moves) (s : State) → Twice props vars had values has next s → Twice props vars had' values' has' next' (state_after h.table.task s (take i list))
 
-  pub making-start : Making 0 had values has next
+  pub making_start : Making 0 had values has next
   unfolding state_after
-  making-start = record { within = omega arith; made = λ h s v i l. absurd (not-suc-le-zero l); holds = λ h s v. v }
+  making_start = record { within = omega arith; made = λ h s v i l. absurd (not-suc-le-zero l); holds = λ h s v. v }
 
   module _ {i : ℕ} {had' : List Bool} {values' : List ℤ} {has' : List Bool} {next' : List ℤ} (w : Making i had' values' has' next') where
-    pub making-turnable : Turnable t marks props vars moves had values has next → Turnable t marks props vars moves had' values' has' next'
-    making-turnable m = record { read = m.read; over = _; holds = w.holds m.read m.over m.holds }
+    pub making_turnable : Turnable t marks props vars moves had values has next → Turnable t marks props vars moves had' values' has' next'
+    making_turnable m = record { read = m.read; over = _; holds = w.holds m.read m.over m.holds }
 
     -- nothing is left
-    pub making-ended : length list ≤ i → MovesMade had' values' walked.Ended
-    making-ended l =
+    pub making_ended : length list ≤ i → MovesMade had' values' walked.Ended
+    making_ended l =
         record {
           is = λ h s v.
               record {
@@ -63,24 +63,24 @@ module _ (t marks : List ℕ) (props vars moves : ℕ) (list : List ℕ) (had : 
         (q : Turned t marks props vars moves (get_or list i 0) had' values' has' next' had'' values'' has'' next'' r)
       where
         -- what became of entry i
-        entry-fault : (h : Read t marks props vars moves) (s : State) (v : Twice props vars had values has next s) {o : Option Fault} → turn_fault r ≡ o → faultAt paper h.table.task s list i ≡ o
-        unfolding faultAt
-        entry-fault h s v f = sym (q.is h _ (w.holds h s v)).fault ∙ f
+        entry_fault : (h : Read t marks props vars moves) (s : State) (v : Twice props vars had values has next s) {o : Option Fault} → turn_fault r ≡ o → fault_at paper h.table.task s list i ≡ o
+        unfolding fault_at
+        entry_fault h s v f = sym (q.is h _ (w.holds h s v)).fault ∙ f
 
-        pub making-made : r ≡ turn.Made → Making (i + 1) had'' values'' has'' next''
+        pub making_made : r ≡ turn.Made → Making (i + 1) had'' values'' has'' next''
         unfolding turn_fault
-        making-made e =
+        making_made e =
             record {
               within = omega arith;
-              made = λ h s v j k. below_suc j i (rw (add-one i) at k) (w.made h s v j) (λ same. ap (faultAt paper h.table.task s list) same ∙ entry-fault h s v (ap turn_fault e));
+              made = λ h s v j k. below_suc j i (rw (add-one i) at k) (w.made h s v j) (λ same. ap (fault_at paper h.table.task s list) same ∙ entry_fault h s v (ap turn_fault e));
               holds = λ h s v.
                   rw (ap (λ (n : ℕ). state_after h.table.task s (take n list)) (add-one i) ∙ state_next h.table.task s list i l)
                   ((q.is h _ (w.holds h s v)).after (ap turn_fault e));
             }
 
-        pub making-fails : {f : Fault} → r ≡ turn.Fails f → {had''' : List Bool} {values''' : List ℤ} → MovesMade had''' values''' (walked.Stopped i f)
+        pub making_fails : {f : Fault} → r ≡ turn.Fails f → {had''' : List Bool} {values''' : List ℤ} → MovesMade had''' values''' (walked.Stopped i f)
         unfolding turn_fault
-        making-fails e = record { is = λ h s v. record { inside = l; fault = entry-fault h s v (ap turn_fault e); before = w.made h s v } }
+        making_fails e = record { is = λ h s v. record { inside = l; fault = entry_fault h s v (ap turn_fault e); before = w.made h s v } }
 
 -- from the bytes of a state, in every reading of the table
 module _ (t marks : List ℕ) (props vars moves : ℕ) (bs list : List ℕ) where
@@ -89,25 +89,25 @@ module _ (t marks : List ℕ) (props vars moves : ℕ) (bs list : List ℕ) wher
 
   -- what a walk to the end says, and one that stops
   module _ {has : List Bool} {values : List ℤ} {r : Walked} (q : WalkedOut has values r) (h : Read t marks props vars moves) where
-    pub walked-ended : r ≡ walked.Ended → AllMade props vars h.table.task (state_of props bs) list has values
-    walked-ended e = subst (WalkRight props vars h.table.task (state_of props bs) list has values) e (q.is h)
+    pub walked_ended : r ≡ walked.Ended → AllMade props vars h.table.task (state_of props bs) list has values
+    walked_ended e = subst (WalkRight props vars h.table.task (state_of props bs) list has values) e (q.is h)
 
-    pub walked-stopped : {i : ℕ} {f : Fault} → r ≡ walked.Stopped i f → FirstFault paper h.table.task (state_of props bs) list i f
-    walked-stopped e = subst (WalkRight props vars h.table.task (state_of props bs) list has values) e (q.is h)
+    pub walked_stopped : {i : ℕ} {f : Fault} → r ≡ walked.Stopped i f → FirstFault paper h.table.task (state_of props bs) list i f
+    walked_stopped e = subst (WalkRight props vars h.table.task (state_of props bs) list has values) e (q.is h)
 
 -- ---- a list of one move
 
 module _ {k : Task} {s : State} {b : ℕ} where
-  pub one-fault : {i : ℕ} {f : Fault} → FirstFault paper k s (b ∷ []) i f → fault_of paper k s b ≡ some f
-  unfolding faultAt state_after
-  one-fault {i} {f} h =
+  pub one_fault : {i : ℕ} {f : Fault} → FirstFault paper k s (b ∷ []) i f → fault_of paper k s b ≡ some f
+  unfolding fault_at state_after
+  one_fault {i} {f} h =
       let first : i ≡ 0 = omega (arith, h.inside) in
-      subst (λ (n : ℕ). faultAt paper k s (b ∷ []) n ≡ some f) first h.fault
+      subst (λ (n : ℕ). fault_at paper k s (b ∷ []) n ≡ some f) first h.fault
 
   module _ {props vars : ℕ} {has : List Bool} {values : List ℤ} (m : AllMade props vars k s (b ∷ []) has values) where
-    pub one-made : fault_of paper k s b ≡ none
-    unfolding faultAt state_after
-    one-made = m.made 0 (omega arith)
+    pub one_made : fault_of paper k s b ≡ none
+    unfolding fault_at state_after
+    one_made = m.made 0 (omega arith)
 
     pub one_holds : Holds props vars has values (real (move_at k b) s)
     unfolding state_after

@@ -19,12 +19,12 @@ use Rattle.schedule.specs.declared.Fault.{Fault}
 use Rattle.schedule.specs.declared.Fault.TheVariants as fault
 use Rattle.schedule.specs.Check.{fault_of, fault_number}
 use Rattle.schedule.specs.Theorems.Moves.{step_output, step_fault}
-use Rattle.state.specs.Overwriting.{length-written, written_at}
+use Rattle.state.specs.Overwriting.{length_written, written_at}
 use Rattle.state.specs.Storing.{state_in}
 use Rattle.output.specs.Answers.{Answered}
 use Rattle.real_move.specs.Moving.{Holds}
 use Rattle.transition.specs.Turns.{Read, missing}
-use Rattle.transition.specs.Entries.{AllMade, one-made, one_holds}
+use Rattle.transition.specs.Entries.{AllMade, one_made, one_holds}
 
 -- ---- loading
 
@@ -35,7 +35,7 @@ loaded :
     → n ≤ length old
     → (length new ≡ length old) × ((j : ℕ) → j < n → get_or new j d ≡ f j)
 loaded {A} f n old d e h =
-    (ap length e ∙ length-written f old n h, λ j l. ap (λ (x : List A). get_or x j d) e ∙ written_at f old n j d l)
+    (ap length e ∙ length_written f old n h, λ j l. ap (λ (x : List A). get_or x j d) e ∙ written_at f old n j d l)
 
 -- an accepted state, with counts that are none too large
 pub record Loadable (bs : List ℕ) (props vars : ℕ) : Type 0 where
@@ -74,41 +74,41 @@ put_same {props} {vars} {has} {values} {s} w = state_bytes_same props vars (stat
 
 module _ {t marks : List ℕ} {props vars moves : ℕ} (h : Read t marks props vars moves) (bs : List ℕ) (b : ℕ) where
   -- what the call answers on an accepted table
-  answer-is : step_of paper (reading paper (only written) t) bs b ≡ step_with_state paper h.table.task bs b (state_refusal paper props vars bs)
+  answer_is : step_of paper (reading paper (only written) t) bs b ≡ step_with_state paper h.table.task bs b (state_refusal paper props vars bs)
   unfolding step_of
-  answer-is =
+  answer_is =
       ap (λ (v : Verdict). step_of paper v bs b) h.is
       ∙ ap₂ (λ (p n : ℕ). step_with_state paper h.table.task bs b (state_refusal paper p n bs)) (sym h.props_is) (sym h.vars_is)
 
   -- the state is refused
-  pub step-state-refused : {q : Refusal} → state_refusal paper props vars bs ≡ some q → step_of paper (reading paper (only written) t) bs b ≡ turns q
+  pub step_state_refused : {q : Refusal} → state_refusal paper props vars bs ≡ some q → step_of paper (reading paper (only written) t) bs b ≡ turns q
   unfolding step_with_state
-  step-state-refused e = answer-is ∙ ap (step_with_state paper h.table.task bs b) e
+  step_state_refused e = answer_is ∙ ap (step_with_state paper h.table.task bs b) e
 
   -- the state is accepted
   module _ (e : state_refusal paper props vars bs ≡ none) where
-    by-fault :
+    by_fault :
         {o : Option Fault}
         → fault_of paper h.table.task (state_of props bs) b ≡ o
         → step_of paper (reading paper (only written) t) bs b ≡ step_output o (state_bytes props vars (real (move_at h.table.task b) (state_of props bs)))
-    by-fault f =
+    by_fault f =
         let k = h.table.task in
-        answer-is
+        answer_is
         ∙ ap (step_with_state paper k bs b) e
         ∙ step_fault paper k bs b
         ∙ ap₂ (λ (p n : ℕ). step_output (fault_of paper k (state_of p bs) b) (state_bytes p n (real (move_at k b) (state_of p bs)))) (sym h.props_is) (sym h.vars_is)
         ∙ ap (λ (x : Option Fault). step_output x (state_bytes props vars (real (move_at k b) (state_of props bs)))) f
 
-    pub step-fails : {f : Fault} → fault_of paper h.table.task (state_of props bs) b ≡ some f → step_of paper (reading paper (only written) t) bs b ≡ turns (record { number = fault_number f; place = 0 })
+    pub step_fails : {f : Fault} → fault_of paper h.table.task (state_of props bs) b ≡ some f → step_of paper (reading paper (only written) t) bs b ≡ turns (record { number = fault_number f; place = 0 })
     unfolding step_output
-    step-fails f = by-fault f
+    step_fails f = by_fault f
 
-    pub step-missing : moves ≤ b → step_of paper (reading paper (only written) t) bs b ≡ turns (record { number = fault_number fault.Missing; place = 0 })
-    step-missing l = step-fails (missing h (state_of props bs) l)
+    pub step_missing : moves ≤ b → step_of paper (reading paper (only written) t) bs b ≡ turns (record { number = fault_number fault.Missing; place = 0 })
+    step_missing l = step_fails (missing h (state_of props bs) l)
 
-    pub step-made : {has : List Bool} {values : List ℤ} → AllMade props vars h.table.task (state_of props bs) (b ∷ []) has values → writes (state_bytes props vars (state_in has values)) ≡ step_of paper (reading paper (only written) t) bs b
+    pub step_made : {has : List Bool} {values : List ℤ} → AllMade props vars h.table.task (state_of props bs) (b ∷ []) has values → writes (state_bytes props vars (state_in has values)) ≡ step_of paper (reading paper (only written) t) bs b
     unfolding step_output
-    step-made m = ap writes (put_same (one_holds m)) ∙ sym (by-fault (one-made m))
+    step_made m = ap writes (put_same (one_holds m)) ∙ sym (by_fault (one_made m))
 
 -- ---- the call
 

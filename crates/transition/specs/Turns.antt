@@ -14,7 +14,7 @@ use Rattle.schedule.specs.declared.Fault.TheVariants as fault
 use Rattle.schedule.specs.Check.{block_fault, fault_of}
 use Rattle.table.specs.Outlines.{part_at, HeadRead}
 use Rattle.reader.specs.Parts.{PartIn, outline_part}
-use Rattle.block.specs.Parts.{move-left}
+use Rattle.block.specs.Parts.{move_left}
 use Rattle.real_move.specs.declared.Turn.{Turn}
 use Rattle.real_move.specs.declared.Turn.TheVariants as turn
 use Rattle.real_move.specs.Moving.{Twice, Chosen, Movable, turn_fault, Became, Moved}
@@ -47,9 +47,9 @@ module _ {t marks : List ℕ} {props vars moves : ℕ} (h : Read t marks props v
   unfolding paper
   few_vars = omega (arith, h.vars_is, h.outline.ok.vars)
 
-  pub few-moves : moves ≤ 64
+  pub few_moves : moves ≤ 64
   unfolding paper
-  few-moves = omega (arith, h.count, h.outline.ok.moves)
+  few_moves = omega (arith, h.count, h.outline.ok.moves)
 
   -- "missing"
   pub missing : (s : State) {b : ℕ} → moves ≤ b → fault_of paper h.table.task s b ≡ some fault.Missing
@@ -60,20 +60,20 @@ module _ {t marks : List ℕ} {props vars moves : ℕ} (h : Read t marks props v
   pub block_in : (b : ℕ) → b ≤ moves → PartIn t marks b
   block_in b l = outline_part h.outline b (omega (arith, h.count))
 
-  pub turn-chosen : (b : ℕ) → b < moves → {part : List ℕ} → part ≡ part_at t marks b → Chosen part props vars (move_at h.table.task b)
+  pub turn_chosen : (b : ℕ) → b < moves → {part : List ℕ} → part ≡ part_at t marks b → Chosen part props vars (move_at h.table.task b)
   unfolding move_at
-  turn-chosen b l f =
+  turn_chosen b l f =
       rw f
       (record {
-        left = rw (h.props_is, h.vars_is) (let i : b < length h.table.task.moves = omega (arith, h.count) in move-left h.outline.ok b i (h.outline.move b i));
+        left = rw (h.props_is, h.vars_is) (let i : b < length h.table.task.moves = omega (arith, h.count) in move_left h.outline.ok b i (h.outline.move b i));
         once = (move_ok h.outline.ok b (omega (arith, h.count))).once;
       })
 
 module _ {t marks : List ℕ} {props vars moves b : ℕ} {had : List Bool} {values : List ℤ} {has : List Bool} {next : List ℤ} where
   -- "missing"
-  pub turned-missing : moves ≤ b → {had' : List Bool} {values' : List ℤ} {has' : List Bool} {next' : List ℤ} → Turned t marks props vars moves b had values has next had' values' has' next' (turn.Fails fault.Missing)
+  pub turned_missing : moves ≤ b → {had' : List Bool} {values' : List ℤ} {has' : List Bool} {next' : List ℤ} → Turned t marks props vars moves b had values has next had' values' has' next' (turn.Fails fault.Missing)
   unfolding turn_fault fault_of
-  turned-missing l =
+  turned_missing l =
       record {
         is = λ h s w.
             record {
@@ -86,19 +86,19 @@ module _ {t marks : List ℕ} {props vars moves b : ℕ} {had : List Bool} {valu
       some_none f = let z : ◌≡◌ {A = ℕ} 0 1 = cc in omega arith
 
   module _ (l : b < moves) {part : List ℕ} (f : part ≡ part_at t marks b) where
-    pub turn-movable : Turnable t marks props vars moves had values has next → Movable part props vars had values has next
-    turn-movable m =
-        record { block = move_at m.read.table.task b; over = m.over; chosen = turn-chosen m.read b l f; holds = m.holds }
+    pub turn_movable : Turnable t marks props vars moves had values has next → Movable part props vars had values has next
+    turn_movable m =
+        record { block = move_at m.read.table.task b; over = m.over; chosen = turn_chosen m.read b l f; holds = m.holds }
 
-    pub turned-moved :
+    pub turned_moved :
         {had' : List Bool} {values' : List ℤ} {has' : List Bool} {next' : List ℤ} {r : Turn}
         → Moved part props vars had values has next had' values' has' next' r
         → Turned t marks props vars moves b had values has next had' values' has' next' r
     unfolding fault_of
-    turned-moved q =
+    turned_moved q =
         record {
           is = λ h s w.
-              let m = q.is (move_at h.table.task b) s (turn-chosen h b l f) w in
+              let m = q.is (move_at h.table.task b) s (turn_chosen h b l f) w in
               record { fault = m.fault ∙ known h s; after = m.after };
         }
       where

@@ -17,13 +17,13 @@ use Rattle.integer.specs.Linear.{back, back_small}
 use Rattle.model.specs.Task.{effect_on}
 use Rattle.model.specs.Layer.{reaches}
 use Rattle.block.specs.Items.{readable, next_ahead}
-use Rattle.block.specs.Blocks.{next_is, effectOn-other, layer_summable, layer-effect-value, effect_base}
+use Rattle.block.specs.Blocks.{next_is, effect_on_other, layer_summable, layer_effect_value, effect_base}
 use Rattle.block.specs.declared.ItemAt.{ItemAt}
 use Rattle.block.specs.declared.ItemAt.TheVariants.{Need, Add, Delete, Condition as ConditionAt, Effect as EffectAt, End}
 use Rattle.block.specs.contracts.ItemAt.{the_type}
 use Rattle.table.specs.Outlines.{part_at}
-use Rattle.model.specs.Theorems.Laws.Searching.{Searched, searched_start, searched-next}
-use Rattle.achievers.specs.Search.{Skipped, Achievable, fails, part_in, achieves_at, AchieverAt, achiever-none, achiever-start, achiever-skip, achiever-hit, achiever-miss, achiever-over}
+use Rattle.model.specs.Theorems.Laws.Searching.{Searched, searched_start, searched_next}
+use Rattle.achievers.specs.Search.{Skipped, Achievable, fails, part_in, achieves_at, AchieverAt, achiever_none, achiever_start, achiever_skip, achiever_hit, achiever_miss, achiever_over}
 use Rattle.achievers.proofs.find_achiever.Statement.{statement}
 use Rattle.achievers.proofs.find_achiever.Tie as tie
 
@@ -62,7 +62,7 @@ moves-less c = omega arith
 moves-again : tie.Need-moves-preserved invariant-loop decreases-loop invariant-moves decreases-moves
 moves-again c =
     let m = c.before.before.before.moves in
-    (omega arith, λ x. searched-next (m.invariant.1 x) c.before.before.if1.false (fails x.search _ c.before.before.if1.false (not-true _ c.if2.true)))
+    (omega arith, λ x. searched_next (m.invariant.1 x) c.before.before.if1.false (fails x.search _ c.before.before.if1.false (not-true _ c.if2.true)))
 
 part-requires : tie.Need-part-requires invariant-loop decreases-loop invariant-moves decreases-moves
 part-requires c κs = part_in c.before.before.before.before.before.before.before.requires.search c.before.before.if1.false
@@ -76,8 +76,8 @@ loop-holds c =
       lt,
       not-false _ e.if2.false,
       c.part.ensures.0,
-      (achiever-start x₀.search _ _ lt (e.before.before.before.moves.invariant.1 x₀) c.part.ensures.0).reading.left.bytes.within,
-      λ x. achiever-start x.search _ _ lt (e.before.before.before.moves.invariant.1 x) c.part.ensures.0,
+      (achiever_start x₀.search _ _ lt (e.before.before.before.moves.invariant.1 x₀) c.part.ensures.0).reading.left.bytes.within,
+      λ x. achiever_start x.search _ _ lt (e.before.before.before.moves.invariant.1 x) c.part.ensures.0,
     )
 
 next-requires : tie.Need-next-requires invariant-loop decreases-loop invariant-moves decreases-moves
@@ -121,8 +121,8 @@ moves-again-2 c =
           let d = i.5 x in
           let f = (next_is n.next.ensures m.item.given.1).found _ d.reading.rest d.reading.left in
           let z = m.item.given.0.1.1.0 in
-          let value = layer-effect-value x.search.over x.values f.is (rw (back_small z (omega (arith, effect_base f.is))) at w.layer-value.ensures) in
-          achiever-miss x.search _ _ i.1 d f g.if3.true value (λ u e. y.reaches.ensures u (back w.layer-value.result w.layer-value.type-inv ∙ e) ∙ ap (reaches u) (back y.before.demand.result y.before.demand.type-inv ∙ y.before.demand.ensures)) i.2 c.if4.false,
+          let value = layer_effect_value x.search.over x.values f.is (rw (back_small z (omega (arith, effect_base f.is))) at w.layer_value.ensures) in
+          achiever_miss x.search _ _ i.1 d f g.if3.true value (λ u e. y.reaches.ensures u (back w.layer_value.result w.layer_value.type-inv ∙ e) ∙ ap (reaches u) (back y.before.demand.result y.before.demand.type-inv ∙ y.before.demand.ensures)) i.2 c.if4.false,
     )
 
 behind-requires : tie.Need-behind-requires invariant-loop decreases-loop invariant-moves decreases-moves
@@ -152,7 +152,7 @@ skipped :
     → Skipped (effect_on c.before.before.before.before.before.before.before.before.before.before.before.before.args.v) c.before.before.before.before.part.result.now c.match.item
 skipped c =
     ⊎_elim
-    (λ w. rw w.4 (λ k s e u q r. effectOn-other _ e (λ p. w.3.left (sym q ∙ p))))
+    (λ w. rw w.4 (λ k s e u q r. effect_on_other _ e (λ p. w.3.left (sym q ∙ p))))
     (λ w. rw w.1 (no_effect _ _ c.before.next.result w.0.keys2))
     c.match.branch
 
@@ -166,7 +166,7 @@ loop-again c =
       i.2,
       i.3,
       omega (arith, next_ahead n.before.loop-test.true t, c.behind.ensures),
-      λ x. rw c.behind.ensures (achiever-skip x.search _ _ i.1 (i.5 x) n.before.loop-test.true t (skipped c.before)),
+      λ x. rw c.behind.ensures (achiever_skip x.search _ _ i.1 (i.5 x) n.before.loop-test.true t (skipped c.before)),
     )
 
 add-b-3 : tie.Need-overflow-add-b-3 invariant-loop decreases-loop invariant-moves decreases-moves
@@ -178,12 +178,12 @@ moves-less-3 c = omega arith
 moves-again-3 : tie.Need-moves-preserved-3 invariant-loop decreases-loop invariant-moves decreases-moves
 moves-again-3 c =
     let i = c.before.loop.invariant in
-    (omega arith, λ x. achiever-over x.search _ _ i.1 (i.5 x) i.2 c.loop-test.false)
+    (omega arith, λ x. achiever_over x.search _ _ i.1 (i.5 x) i.2 c.loop-test.false)
 
 returns : tie.Need-returns invariant-loop decreases-loop invariant-moves decreases-moves
 returns c x =
     let a = c.before.before.before.before.before in
-    rw (back a.args.target a.ranges.target.sfits) at (achiever-none x.search _ _ (c.before.moves.invariant.1 x) c.if1.true)
+    rw (back a.args.target a.ranges.target.sfits) at (achiever_none x.search _ _ (c.before.moves.invariant.1 x) c.if1.true)
 
 returns-2 : tie.Need-returns-2 invariant-loop decreases-loop invariant-moves decreases-moves
 returns-2 c x =
@@ -197,9 +197,9 @@ returns-2 c x =
     let d = i.5 x in
     let f = (next_is n.next.ensures m.item.given.1).found _ d.reading.rest d.reading.left in
     let z = m.item.given.0.1.1.0 in
-    let value = layer-effect-value x.search.over x.values f.is (rw (back_small z (omega (arith, effect_base f.is))) at w.layer-value.ensures) in
-    rw (back_small z (omega (arith, effect_base f.is)), back w.layer-value.result w.layer-value.type-inv)
-    (rw (back a.args.target a.ranges.target.sfits) at (achiever-hit x.search _ _ i.1 d f g.if3.true value (λ u e. y.reaches.ensures u (back w.layer-value.result w.layer-value.type-inv ∙ e) ∙ ap (reaches u) (back y.before.demand.result y.before.demand.type-inv ∙ y.before.demand.ensures)) i.3 i.2 c.if4.true))
+    let value = layer_effect_value x.search.over x.values f.is (rw (back_small z (omega (arith, effect_base f.is))) at w.layer_value.ensures) in
+    rw (back_small z (omega (arith, effect_base f.is)), back w.layer_value.result w.layer_value.type-inv)
+    (rw (back a.args.target a.ranges.target.sfits) at (achiever_hit x.search _ _ i.1 d f g.if3.true value (λ u e. y.reaches.ensures u (back w.layer_value.result w.layer_value.type-inv ∙ e) ∙ ap (reaches u) (back y.before.demand.result y.before.demand.type-inv ∙ y.before.demand.ensures)) i.3 i.2 c.if4.true))
 
 pub find-achiever-spec : {M : Type 1} → statement M
 find-achiever-spec =

@@ -18,8 +18,8 @@ use Rattle.block.specs.Blocks.{next_is, any_false}
 use Rattle.block.specs.declared.ItemAt.{ItemAt}
 use Rattle.block.specs.declared.ItemAt.TheVariants.{Need, Add, Delete, Condition as ConditionAt, Effect as EffectAt, End}
 use Rattle.block.specs.contracts.ItemAt.{the_type}
-use Rattle.model.specs.Theorems.Laws.Searching.{Searched, searched_start, searched-next}
-use Rattle.achievers.specs.Search.{Skipped, Searchable, fails, part_in, adds_at, AdderAt, adder-none, adder-start, adder-skip, adder-hit, adder-over}
+use Rattle.model.specs.Theorems.Laws.Searching.{Searched, searched_start, searched_next}
+use Rattle.achievers.specs.Search.{Skipped, Searchable, fails, part_in, adds_at, AdderAt, adder_none, adder_start, adder_skip, adder_hit, adder_over}
 use Rattle.achievers.proofs.find_adder.Statement.{statement}
 use Rattle.achievers.proofs.find_adder.Tie as tie
 
@@ -51,7 +51,7 @@ moves-less c = omega arith
 moves-again : tie.Need-moves-preserved invariant-loop decreases-loop invariant-moves decreases-moves
 moves-again c =
     let m = c.before.before.before.moves in
-    (omega arith, λ x. searched-next (m.invariant.1 x) c.before.before.if1.false (fails x _ c.before.before.if1.false (not-true _ c.if2.true)))
+    (omega arith, λ x. searched_next (m.invariant.1 x) c.before.before.if1.false (fails x _ c.before.before.if1.false (not-true _ c.if2.true)))
 
 part-requires : tie.Need-part-requires invariant-loop decreases-loop invariant-moves decreases-moves
 part-requires c κs = part_in c.before.before.before.before.before.before.before.requires c.before.before.if1.false
@@ -63,8 +63,8 @@ loop-holds c =
     let x₀ = e.before.before.before.before.before.before.before.requires in (
       lt,
       not-false _ e.if2.false,
-      (adder-start x₀ _ lt (e.before.before.before.moves.invariant.1 x₀) c.part.ensures.0).reading.left.bytes.within,
-      λ x. adder-start x _ lt (e.before.before.before.moves.invariant.1 x) c.part.ensures.0,
+      (adder_start x₀ _ lt (e.before.before.before.moves.invariant.1 x₀) c.part.ensures.0).reading.left.bytes.within,
+      λ x. adder_start x _ lt (e.before.before.before.moves.invariant.1 x) c.part.ensures.0,
     )
 
 next-requires : tie.Need-next-requires invariant-loop decreases-loop invariant-moves decreases-moves
@@ -113,7 +113,7 @@ loop-again c =
       i.0,
       i.1,
       omega (arith, next_ahead n.before.loop-test.true t, c.behind.ensures),
-      λ x. rw c.behind.ensures (adder-skip x _ i.0 (i.3 x) n.before.loop-test.true t (skipped c.before)),
+      λ x. rw c.behind.ensures (adder_skip x _ i.0 (i.3 x) n.before.loop-test.true t (skipped c.before)),
     )
 
 add-b-2 : tie.Need-overflow-add-b-2 invariant-loop decreases-loop invariant-moves decreases-moves
@@ -125,10 +125,10 @@ moves-less-2 c = omega arith
 moves-again-2 : tie.Need-moves-preserved-2 invariant-loop decreases-loop invariant-moves decreases-moves
 moves-again-2 c =
     let i = c.before.loop.invariant in
-    (omega arith, λ x. adder-over x _ i.0 (i.3 x) i.1 c.loop-test.false)
+    (omega arith, λ x. adder_over x _ i.0 (i.3 x) i.1 c.loop-test.false)
 
 returns : tie.Need-returns invariant-loop decreases-loop invariant-moves decreases-moves
-returns c x = adder-none x _ (c.before.moves.invariant.1 x) c.if1.true
+returns c x = adder_none x _ (c.before.moves.invariant.1 x) c.if1.true
 
 returns-2 : tie.Need-returns-2 invariant-loop decreases-loop invariant-moves decreases-moves
 returns-2 c x =
@@ -136,7 +136,7 @@ returns-2 c x =
     let n = m.before.before in
     let i = n.before.before.loop.invariant in
     let d = i.3 x in
-    adder-hit x _ i.0 d i.1 ((next_is n.next.ensures m.item.given.1).found _ d.reading.rest d.reading.left) c.if3.true
+    adder_hit x _ i.0 d i.1 ((next_is n.next.ensures m.item.given.1).found _ d.reading.rest d.reading.left) c.if3.true
 
 pub find-adder-spec : {M : Type 1} → statement M
 find-adder-spec =

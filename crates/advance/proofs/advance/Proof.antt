@@ -7,10 +7,10 @@ use borrow.Author.Rules.{rules}
 use Rattle.model.specs.Command.{head, open_move, open_goal, end_table, need_prop, add_prop, delete_prop, term, close_condition, close_effect, unknown, width}
 use Rattle.command.specs.Names.{form_of, command_is}
 use Rattle.cursor.specs.State.{Passed}
-use Rattle.cursor.specs.Passing.{need-range, add-range, delete-range, effect-range}
-use Rattle.advance.specs.Blocks.{mark_room, opened_most, advance-head, advance-move, advance-goal, advance-end, advance_unknown}
-use Rattle.advance.specs.Items.{advance-need, advance-add, advance-delete, advance-condition, advance-effect}
-use Rattle.advance.specs.Terms.{advance-term}
+use Rattle.cursor.specs.Passing.{need_range, add_range, delete_range, effect_range}
+use Rattle.advance.specs.Blocks.{mark_room, opened_most, advance_head, advance_move, advance_goal, advance_end, advance_unknown}
+use Rattle.advance.specs.Items.{advance_need, advance_add, advance_delete, advance_condition, advance_effect}
+use Rattle.advance.specs.Terms.{advance_term}
 use Rattle.advance.proofs.advance.Statement.{statement}
 use Rattle.advance.proofs.advance.Tie as tie
 
@@ -180,7 +180,7 @@ mul-needed : tie.Need-overflow-mul-needed
 mul-needed c = search rules
 
 element-write-needed : tie.Need-element-write-needed
-element-write-needed c = omega (arith, need-range c.before.before.before.before.args.table.now c.before.before.before.before.args.c (passed4 c.before).ranged, c.byte4.ensures.0, c.before.before.before.before.requires.0.props)
+element-write-needed c = omega (arith, need_range c.before.before.before.before.args.table.now c.before.before.before.before.args.c (passed4 c.before).ranged, c.byte4.ensures.0, c.before.before.before.before.requires.0.props)
 
 with-item-requires : tie.Need-with-item-requires
 with-item-requires c κs = search rules
@@ -198,7 +198,7 @@ mul-changed : tie.Need-overflow-mul-changed
 mul-changed c = search rules
 
 element-write-changed : tie.Need-element-write-changed
-element-write-changed c = omega (arith, add-range c.before.before.before.before.args.table.now c.before.before.before.before.args.c (passed5 c.before).ranged, c.byte5.ensures.0, c.before.before.before.before.requires.0.props)
+element-write-changed c = omega (arith, add_range c.before.before.before.before.args.table.now c.before.before.before.before.args.c (passed5 c.before).ranged, c.byte5.ensures.0, c.before.before.before.before.requires.0.props)
 
 with-item-requires-2 : tie.Need-with-item-requires-2
 with-item-requires-2 c κs = search rules
@@ -216,7 +216,7 @@ mul-changed-2 : tie.Need-overflow-mul-changed-2
 mul-changed-2 c = search rules
 
 element-write-changed-2 : tie.Need-element-write-changed-2
-element-write-changed-2 c = omega (arith, delete-range c.before.before.before.before.args.table.now c.before.before.before.before.args.c (passed6 c.before).ranged, c.byte6.ensures.0, c.before.before.before.before.requires.0.props)
+element-write-changed-2 c = omega (arith, delete_range c.before.before.before.before.args.table.now c.before.before.before.before.args.c (passed6 c.before).ranged, c.byte6.ensures.0, c.before.before.before.before.requires.0.props)
 
 with-item-requires-3 : tie.Need-with-item-requires-3
 with-item-requires-3 c κs = search rules
@@ -261,13 +261,13 @@ sub-draw : tie.Need-overflow-sub-draw
 sub-draw c = search rules
 
 draw-requires : tie.Need-draw-requires
-draw-requires c κs = (omega (arith, c.before.before.before.before.before.before.before.requires.0.behind, c.before.before.before.before.before.before.before.requires.0.inside), omega (arith, effect-range c.before.before.before.before.before.before.before.args.table.now c.before.before.before.before.before.before.before.args.c (passed9 c.before.before.before.before).ranged, c.before.before.byte9.ensures.0, c.before.before.before.before.before.before.before.requires.0.vars), c.before.before.before.before.before.before.before.requires.0.sources)
+draw-requires c κs = (omega (arith, c.before.before.before.before.before.before.before.requires.0.behind, c.before.before.before.before.before.before.before.requires.0.inside), omega (arith, effect_range c.before.before.before.before.before.before.before.args.table.now c.before.before.before.before.before.before.before.args.c (passed9 c.before.before.before.before).ranged, c.before.before.byte9.ensures.0, c.before.before.before.before.before.before.before.requires.0.vars), c.before.before.before.before.before.before.before.requires.0.sources)
 
 mul-affected : tie.Need-overflow-mul-affected
 mul-affected c = search rules
 
 element-write-affected : tie.Need-element-write-affected
-element-write-affected c = omega (arith, effect-range c.before.before.before.before.before.before.before.before.args.table.now c.before.before.before.before.before.before.before.before.args.c (passed9 c.before.before.before.before.before).ranged, c.before.before.before.byte9.ensures.0, c.before.before.before.before.before.before.before.before.requires.0.vars)
+element-write-affected c = omega (arith, effect_range c.before.before.before.before.before.before.before.before.args.table.now c.before.before.before.before.before.before.before.before.args.c (passed9 c.before.before.before.before.before).ranged, c.before.before.before.byte9.ensures.0, c.before.before.before.before.before.before.before.before.requires.0.vars)
 
 with-item-requires-5 : tie.Need-with-item-requires-5
 with-item-requires-5 c κs = search rules
@@ -277,43 +277,43 @@ enum-told-10 c = search rules
 
 returns : tie.Need-returns
 unfolding command_is
-returns c = rw c.before.before.before.before.before.command.given.1 (advance-head c.before.before.before.before.before.before.before.before.requires.0 _ _ _ _ (passed0 c.before.before.before.before) c.before.before.before.byte.ensures.0 c.before.before.byte2.ensures.0 c.before.byte3.ensures.0 c.with-head.ensures)
+returns c = rw c.before.before.before.before.before.command.given.1 (advance_head c.before.before.before.before.before.before.before.before.requires.0 _ _ _ _ (passed0 c.before.before.before.before) c.before.before.before.byte.ensures.0 c.before.before.byte2.ensures.0 c.before.byte3.ensures.0 c.with-head.ensures)
 
 returns-2 : tie.Need-returns-2
 unfolding command_is
-returns-2 c = rw c.before.before.enum_told.given.1 (advance-move c.before.before.before.before.before.requires.0 (passed1 c.before.before) c.with-mark.ensures)
+returns-2 c = rw c.before.before.enum_told.given.1 (advance_move c.before.before.before.before.before.requires.0 (passed1 c.before.before) c.with-mark.ensures)
 
 returns-3 : tie.Need-returns-3
 unfolding command_is
-returns-3 c = rw c.before.enum-told2.given.1 (advance-goal c.before.before.before.before.requires.0 (passed2 c.before) c.with-mark2.ensures)
+returns-3 c = rw c.before.enum-told2.given.1 (advance_goal c.before.before.before.before.requires.0 (passed2 c.before) c.with-mark2.ensures)
 
 returns-4 : tie.Need-returns-4
 unfolding command_is
-returns-4 c = rw c.before.enum-told3.given.1 (advance-end c.before.before.before.before.requires.0 (passed3 c.before) c.with-mark3.ensures)
+returns-4 c = rw c.before.enum-told3.given.1 (advance_end c.before.before.before.before.requires.0 (passed3 c.before) c.with-mark3.ensures)
 
 returns-5 : tie.Need-returns-5
 unfolding command_is width
-returns-5 c = rw c.before.before.enum-told4.given.1 (advance-need c.before.before.before.before.before.requires.0 _ (passed4 c.before.before) c.before.byte4.ensures.0 c.with_item.ensures)
+returns-5 c = rw c.before.before.enum-told4.given.1 (advance_need c.before.before.before.before.before.requires.0 _ (passed4 c.before.before) c.before.byte4.ensures.0 c.with_item.ensures)
 
 returns-6 : tie.Need-returns-6
 unfolding command_is width
-returns-6 c = rw c.before.before.enum-told5.given.1 (advance-add c.before.before.before.before.before.requires.0 _ (passed5 c.before.before) c.before.byte5.ensures.0 c.with-item2.ensures)
+returns-6 c = rw c.before.before.enum-told5.given.1 (advance_add c.before.before.before.before.before.requires.0 _ (passed5 c.before.before) c.before.byte5.ensures.0 c.with-item2.ensures)
 
 returns-7 : tie.Need-returns-7
 unfolding command_is width
-returns-7 c = rw c.before.before.enum-told6.given.1 (advance-delete c.before.before.before.before.before.requires.0 _ (passed6 c.before.before) c.before.byte6.ensures.0 c.with-item3.ensures)
+returns-7 c = rw c.before.before.enum-told6.given.1 (advance_delete c.before.before.before.before.before.requires.0 _ (passed6 c.before.before) c.before.byte6.ensures.0 c.with-item3.ensures)
 
 returns-8 : tie.Need-returns-8
 unfolding command_is
-returns-8 c = rw c.before.before.enum-told7.given.1 (advance-term c.before.before.before.before.before.requires.0 _ (passed7 c.before.before) c.before.byte7.ensures.0 c.with-term.ensures)
+returns-8 c = rw c.before.before.enum-told7.given.1 (advance_term c.before.before.before.before.before.requires.0 _ (passed7 c.before.before) c.before.byte7.ensures.0 c.with-term.ensures)
 
 returns-9 : tie.Need-returns-9
 unfolding command_is width
-returns-9 c = rw c.before.enum-told8.given.1 (advance-condition c.before.before.before.before.requires.0 (passed8 c.before) c.with-item4.ensures)
+returns-9 c = rw c.before.enum-told8.given.1 (advance_condition c.before.before.before.before.requires.0 (passed8 c.before) c.with-item4.ensures)
 
 returns-10 : tie.Need-returns-10
 unfolding command_is width
-returns-10 c = rw c.before.before.before.before.before.before.enum-told9.given.1 (advance-effect c.before.before.before.before.before.before.before.before.before.requires.0 _ _ (passed9 c.before.before.before.before.before.before) c.before.before.before.before.before.byte8.ensures.0 c.before.before.before.before.byte9.ensures.0 c.before.draw.ensures c.with-item5.ensures)
+returns-10 c = rw c.before.before.before.before.before.before.enum-told9.given.1 (advance_effect c.before.before.before.before.before.before.before.before.before.requires.0 _ _ (passed9 c.before.before.before.before.before.before) c.before.before.before.before.before.byte8.ensures.0 c.before.before.before.before.byte9.ensures.0 c.before.draw.ensures c.with-item5.ensures)
 
 returns-11 : tie.Need-returns-11
 unfolding command_is

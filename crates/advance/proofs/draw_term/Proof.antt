@@ -8,7 +8,7 @@ use lib.Dec.{eqb}
 use lib.IntN.{ℤ, nat_abs}
 use lib.ListN.{set}
 use Rattle.integer.specs.Linear.{back}
-use Rattle.advance.specs.Edges.{weightless, draw-weightless, draw-weight}
+use Rattle.advance.specs.Edges.{weightless, draw_weightless, draw_weight}
 use Rattle.advance.proofs.draw_term.Statement.{statement}
 use Rattle.advance.proofs.draw_term.Tie as tie
 
@@ -30,7 +30,7 @@ is-zero-requires : tie.Need-is-zero-requires
 is-zero-requires c κs = search rules
 
 returns : tie.Need-returns
-returns c = draw-weightless _ _ _ _ (is-weightless c.before ∙ c.if1.true)
+returns c = draw_weightless _ _ _ _ (is-weightless c.before ∙ c.if1.true)
 
 add-byte : tie.Need-overflow-add-byte
 add-byte c = search rules
@@ -51,7 +51,7 @@ returns-2 : tie.Need-returns-2
 returns-2 c =
     let s = c.before.before.before.before.before in
     ap (λ (x : ℕ). set s.args.edges.now (x * 32 + s.args.var) true) c.byte.ensures.0
-    ∙ draw-weight s.args.table.now s.args.at s.args.var s.args.edges.now (is-weightless c.before.before ∙ c.before.if1.false)
+    ∙ draw_weight s.args.table.now s.args.at s.args.var s.args.edges.now (is-weightless c.before.before ∙ c.before.if1.false)
 
 pub draw-term-spec : {M : Type 1} → statement M
 draw-term-spec =

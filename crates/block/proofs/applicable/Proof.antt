@@ -11,8 +11,8 @@ use Rattle.integer.specs.Linear.{back_small}
 use Rattle.model.specs.Lists.{all}
 use Rattle.model.specs.Move.{applicable}
 use Rattle.block.specs.Items.{Next, next_ahead}
-use Rattle.block.specs.Blocks.{Walk, walk_start, walk-next, walk-stop, walk_done}
-use Rattle.block.specs.Streams.{Addable, width_by, item_by, sum_item, sum_behind, Over, Asked, Judged, Verdict, judged-room}
+use Rattle.block.specs.Blocks.{Walk, walk_start, walk_next, walk_stop, walk_done}
+use Rattle.block.specs.Streams.{Addable, width_by, item_by, sum_item, sum_behind, Over, Asked, Judged, Verdict, judged_room}
 use Rattle.block.proofs.applicable.Statement.{statement}
 use Rattle.block.proofs.applicable.Tie as tie
 
@@ -66,22 +66,22 @@ verdict c = (rw (same c.before.before) at c.fails.ensures).is _ c.before.before.
 
 returns : tie.Need-returns invariant-loop decreases-loop
 unfolding applicable
-returns c = record { is = walk-stop (Over _ _) Asked c.before.before.before.before.before.loop.invariant (item-next c.before.before.before) ((verdict c.before).0 c.if1.true) }
+returns c = record { is = walk_stop (Over _ _) Asked c.before.before.before.before.before.loop.invariant (item-next c.before.before.before) ((verdict c.before).0 c.if1.true) }
 
 mul-from : tie.Need-overflow-mul-from invariant-loop decreases-loop
-mul-from c = omega (arith, judged-room (judged c.before.before.before))
+mul-from c = omega (arith, judged_room (judged c.before.before.before))
 
 add-from : tie.Need-overflow-add-from invariant-loop decreases-loop
-add-from c = omega (arith, judged-room (judged c.before.before.before))
+add-from c = omega (arith, judged_room (judged c.before.before.before))
 
 mul-width : tie.Need-overflow-mul-width invariant-loop decreases-loop
-mul-width c = omega (arith, judged-room (judged c.before.before.before))
+mul-width c = omega (arith, judged_room (judged c.before.before.before))
 
 add-width : tie.Need-overflow-add-width invariant-loop decreases-loop
-add-width c = omega (arith, judged-room (judged c.before.before.before))
+add-width c = omega (arith, judged_room (judged c.before.before.before))
 
 shared-slice-read-width : tie.Need-shared-slice-read-width invariant-loop decreases-loop
-shared-slice-read-width c = judged-room (judged c.before.before.before.before)
+shared-slice-read-width c = judged_room (judged c.before.before.before.before)
 
 width-requires : tie.Need-width-requires invariant-loop decreases-loop
 width-requires c κs = search rules
@@ -96,7 +96,7 @@ loop-again : tie.Need-loop-preserved invariant-loop decreases-loop
 loop-again c =
     let s = c.before.before.before.before.before in
     rw (c.width.ensures, sym (sum_behind (left_here s.before) s.sum-at.ensures))
-    (walk-next (Over _ _) Asked s.before.before.loop.invariant s.before.loop-test.true (item-next s) ((verdict c.before.before.before).1 c.before.before.if1.false))
+    (walk_next (Over _ _) Asked s.before.before.loop.invariant s.before.loop-test.true (item-next s) ((verdict c.before.before.before).1 c.before.before.if1.false))
 
 returns-2 : tie.Need-returns-2 invariant-loop decreases-loop
 unfolding applicable all

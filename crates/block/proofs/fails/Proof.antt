@@ -7,42 +7,42 @@ use borrow.Author.Rules.{rules}
 use lib.ListN.{get_or}
 use Rattle.integer.specs.Linear.{back}
 use Rattle.model.specs.Move.{compares}
-use Rattle.block.specs.Streams.{judged-room, need-within, need-room, condition-within, judge-need, judge-condition, judge-other}
+use Rattle.block.specs.Streams.{judged_room, need_within, need_room, condition_within, judge_need, judge_condition, judge_other}
 use Rattle.block.proofs.fails.Statement.{statement}
 use Rattle.block.proofs.fails.Tie as tie
 
 mul_at : tie.Need-overflow-mul-at
-mul_at c = omega (arith, judged-room c.before.before.requires)
+mul_at c = omega (arith, judged_room c.before.before.requires)
 
 add_at : tie.Need-overflow-add-at
-add_at c = omega (arith, judged-room c.before.before.requires)
+add_at c = omega (arith, judged_room c.before.before.requires)
 
 shared-slice-read-match : tie.Need-shared-slice-read-match
-shared-slice-read-match c = judged-room c.before.before.before.requires
+shared-slice-read-match c = judged_room c.before.before.before.requires
 
 add-index : tie.Need-overflow-add-index
-add-index c = omega (arith, need-within c.before.before.before.before.requires c.match.keys1)
+add-index c = omega (arith, need_within c.before.before.before.before.requires c.match.keys1)
 
 shared-slice-read-index : tie.Need-shared-slice-read-index
-shared-slice-read-index c = omega (arith, need-within c.before.before.before.before.before.requires c.before.match.keys1)
+shared-slice-read-index c = omega (arith, need_within c.before.before.before.before.before.requires c.before.match.keys1)
 
 index-requires : tie.Need-index-requires
 index-requires c κs = search rules
 
 shared-slice-read-result : tie.Need-shared-slice-read-result
-shared-slice-read-result c = rw c.before.index.ensures (need-room c.before.before.before.before.before.before.before.requires c.before.before.before.match.keys1)
+shared-slice-read-result c = rw c.before.index.ensures (need_room c.before.before.before.before.before.before.before.requires c.before.before.before.match.keys1)
 
 add-compare : tie.Need-overflow-add-compare
-add-compare c = omega (arith, condition-within c.before.before.before.before.requires c.match.keys2)
+add-compare c = omega (arith, condition_within c.before.before.before.before.requires c.match.keys2)
 
 shared-slice-read-compare : tie.Need-shared-slice-read-compare
-shared-slice-read-compare c = omega (arith, condition-within c.before.before.before.before.before.requires c.before.match.keys2)
+shared-slice-read-compare c = omega (arith, condition_within c.before.before.before.before.before.requires c.before.match.keys2)
 
 add-i32-at : tie.Need-overflow-add-i32-at
-add-i32-at c = omega (arith, condition-within c.before.before.before.before.before.requires c.before.match.keys2)
+add-i32-at c = omega (arith, condition_within c.before.before.before.before.before.requires c.before.match.keys2)
 
 i32-at-requires : tie.Need-i32-at-requires
-i32-at-requires c κs = omega (arith, condition-within c.before.before.before.before.before.requires c.before.match.keys2)
+i32-at-requires c κs = omega (arith, condition_within c.before.before.before.before.before.requires c.before.match.keys2)
 
 compare-requires : tie.Need-compare-requires
 compare-requires c κs = search rules
@@ -52,19 +52,19 @@ twice true = refl
 twice false = refl
 
 returns : tie.Need-returns
-returns c = judge-need c.before.before.before.match.keys1 (twice _ ∙ ap (λ (p : ℕ). get_or c.before.before.before.before.before.before.before.args.has.now p false) c.before.index.ensures)
+returns c = judge_need c.before.before.before.match.keys1 (twice _ ∙ ap (λ (p : ℕ). get_or c.before.before.before.before.before.before.before.args.has.now p false) c.before.index.ensures)
 
 returns-2 : tie.Need-returns-2
 returns-2 c =
     let a = c.before.before.before.before.before.before.before in
-    judge-condition c.before.before.before.match.keys2
+    judge_condition c.before.before.before.match.keys2
     (λ o e.
     twice _
     ∙ rw (back c.before.i32-at.result c.before.i32-at.type-inv, back a.args.total a.ranges.total.sfits) at (c.compare.ensures o e)
     ∙ ap (compares o a.args.total) c.before.i32-at.ensures.0)
 
 returns-3 : tie.Need-returns-3
-returns-3 c = judge-other c.match.rest.0.1 c.match.rest.1
+returns-3 c = judge_other c.match.rest.0.1 c.match.rest.1
 
 pub fails-spec : {M : Type 1} → statement M
 fails-spec =

@@ -6,7 +6,7 @@ use mathlib.Core.Path.{refl, ◌∙◌}
 use borrow.Author.Rules.{rules}
 use lib.ListN.{length}
 use Rattle.integer.specs.Linear.{back}
-use Rattle.block.specs.Closing.{found-need, found_add, found-delete, found-condition, found-effect, closed_room}
+use Rattle.block.specs.Closing.{found_need, found_add, found_delete, found_condition, found_effect, closed_room}
 use Rattle.block.proofs.item_at.Statement.{statement}
 use Rattle.block.proofs.item_at.Tie as tie
 
@@ -15,22 +15,22 @@ room : (c : tie.Start) → c.args.from + 4 * c.args.terms < length c.args.part.n
 room c = closed_room c.requires.closed
 
 room-need : (c : tie.At-match-keys1) → let a = c.before.before.before.args in a.from + 4 * a.terms + 2 ≤ length a.part.now
-room-need c = (found-need c.before.before.before.requires.closed _ c.match.keys1 refl).left.bytes.within
+room-need c = (found_need c.before.before.before.requires.closed _ c.match.keys1 refl).left.bytes.within
 
 room-add : (c : tie.At-match-keys2) → let a = c.before.before.before.args in a.from + 4 * a.terms + 2 ≤ length a.part.now
 room-add c = (found_add c.before.before.before.requires.closed _ c.match.keys2 refl).left.bytes.within
 
 room-delete : (c : tie.At-match-keys3) → let a = c.before.before.before.args in a.from + 4 * a.terms + 2 ≤ length a.part.now
-room-delete c = (found-delete c.before.before.before.requires.closed _ c.match.keys3 refl).left.bytes.within
+room-delete c = (found_delete c.before.before.before.requires.closed _ c.match.keys3 refl).left.bytes.within
 
 room-condition : (c : tie.At-match-keys4) → let a = c.before.before.before.args in a.from + 4 * a.terms + 6 ≤ length a.part.now
 room-condition c =
-    (found-condition c.before.before.before.requires.closed _ _ c.match.keys4 refl refl).followed.left.bytes.within
+    (found_condition c.before.before.before.requires.closed _ _ c.match.keys4 refl refl).followed.left.bytes.within
 
 room-effect : (c : tie.At-match-rest) → let a = c.before.before.before.args in a.from + 4 * a.terms + 7 ≤ length a.part.now
 room-effect c =
     let r = c.match.rest in
-    (found-effect c.before.before.before.requires.closed _ _ _ r.0.0.0.1 r.0.0.1 r.0.1 r.1 refl refl refl).followed.left.bytes.within
+    (found_effect c.before.before.before.requires.closed _ _ _ r.0.0.0.1 r.0.0.1 r.0.1 r.1 refl refl refl).followed.left.bytes.within
 
 mul_at : tie.Need-overflow-mul-at
 mul_at c = search rules
@@ -118,7 +118,7 @@ add-t40 c = search rules
 
 returns : tie.Need-returns
 returns c =
-    ((omega arith, room-need c.before.before), λ k rest d. found-need d _ c.before.before.match.keys1 c.index.ensures)
+    ((omega arith, room-need c.before.before), λ k rest d. found_need d _ c.before.before.match.keys1 c.index.ensures)
 
 returns-2 : tie.Need-returns-2
 returns-2 c =
@@ -126,12 +126,12 @@ returns-2 c =
 
 returns-3 : tie.Need-returns-3
 returns-3 c =
-    ((omega arith, room-delete c.before.before), λ k rest d. found-delete d _ c.before.before.match.keys3 c.index3.ensures)
+    ((omega arith, room-delete c.before.before), λ k rest d. found_delete d _ c.before.before.match.keys3 c.index3.ensures)
 
 returns-4 : tie.Need-returns-4
 returns-4 c = (
   (omega arith, room-condition c.before.before),
-  λ k rest d. found-condition d _ _ c.before.before.match.keys4 refl (back c.i32-at.result c.i32-at.type-inv ∙ c.i32-at.ensures.0),
+  λ k rest d. found_condition d _ _ c.before.before.match.keys4 refl (back c.i32-at.result c.i32-at.type-inv ∙ c.i32-at.ensures.0),
 )
 
 returns-5 : tie.Need-returns-5
@@ -139,7 +139,7 @@ returns-5 c =
     let r = c.before.before.before.before.match.rest in (
       (omega arith, room-effect c.before.before.before.before),
       λ k rest d.
-          found-effect d _ _ _ r.0.0.0.1 r.0.0.1 r.0.1 r.1 refl c.before.index4.ensures (back c.i32-at2.result c.i32-at2.type-inv ∙ c.i32-at2.ensures.0),
+          found_effect d _ _ _ r.0.0.0.1 r.0.0.1 r.0.1 r.1 refl c.before.index4.ensures (back c.i32-at2.result c.i32-at2.type-inv ∙ c.i32-at2.ensures.0),
     )
 
 pub item-at-spec : {M : Type 1} → statement M

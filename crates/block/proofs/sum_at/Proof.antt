@@ -6,7 +6,7 @@ use lib.ListN.{length}
 use mir.Syntax.{w64}
 use mir.Val.{to_z}
 use Rattle.integer.specs.Linear.{back}
-use Rattle.block.specs.Streams.{Summing, summing_start, summing-term, summing-room, summing-value, summing-more, summing-end}
+use Rattle.block.specs.Streams.{Summing, summing_start, summing_term, summing_room, summing_value, summing_more, summing_end}
 use Rattle.block.proofs.sum_at.Statement.{statement}
 use Rattle.block.proofs.sum_at.Tie as tie
 
@@ -35,10 +35,10 @@ add_at : tie.Need-overflow-add-at invariant-loop decreases-loop
 add_at c = omega (arith, c.before.before.loop.invariant.within)
 
 variable-requires : tie.Need-variable-requires invariant-loop decreases-loop
-variable-requires c κs = summing-term c.before.before.before.before.requires c.before.before.loop.invariant c.if1.true
+variable-requires c κs = summing_term c.before.before.before.before.requires c.before.before.loop.invariant c.if1.true
 
 shared-slice-copy-out-x : tie.Need-shared-slice-copy-out-x invariant-loop decreases-loop
-shared-slice-copy-out-x c = summing-room c.before.before.before.before.before.requires c.before.before.before.loop.invariant c.before.if1.true c.variable.ensures
+shared-slice-copy-out-x c = summing_room c.before.before.before.before.before.requires c.before.before.before.loop.invariant c.before.if1.true c.variable.ensures
 
 mul-x : tie.Need-overflow-mul-x invariant-loop decreases-loop
 mul-x c = omega (arith, shared-slice-copy-out-x c)
@@ -46,8 +46,8 @@ mul-x c = omega (arith, shared-slice-copy-out-x c)
 scaled-requires : tie.Need-scaled-requires invariant-loop decreases-loop
 scaled-requires c κs =
     rw (back _ c.x.given) (
-      summing-term c.before.before.before.before.before.before.requires c.before.before.before.before.loop.invariant c.before.before.if1.true,
-      summing-value c.before.before.before.before.before.before.requires c.before.before.before.before.loop.invariant c.before.before.if1.true c.before.variable.ensures,
+      summing_term c.before.before.before.before.before.before.requires c.before.before.before.before.loop.invariant c.before.before.if1.true,
+      summing_value c.before.before.before.before.before.before.requires c.before.before.before.before.loop.invariant c.before.before.if1.true c.before.variable.ensures,
     )
 
 add-requires : tie.Need-add-requires invariant-loop decreases-loop
@@ -61,7 +61,7 @@ add-n c = omega (arith, c.before.before.before.before.before.before.loop.invaria
 again : (c : tie.After-add invariant-loop decreases-loop) → let a = c.before.before.before.before.before.before.before.before.args in Summing a.part.now a.from a.values.now (c.before.before.before.before.before.before.loop.n + 1) c.add.result
 again c =
     let told = rw (back c.before.scaled.result c.before.scaled.type-inv) at c.add.ensures in
-    summing-more c.before.before.before.before.before.before.before.before.requires c.before.before.before.before.before.before.loop.invariant c.before.before.before.before.if1.true c.before.before.before.variable.ensures (rw (back _ c.before.before.x.given) at c.before.scaled.ensures) told.0 told.1
+    summing_more c.before.before.before.before.before.before.before.before.requires c.before.before.before.before.before.before.loop.invariant c.before.before.before.before.if1.true c.before.before.before.variable.ensures (rw (back _ c.before.before.x.given) at c.before.scaled.ensures) told.0 told.1
 
 loop-less : tie.Need-loop-smaller invariant-loop decreases-loop
 loop-less c = omega (arith, (again c).within)
@@ -70,7 +70,7 @@ loop-again : tie.Need-loop-preserved invariant-loop decreases-loop
 loop-again c = rw (back c.add.result c.add.type-inv) (again c)
 
 returns : tie.Need-returns invariant-loop decreases-loop
-returns c = summing-end c.before.before.before.before.requires c.before.before.loop.invariant c.if1.false
+returns c = summing_end c.before.before.before.before.requires c.before.before.loop.invariant c.if1.false
 
 pub sum-at-spec : {M : Type 1} → statement M
 sum-at-spec =

@@ -12,7 +12,7 @@ use Rattle.integer.specs.Linear.{back}
 use Rattle.model.specs.Task.{Term}
 use Rattle.model.specs.Layer.{Value}
 use Rattle.block.specs.Items.{Ranges, Terms}
-use Rattle.block.specs.Sums.{LayerRow, LayerAdding, few_terms, layer_start, layer-term, layer-room, layer_small, layer-stop, layer-step, layer_end, is_mark, encoded_unbounded}
+use Rattle.block.specs.Sums.{LayerRow, LayerAdding, few_terms, layer_start, layer_term, layer_room, layer_small, layer_stop, layer_step, layer_end, is_mark, encoded_unbounded}
 use Rattle.block.proofs.sum_layer.Statement.{statement}
 use Rattle.block.proofs.sum_layer.Tie as tie
 
@@ -44,11 +44,11 @@ add_at : tie.Need-overflow-add-at invariant-loop decreases-loop
 add_at c = omega (arith, (own c.before).terms.bytes.within)
 
 variable-requires : tie.Need-variable-requires invariant-loop decreases-loop
-variable-requires c κs = layer-term c.loop-test.true (own c.before)
+variable-requires c κs = layer_term c.loop-test.true (own c.before)
 
 shared-slice-copy-out-x : tie.Need-shared-slice-copy-out-x invariant-loop decreases-loop
 shared-slice-copy-out-x c =
-    layer-room c.before.loop-test.true (own c.before.before) c.before.before.before.before.requires.row c.variable.ensures
+    layer_room c.before.loop-test.true (own c.before.before) c.before.before.before.before.requires.row c.variable.ensures
 
 mul-x : tie.Need-overflow-mul-x invariant-loop decreases-loop
 mul-x c = omega (arith, shared-slice-copy-out-x c)
@@ -67,14 +67,14 @@ returns c =
       is =
           λ k ts f h r.
           encoded_unbounded 8000000000000000
-          (layer-stop i.loop-test.true (i.before.loop.invariant.3 k ts f h r) r c.before.before.before.variable.ensures (sym (mark c.before) ∙ c.if1.true));
+          (layer_stop i.loop-test.true (i.before.loop.invariant.3 k ts f h r) r c.before.before.before.variable.ensures (sym (mark c.before) ∙ c.if1.true));
     }
 
 scaled-requires : tie.Need-scaled-requires invariant-loop decreases-loop
 scaled-requires c κs =
     let i = c.before.before.before.before in
     rw (back _ c.before.before.x.given) (
-      layer-term i.loop-test.true (own i.before),
+      layer_term i.loop-test.true (own i.before),
       layer_small i.loop-test.true (own i.before) i.before.before.before.requires.row c.before.before.before.variable.ensures (sym (mark c.before) ∙ c.if1.false),
     )
 
@@ -100,7 +100,7 @@ loop-again c =
       rw (back c.add.result c.add.type-inv) (omega (arith, told.1, s.scaled.ensures.small)),
       λ k ts f h r.
           rw (back c.add.result c.add.type-inv, told.0)
-          (layer-step i.loop-test.true (i.before.loop.invariant.3 k ts f h r) r u.before.before.variable.ensures (sym (mark u) ∙ s.before.if1.false) more),
+          (layer_step i.loop-test.true (i.before.loop.invariant.3 k ts f h r) r u.before.before.variable.ensures (sym (mark u) ∙ s.before.if1.false) more),
     )
 
 returns-2 : tie.Need-returns-2 invariant-loop decreases-loop

@@ -10,7 +10,7 @@ use mir.Val.{to_z}
 use Rattle.integer.specs.Linear.{back}
 use Rattle.model.specs.Task.{Term}
 use Rattle.block.specs.Items.{Ranges, Terms}
-use Rattle.block.specs.Sums.{Row, Adding, few_terms, adding_start, adding-term, adding-room, adding-small, adding-step, adding_end}
+use Rattle.block.specs.Sums.{Row, Adding, few_terms, adding_start, adding_term, adding_room, adding_small, adding_step, adding_end}
 use Rattle.block.proofs.sum_real.Statement.{statement}
 use Rattle.block.proofs.sum_real.Tie as tie
 
@@ -42,11 +42,11 @@ add_at : tie.Need-overflow-add-at invariant-loop decreases-loop
 add_at c = omega (arith, (own c.before).terms.bytes.within)
 
 variable-requires : tie.Need-variable-requires invariant-loop decreases-loop
-variable-requires c κs = adding-term c.loop-test.true (own c.before)
+variable-requires c κs = adding_term c.loop-test.true (own c.before)
 
 shared-slice-copy-out-x : tie.Need-shared-slice-copy-out-x invariant-loop decreases-loop
 shared-slice-copy-out-x c =
-    adding-room c.before.loop-test.true (own c.before.before) c.before.before.before.before.requires.row c.variable.ensures
+    adding_room c.before.loop-test.true (own c.before.before) c.before.before.before.before.requires.row c.variable.ensures
 
 mul-x : tie.Need-overflow-mul-x invariant-loop decreases-loop
 mul-x c = omega (arith, shared-slice-copy-out-x c)
@@ -55,8 +55,8 @@ scaled-requires : tie.Need-scaled-requires invariant-loop decreases-loop
 scaled-requires c κs =
     let i = c.before.before in
     rw (back _ c.x.given) (
-      adding-term i.loop-test.true (own i.before),
-      adding-small i.loop-test.true (own i.before) i.before.before.before.requires.row c.before.variable.ensures,
+      adding_term i.loop-test.true (own i.before),
+      adding_small i.loop-test.true (own i.before) i.before.before.before.requires.row c.before.variable.ensures,
     )
 
 add-requires : tie.Need-add-requires invariant-loop decreases-loop
@@ -80,7 +80,7 @@ loop-again c =
       rw (back c.add.result c.add.type-inv) (omega (arith, told.1, s.scaled.ensures.small)),
       λ k ts f h r.
           rw (back c.add.result c.add.type-inv, told.0)
-          (adding-step i.loop-test.true (i.before.loop.invariant.3 k ts f h r) r s.before.before.variable.ensures more),
+          (adding_step i.loop-test.true (i.before.loop.invariant.3 k ts f h r) r s.before.before.variable.ensures more),
     )
 
 returns : tie.Need-returns invariant-loop decreases-loop

@@ -18,8 +18,8 @@ use Rattle.model.specs.Layer.{Layer, holds_in}
 use Rattle.model.specs.Theorems.Printing.Items.{item_operands, closing}
 use Rattle.model.specs.Theorems.Blocking.Parts.{unmet_size}
 use Rattle.block.specs.Items.{Ranges, Left, readable, next_ahead}
-use Rattle.block.specs.Blocks.{Walk, Passing, walk_start, walk-found, walk-next, next_is, LayerState, condition_bound, layer_summable, layer-condition-test}
-use Rattle.block.specs.Unmet.{unmet-met, unmet-here, unmet-end}
+use Rattle.block.specs.Blocks.{Walk, Passing, walk_start, walk_found, walk_next, next_is, LayerState, condition_bound, layer_summable, layer_condition_test}
+use Rattle.block.specs.Unmet.{unmet_met, unmet_here, unmet_end}
 use Rattle.block.specs.declared.ItemAt.{ItemAt}
 use Rattle.block.proofs.Passed.{no_condition, before_end}
 use Rattle.block.proofs.unmet.Statement.{statement}
@@ -51,7 +51,7 @@ shared-slice-read-if1 c =
     let m = c.before.before in
     let n = m.before.before in
     let p = n.before.before.before.before.requires in
-    omega (arith, p.row.long, (walk-found (Over _ _) unmet_size n.before.loop.invariant p.ranges p.block p.over p.left p.row (next_is n.next.ensures m.item.given.1)).ok)
+    omega (arith, p.row.long, (walk_found (Over _ _) unmet_size n.before.loop.invariant p.ranges p.block p.over p.left p.row (next_is n.next.ensures m.item.given.1)).ok)
 
 -- the proposition that the layer lacks
 lacked :
@@ -65,8 +65,8 @@ unfolding closing item_operands holds_in
 lacked c k b l left state =
     let m = c.before.before.before in
     let n = m.before.before in
-    let f = walk-found (Over _ _) unmet_size n.before.loop.invariant k b l left state (next_is n.next.ensures m.item.given.1) in
-    unmet-here l b (n.before.loop.invariant.reading k b l left state) f (sym (state.has _ f.ok) ∙ not-true _ c.if1.true)
+    let f = walk_found (Over _ _) unmet_size n.before.loop.invariant k b l left state (next_is n.next.ensures m.item.given.1) in
+    unmet_here l b (n.before.loop.invariant.reading k b l left state) f (sym (state.has _ f.ok) ∙ not-true _ c.if1.true)
 
 sub-result : tie.Need-overflow-sub-result invariant-loop decreases-loop
 sub-result c =
@@ -85,7 +85,7 @@ condition-reached-requires c κs =
     let n = m.before.before in
     let p = n.before.before.before.before.requires in
     layer_summable
-    (walk-found (Over _ _) unmet_size n.before.loop.invariant p.ranges p.block p.over p.left p.row (next_is n.next.ensures m.item2.given.1)).is.terms
+    (walk_found (Over _ _) unmet_size n.before.loop.invariant p.ranges p.block p.over p.left p.row (next_is n.next.ensures m.item2.given.1)).is.terms
     p.row.row
 
 -- the condition that is not met
@@ -100,9 +100,9 @@ unfolding closing item_operands
 missed c k b l left state =
     let m = c.before.before.before in
     let n = m.before.before in
-    let f = walk-found (Over _ _) unmet_size n.before.loop.invariant k b l left state (next_is n.next.ensures m.item2.given.1) in
-    let h = unmet-here l b (n.before.loop.invariant.reading k b l left state) f.followed
-    (layer-condition-test l state.row f.is (rw (back_small m.item2.given.0.1.0 (omega (arith, condition_bound f.is))) at c.before.condition-reached.ensures)
+    let f = walk_found (Over _ _) unmet_size n.before.loop.invariant k b l left state (next_is n.next.ensures m.item2.given.1) in
+    let h = unmet_here l b (n.before.loop.invariant.reading k b l left state) f.followed
+    (layer_condition_test l state.row f.is (rw (back_small m.item2.given.0.1.0 (omega (arith, condition_bound f.is))) at c.before.condition-reached.ensures)
     ∙ not-true c.before.condition-reached.result c.if2.true) in
     let long = length_signed_bytes 4 f.it.bound in
     (omega (arith, h.0, long), omega (arith, h.1, long))
@@ -139,17 +139,17 @@ unfolding holds_in
 passes c =
     let start = c.before.before.before.before.before in
     ⊎_elim
-    (λ w. subst (Passes start) (sym w.5) (λ k s v h. unmet-met s (need _) (sym (v.has _ h) ∙ not-false _ w.4.left)))
+    (λ w. subst (Passes start) (sym w.5) (λ k s v h. unmet_met s (need _) (sym (v.has _ h) ∙ not-false _ w.4.left)))
     (⊎_elim
     (λ w.
     subst (Passes start) (sym w.5)
     (λ k s q v h.
-    unmet-met s (condition q)
-    (layer-condition-test s v.row h (rw (back_small w.1.given.0.1.0 (omega (arith, condition_bound h))) at w.3.ensures)
+    unmet_met s (condition q)
+    (layer_condition_test s v.row h (rw (back_small w.1.given.0.1.0 (omega (arith, condition_bound h))) at w.3.ensures)
     ∙ not-false w.3.result w.4.left)))
     (λ w.
     subst (Passes start) (sym w.1)
-    (no_condition start.args.part.now (Over _ _) unmet_size (λ s p. unmet-met s (add p) refl) (λ s p. unmet-met s (delete p) refl) (λ s e. unmet-met s (effect e) refl)
+    (no_condition start.args.part.now (Over _ _) unmet_size (λ s p. unmet_met s (add p) refl) (λ s p. unmet_met s (delete p) refl) (λ s e. unmet_met s (effect e) refl)
     c.before.next.result w.0.keys4)))
     c.match.branch
 
@@ -163,7 +163,7 @@ loop-again : tie.Need-loop-preserved invariant-loop decreases-loop
 loop-again c =
     let n = c.before.before in
     subst (Walk _ (Over _ _) unmet_size) (sym c.behind.ensures)
-    (walk-next (Over _ _) unmet_size n.before.loop.invariant (inside c.before) (next_is n.next.ensures (same c.before)) (passes c.before))
+    (walk_next (Over _ _) unmet_size n.before.loop.invariant (inside c.before) (next_is n.next.ensures (same c.before)) (passes c.before))
 
 enum_told : tie.Need-enum-told invariant-loop decreases-loop
 enum_told c = search rules
@@ -174,8 +174,8 @@ returns-3 c =
     record {
       is =
           λ k b l left state.
-          unmet-end l b (n.before.loop.invariant.reading k b l left state)
-          (walk-found (Over _ _) unmet_size n.before.loop.invariant k b l left state (next_is n.next.ensures c.enum_told.given.1));
+          unmet_end l b (n.before.loop.invariant.reading k b l left state)
+          (walk_found (Over _ _) unmet_size n.before.loop.invariant k b l left state (next_is n.next.ensures c.enum_told.given.1));
     }
 
 pub unmet-spec : {M : Type 1} → statement M

@@ -3,7 +3,7 @@ use mathlib.Core.Path.{subst}
 use borrow.Author.Rules.{rules}
 use Rattle.layers.specs.Building.{IsBuilt}
 use Rattle.layers.specs.Preparing.{ReadyIn, IsPrepared, ready_buildable}
-use Rattle.blocking.specs.Answer.{blocked_reasoned, blocked_refused, blocked-reached, blocked-stopped, last-searchable, blocked-exhausted}
+use Rattle.blocking.specs.Answer.{blocked_reasoned, blocked_refused, blocked_reached, blocked_stopped, last_searchable, blocked_exhausted}
 use Rattle.blocking.proofs.blocking.Statement.{statement}
 use Rattle.blocking.proofs.blocking.Tie as tie
 
@@ -40,7 +40,7 @@ part-offset-requires c κs =
     let a = m.before.before.before.before.before.before.args in
     let r = accepted-both m in
     let b = subst (IsBuilt r.task _ a.layers.now _) c.before.before.before.last.given.1 (c.before.before.before.before.before.before.build.ensures.is r.task r.outlined r.counts) in
-    last-searchable r b
+    last_searchable r b
 
 enum-known-number : tie.Need-enum-known-number
 enum-known-number c = search rules
@@ -61,7 +61,7 @@ returns-2 c =
     let a = m.before.before.before.before.before.before.args in
     let r = accepted-both m in
     let b = subst (IsBuilt r.task _ a.layers.now _) c.enum_told.given.1 (c.before.before.before.build.ensures.is r.task r.outlined r.counts) in
-    let d = blocked-reached a.table.now a.state.now a.layers.now _ r.is b in
+    let d = blocked_reached a.table.now a.state.now a.layers.now _ r.is b in
     (d.answers, d.leaves, blocked_reasoned d)
 
 same-length-2 : tie.Need-same-length-2
@@ -73,7 +73,7 @@ returns-3 c =
     let a = m.before.before.before.before.before.before.args in
     let r = accepted-both m in
     let b = subst (IsBuilt r.task _ a.layers.now _) c.before.before.before.before.last.given.1 (c.before.before.before.before.before.before.before.build.ensures.is r.task r.outlined r.counts) in
-    let d = blocked-exhausted r b c.part-offset.ensures in
+    let d = blocked_exhausted r b c.part-offset.ensures in
     (d.answers, d.leaves, blocked_reasoned d)
 
 same-length-3 : tie.Need-same-length-3
@@ -85,7 +85,7 @@ returns-4 c =
     let a = m.before.before.before.before.before.before.args in
     let r = accepted-both m in
     let b = subst (IsBuilt r.task _ a.layers.now _) c.before.number.given.1 (c.before.before.before.before.build.ensures.is r.task r.outlined r.counts) in
-    let d = blocked-stopped a.table.now a.state.now a.layers.now _ r.is b in
+    let d = blocked_stopped a.table.now a.state.now a.layers.now _ r.is b in
     (d.answers, d.leaves, blocked_reasoned d)
 
 pub blocking-spec : {M : Type 1} → statement M

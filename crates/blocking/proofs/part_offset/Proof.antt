@@ -2,33 +2,33 @@
 use native.Mathlib.Omega.{arith}
 use mathlib.Core.Path.{refl}
 use borrow.Author.Rules.{rules}
-use Rattle.stored_layer.specs.Stored.{stored-props, stored-vars, stored-entries, stored-room}
-use Rattle.layers.specs.Goal.{goal-part, goal-testable}
-use Rattle.blocking.specs.Unmet.{goal-read, part-inside, is_part}
+use Rattle.stored_layer.specs.Stored.{stored_props, stored_vars, stored_entries, stored_room}
+use Rattle.layers.specs.Goal.{goal_part, goal_testable}
+use Rattle.blocking.specs.Unmet.{goal_read, part_inside, is_part}
 use Rattle.blocking.proofs.part_offset.Statement.{statement}
 use Rattle.blocking.proofs.part_offset.Tie as tie
 
 read-entries-requires : tie.Need-read-entries-requires
 read-entries-requires c κs =
     let x = c.before.before.requires.memory in
-    (omega (arith, stored-entries x), stored-props x, omega (arith, x.bounded), refl)
+    (omega (arith, stored_entries x), stored_props x, omega (arith, x.bounded), refl)
 
 add-read-row : tie.Need-overflow-add-read-row
 add-read-row c = search rules
 
 mul-read-row : tie.Need-overflow-mul-read-row
-mul-read-row c = omega (arith, stored-room c.before.before.before.requires.memory {t = c.before.before.before.args.t} (omega arith))
+mul-read-row c = omega (arith, stored_room c.before.before.before.requires.memory {t = c.before.before.before.args.t} (omega arith))
 
 add-read-row-2 : tie.Need-overflow-add-read-row-2
-add-read-row-2 c = omega (arith, stored-room c.before.before.before.requires.memory {t = c.before.before.before.args.t} (omega arith))
+add-read-row-2 c = omega (arith, stored_room c.before.before.before.requires.memory {t = c.before.before.before.args.t} (omega arith))
 
 read-row-requires : tie.Need-read-row-requires
-read-row-requires c κs = let x = c.before.before.before.before.requires.memory in (stored-room x (omega arith), stored-vars x, refl)
+read-row-requires c κs = let x = c.before.before.before.before.requires.memory in (stored_room x (omega arith), stored_vars x, refl)
 
 part-requires : tie.Need-part-requires
 part-requires c κs =
     let p = c.before.before.before.before.before.before.requires in
-    goal-part (goal-read p.outlined p.memory c.before.before.before.read-entries.ensures c.before.read-row.ensures)
+    goal_part (goal_read p.outlined p.memory c.before.before.before.read-entries.ensures c.before.read-row.ensures)
 
 mul-offset : tie.Need-overflow-mul-offset
 mul-offset c = search rules
@@ -46,13 +46,13 @@ unmet-requires : tie.Need-unmet-requires
 unmet-requires c κs =
     let a = c.before.before.before in
     let p = a.before.before.before.before.before.before.before.requires in
-    goal-testable (goal-read p.outlined p.memory a.before.before.before.before.read-entries.ensures a.before.before.read-row.ensures) a.part.ensures.0
+    goal_testable (goal_read p.outlined p.memory a.before.before.before.before.read-entries.ensures a.before.before.read-row.ensures) a.part.ensures.0
 
 add-offset : tie.Need-overflow-add-offset
 add-offset c =
     let a = c.before.before.before.before in
     let p = a.before.before.before.before.before.before.before.requires in
-    omega (arith, part-inside p.outlined p.memory a.before.before.before.before.read-entries.ensures a.before.before.read-row.ensures a.part.ensures.0 c.unmet.ensures)
+    omega (arith, part_inside p.outlined p.memory a.before.before.before.before.read-entries.ensures a.before.before.read-row.ensures a.part.ensures.0 c.unmet.ensures)
 
 returns : tie.Need-returns
 returns c =

@@ -1,6 +1,6 @@
 -- `decided_and_planned` meets its contract. Assumes nothing.
 use mathlib.Core.Path.{◌∙◌}
-use Rattle.campaign.specs.Campaign.{plan_after, memory-after, out-after}
+use Rattle.campaign.specs.Campaign.{plan_after, memory_after, out_after}
 use borrow.Author.Rules.{rules}
 use Rattle.campaign.proofs.decided_and_planned.Statement.{statement}
 use Rattle.campaign.proofs.decided_and_planned.Tie as tie
@@ -21,8 +21,8 @@ returns : tie.Need-returns
 returns c = (
   c.before.before.before.before.before.before.before.decide.ensures.0,
   c.before.before.before.plan.ensures.0 ∙ plan_after _ _ _ _ _ c.before.before.before.before.before.before.before.decide.ensures.1,
-  c.before.before.before.plan.ensures.1 ∙ memory-after _ _ _ _ c.before.before.before.before.before.before.before.before.before.before.before.before.args.out.now c.before.before.before.before.before.before.before.decide.ensures.1,
-  c.before.before.before.plan.ensures.2 ∙ out-after _ _ _ _ _ c.before.before.before.before.before.before.before.decide.ensures.1,
+  c.before.before.before.plan.ensures.1 ∙ memory_after _ _ _ _ c.before.before.before.before.before.before.before.before.before.before.before.before.args.out.now c.before.before.before.before.before.before.before.decide.ensures.1,
+  c.before.before.before.plan.ensures.2 ∙ out_after _ _ _ _ _ c.before.before.before.before.before.before.before.decide.ensures.1,
 )
 
 pub decided-and-planned-spec : {M : Type 1} → statement M

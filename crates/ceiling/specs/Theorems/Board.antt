@@ -23,12 +23,12 @@ use Rattle.model.specs.Calls.{Output, writes, turns, on_output, Ready, ready, de
 use Rattle.ceiling.specs.Ceiling.{rig, first_of, normalised_under, prepared_under, decide_answer_under, plan_answer_under, campaign_decision_under, campaign_plan_under}
 use Rattle.model.specs.Theorems.Reading.WellFormed.{TaskOk}
 use Rattle.model.specs.Theorems.Laws.Booleans.{T-cases, clash}
-use Rattle.model.specs.Theorems.Printing.Outputs.{plan-whole, plan-cases}
-use Rattle.model.specs.Theorems.Layers.Answer.{reported-bound}
-use Rattle.model.specs.Theorems.Layers.Building.{built-outcome}
-use Rattle.model.specs.Theorems.Plans.Records.{records-length, length_record_bytes}
+use Rattle.model.specs.Theorems.Printing.Outputs.{plan_whole, plan_cases}
+use Rattle.model.specs.Theorems.Layers.Answer.{reported_bound}
+use Rattle.model.specs.Theorems.Layers.Building.{built_outcome}
+use Rattle.model.specs.Theorems.Plans.Records.{records_length, length_record_bytes}
 use Rattle.model.specs.Theorems.Campaigns.Demand3.{decide_layers, plan_layers}
-use Rattle.ceiling.specs.Theorems.Fitting.{last_fitting, first_unfitting, StoppedShort, stopped-short, answered-fits, prepared_under_cases}
+use Rattle.ceiling.specs.Theorems.Fitting.{last_fitting, first_unfitting, StoppedShort, stopped_short, answered_fits, prepared_under_cases}
 
 -- reported layers, where there are any, within so many
 abbrev pub LayersAtMost : ℕ → Option ℕ → Type 0
@@ -45,90 +45,90 @@ pub record Late (k : Task) (m : ℕ) : Type 0 where
 
 module _ {k : Task} (ok : TaskOk paper normal k) (moves : length k.moves ≤ 16) (vars : k.vars ≤ 16) where
   -- "P + A + N × (L + 1)" at its largest, 120 + 16 + 16 × 119
-  pub holds-118 : (l : ℕ) → l ≤ 118 → room k l ≤ 2048
+  pub holds_118 : (l : ℕ) → l ≤ 118 → room k l ≤ 2048
   unfolding room paper
-  holds-118 l h =
+  holds_118 l h =
       let rows : k.vars * (l + 1) ≤ 16 * (l + 1) = mul-le-mul_right (l + 1) vars in
       omega (arith, ok.props)
 
   -- with at most four written variables there are at most (16 + 8 + 1) × (8 + 1) layers
-  few-layers : k.vars ≤ 8 → bound (length k.moves) k.vars ≤ 225
+  few_layers : k.vars ≤ 8 → bound (length k.moves) k.vars ≤ 225
   unfolding bound
-  few-layers few =
+  few_layers few =
       let wide : length k.moves + k.vars + 1 ≤ 25 = omega arith in
       let rows : k.vars + 1 ≤ 9 = omega arith in
       mul-le-mul wide rows
 
   -- and all of them fit
-  few-fit : k.vars ≤ 8 → (l : ℕ) → l ≤ 225 → room k l ≤ 2048
+  few_fit : k.vars ≤ 8 → (l : ℕ) → l ≤ 225 → room k l ≤ 2048
   unfolding room paper
-  few-fit few l h =
+  few_fit few l h =
       let last : l + 1 ≤ 226 = omega arith in
       let rows : k.vars * (l + 1) ≤ 8 * 226 = mul-le-mul few last in
       omega (arith, ok.props)
 
   -- a layer that fits is among the first 226: N is even, and 10 × 204 is 2,040
-  fits-few : (l : ℕ) → l ≤ bound (length k.moves) k.vars → room k l ≤ 2048 → l ≤ 225
+  fits_few : (l : ℕ) → l ≤ bound (length k.moves) k.vars → room k l ≤ 2048 → l ≤ 225
   unfolding room
-  fits-few l within fits =
+  fits_few l within fits =
       T-cases (ltb 8 k.vars)
       (λ many.
       let more : 8 < k.vars = ltb→lt 8 k.vars many in
       let ten : 10 ≤ k.vars = omega (arith, ok.vars.1) in
       let rows : 10 * (l + 1) ≤ k.vars * (l + 1) = mul-le-mul_right (l + 1) ten in
       omega arith)
-      (λ few. omega (arith, few-layers (nltb→le 8 k.vars (not_T (ltb 8 k.vars) few))))
+      (λ few. omega (arith, few_layers (nltb→le 8 k.vars (not_T (ltb 8 k.vars) few))))
 
   -- ---- how building ends in at most 2,048 numbers
 
   module _ (s : State) (size : ℕ) (most : size ≤ 2048) where
-    built-few : (o : Outcome) → build paper k s size ≡ answered o → reported o ≤ 225
-    built-few o e =
-        let fits : room k (reported (outcome k s)) ≤ size = answered-fits paper k s size o e in
-        rw (built-outcome paper k s size o e) (fits-few (reported (outcome k s)) (reported-bound ok s) (omega arith))
+    built_few : (o : Outcome) → build paper k s size ≡ answered o → reported o ≤ 225
+    built_few o e =
+        let fits : room k (reported (outcome k s)) ≤ size = answered_fits paper k s size o e in
+        rw (built_outcome paper k s size o e) (fits_few (reported (outcome k s)) (reported_bound ok s) (omega arith))
 
     -- 10 bytes a record, at most 16 records a layer
-    records-fit : (b : Built) → build paper k s size ≡ b → length (record_bytes (plan_records k s b)) ≤ 36_000
+    records_fit : (b : Built) → build paper k s size ≡ b → length (record_bytes (plan_records k s b)) ≤ 36_000
     unfolding plan_records record_bytes reported
-    records-fit (answered (reached m)) e =
-        let few : m ≤ 225 = built-few (reached m) e in
+    records_fit (answered (reached m)) e =
+        let few : m ≤ 225 = built_few (reached m) e in
         let all : length k.moves * m ≤ 16 * 225 = mul-le-mul moves few in
-        omega (arith, length_record_bytes (records k s m), records-length k s m)
-    records-fit (answered (exhausted m)) e = omega arith
-    records-fit (stopped n m) e = omega arith
+        omega (arith, length_record_bytes (records k s m), records_length k s m)
+    records_fit (answered (exhausted m)) e = omega arith
+    records_fit (stopped n m) e = omega arith
 
-    decided-few : (b : Built) → build paper k s size ≡ b → LayersAtMost 225 (decide_layers (decided b))
+    decided_few : (b : Built) → build paper k s size ≡ b → LayersAtMost 225 (decide_layers (decided b))
     unfolding decided decide_layers reported
-    decided-few (answered (reached m)) e = built-few (reached m) e
-    decided-few (answered (exhausted m)) e = built-few (exhausted m) e
-    decided-few (stopped n m) e = tt
+    decided_few (answered (reached m)) e = built_few (reached m) e
+    decided_few (answered (exhausted m)) e = built_few (exhausted m) e
+    decided_few (stopped n m) e = tt
 
-    planned-few : (b : Built) → build paper k s size ≡ b → LayersAtMost 225 (plan_layers (planned k s b))
+    planned_few : (b : Built) → build paper k s size ≡ b → LayersAtMost 225 (plan_layers (planned k s b))
     unfolding planned plan_layers reported
-    planned-few (answered (reached m)) e = built-few (reached m) e
-    planned-few (answered (exhausted m)) e = built-few (exhausted m) e
-    planned-few (stopped n m) e = tt
+    planned_few (answered (reached m)) e = built_few (reached m) e
+    planned_few (answered (exhausted m)) e = built_few (exhausted m) e
+    planned_few (stopped n m) e = tt
 
-    stopped-late : (m : ℕ) → size ≡ 2048 → build paper k s size ≡ stopped 14 m → Late k m
+    stopped_late : (m : ℕ) → size ≡ 2048 → build paper k s size ≡ stopped 14 m → Late k m
     unfolding room paper
-    stopped-late m whole e =
+    stopped_late m whole e =
         record {
           exactly =
               first_unfitting 2048 k.props (length k.moves) k.vars m (omega (arith, many)) (omega (arith, ok.props))
               (omega (arith, stop.short)) (λ u h. omega (arith, stop.before u h));
-          late = T-cases (ltb 118 m) (λ past. ltb→lt 118 m past) (λ held. absurd (omega (arith, stop.short, holds-118 m (nltb→le 118 m (not_T (ltb 118 m) held)))));
+          late = T-cases (ltb 118 m) (λ past. ltb→lt 118 m past) (λ held. absurd (omega (arith, stop.short, holds_118 m (nltb→le 118 m (not_T (ltb 118 m) held)))));
           many = many;
         }
       where
         stop : StoppedShort paper k s size m
-        stop = stopped-short paper k s size m e
+        stop = stopped_short paper k s size m e
 
         many : 8 < k.vars
         many =
             T-cases (ltb 8 k.vars) (λ more. ltb→lt 8 k.vars more)
             (λ less.
             let few : k.vars ≤ 8 = nltb→le 8 k.vars (not_T (ltb 8 k.vars) less) in
-            absurd (omega (arith, stop.short, few-fit few m (omega (arith, stop.reports, reported-bound ok s, few-layers few)))))
+            absurd (omega (arith, stop.short, few_fit few m (omega (arith, stop.reports, reported_bound ok s, few_layers few)))))
 
 -- a refusal tells where building stopped
 same_stop :
@@ -145,31 +145,31 @@ module _ (t bs : List ℕ) (layers : List ℤ) where
   abbrev used : ℕ
   used = length (first_of rig.numbers layers)
 
-  used-most : used ≤ 2048
+  used_most : used ≤ 2048
   unfolding rig first_of
-  used-most = omega (arith, length-take 2048 layers)
+  used_most = omega (arith, length-take 2048 layers)
 
   -- no answer reports more than 225 layers, whatever was lent
-  pub rig-decide-layers : LayersAtMost 225 (decide_layers (decide_answer_under rig paper t bs layers))
+  pub rig_decide_layers : LayersAtMost 225 (decide_layers (decide_answer_under rig paper t bs layers))
   unfolding decide_answer_under decide_of decide_layers rig
-  rig-decide-layers =
+  rig_decide_layers =
       prepared_under_cases rig (λ (r : Ready). LayersAtMost 225 (decide_layers (decide_of paper used r))) t bs
-      (λ k s ok moves vars. decided-few ok moves vars s used used-most (build paper k s used) refl) (λ r. tt)
+      (λ k s ok moves vars. decided_few ok moves vars s used used_most (build paper k s used) refl) (λ r. tt)
 
-  pub rig-plan-layers : (out : List ℕ) → LayersAtMost 225 (plan_layers (plan_answer_under rig paper t bs layers out))
+  pub rig_plan_layers : (out : List ℕ) → LayersAtMost 225 (plan_layers (plan_answer_under rig paper t bs layers out))
   unfolding plan_answer_under plan_of plan_layers rig
-  rig-plan-layers out =
+  rig_plan_layers out =
       prepared_under_cases rig (λ (r : Ready). LayersAtMost 225 (plan_layers (plan_of paper used (length out) r))) t bs
       (λ k s ok moves vars.
       let b : Built = build paper k s used in
-      plan-cases (length out) k s b (λ (a : PlanAnswer). LayersAtMost 225 (plan_layers a)) (λ whole. planned-few ok moves vars s used used-most b refl) tt)
+      plan_cases (length out) k s b (λ (a : PlanAnswer). LayersAtMost 225 (plan_layers a)) (λ whole. planned_few ok moves vars s used used_most b refl) tt)
       (λ r. tt)
 
   -- of a table and a state that are accepted
   module _ {k : Task} {s : State} (accepted-is : prepared_under rig paper t bs ≡ ready k s) where
-    within-rig : TaskOk paper normal k × (length k.moves ≤ 16) × (k.vars ≤ 16)
+    within_rig : TaskOk paper normal k × (length k.moves ≤ 16) × (k.vars ≤ 16)
     unfolding rig
-    within-rig =
+    within_rig =
         prepared_under_cases rig (λ (r : Ready). r ≡ ready k s → TaskOk paper normal k × (length k.moves ≤ 16) × (k.vars ≤ 16)) t bs
         (λ n u ok moves vars e. let same : n ≡ k = cc in subst (λ (x : Task). TaskOk paper normal x × (length x.moves ≤ 16) × (x.vars ≤ 16)) same (ok, moves, vars))
         (λ r e. clash cc)
@@ -177,42 +177,42 @@ module _ (t bs : List ℕ) (layers : List ℤ) where
 
     -- with all 2,048 numbers 14 is met at layer 119 or later, and only with more than four written variables
     module _ (whole : 2048 ≤ length layers) where
-      used-whole : used ≡ 2048
+      used_whole : used ≡ 2048
       unfolding rig first_of
-      used-whole = omega (arith, length-take 2048 layers)
+      used_whole = omega (arith, length-take 2048 layers)
 
-      late-14 : (m : ℕ) → build paper k s used ≡ stopped 14 m → Late k m
-      late-14 m e = stopped-late within-rig.0 within-rig.1 within-rig.2 s used used-most m used-whole e
+      late_14 : (m : ℕ) → build paper k s used ≡ stopped 14 m → Late k m
+      late_14 m e = stopped_late within_rig.0 within_rig.1 within_rig.2 s used used_most m used_whole e
 
-      pub rig-decide-14 : (m : ℕ) → decide_answer_under rig paper t bs layers ≡ decide.Refused (record { number = 14; place = m }) → Late k m
+      pub rig_decide_14 : (m : ℕ) → decide_answer_under rig paper t bs layers ≡ decide.Refused (record { number = 14; place = m }) → Late k m
       unfolding decide_answer_under decide_of decided
-      rig-decide-14 m e = go (build paper k s used) refl (ap (decide_of paper used) (sym accepted-is) ∙ e)
+      rig_decide_14 m e = go (build paper k s used) refl (ap (decide_of paper used) (sym accepted-is) ∙ e)
         where
           go : (b : Built) → build paper k s used ≡ b → decided b ≡ decide.Refused (record { number = 14; place = m }) → Late k m
           go (answered (reached l)) is same = clash cc
           go (answered (exhausted l)) is same = clash cc
-          go (stopped n l) is same = late-14 m (is ∙ same_stop n l m cc)
+          go (stopped n l) is same = late_14 m (is ∙ same_stop n l m cc)
 
-      pub rig-plan-14 :
+      pub rig_plan_14 :
           (out : List ℕ) (m : ℕ) → plan_answer_under rig paper t bs layers out ≡ plan.Refused (record { number = 14; place = m }) → Late k m
       unfolding plan_answer_under plan_of planned
-      rig-plan-14 out m e =
+      rig_plan_14 out m e =
           let b : Built = build paper k s used in
-          plan-cases (length out) k s b (λ (a : PlanAnswer). a ≡ plan.Refused (record { number = 14; place = m }) → Late k m) (λ fits. go b refl)
+          plan_cases (length out) k s b (λ (a : PlanAnswer). a ≡ plan.Refused (record { number = 14; place = m }) → Late k m) (λ fits. go b refl)
           (λ same. not_13 m cc) (ap (plan_of paper used (length out)) (sym accepted-is) ∙ e)
         where
           go : (b : Built) → build paper k s used ≡ b → planned k s b ≡ plan.Refused (record { number = 14; place = m }) → Late k m
           go (answered (reached l)) is same = clash cc
           go (answered (exhausted l)) is same = clash cc
-          go (stopped n l) is same = late-14 m (is ∙ same_stop n l m cc)
+          go (stopped n l) is same = late_14 m (is ∙ same_stop n l m cc)
 
     -- with 36,000 bytes for the plan 13 is never met
-    pub rig-plan-13 : (out : List ℕ) → 36_000 ≤ length out → plan_answer_under rig paper t bs layers out ≡ planned k s (build paper k s used)
+    pub rig_plan_13 : (out : List ℕ) → 36_000 ≤ length out → plan_answer_under rig paper t bs layers out ≡ planned k s (build paper k s used)
     unfolding plan_answer_under plan_of
-    rig-plan-13 out enough =
+    rig_plan_13 out enough =
         let b : Built = build paper k s used in
-        let few = records-fit within-rig.0 within-rig.1 within-rig.2 s used used-most b refl in
-        ap (plan_of paper used (length out)) accepted-is ∙ plan-whole (length out) k s b (omega arith)
+        let few = records_fit within_rig.0 within_rig.1 within_rig.2 s used used_most b refl in
+        ap (plan_of paper used (length out)) accepted-is ∙ plan_whole (length out) k s b (omega arith)
 
 -- in one call too no answer reports more than 225 layers
 pub rig_campaign_layers :
@@ -226,5 +226,5 @@ rig_campaign_layers t bs normalOut layers out = go (normalised_under rig paper t
         (o : Output)
         → LayersAtMost 225 (decide_layers (on_output o (λ nb. decide_answer_under rig paper nb bs layers) (λ r. decide.Refused r)))
         × LayersAtMost 225 (plan_layers (on_output o (λ nb. plan_answer_under rig paper nb bs layers out) (λ r. plan.Refused r)))
-    go (writes nb) = (rig-decide-layers nb bs layers, rig-plan-layers nb bs layers out)
+    go (writes nb) = (rig_decide_layers nb bs layers, rig_plan_layers nb bs layers out)
     go (turns r) = (tt, tt)

@@ -29,24 +29,24 @@ module _ (C : Ceiling) where
   Beneath (accepted w) = beyond C w.header ≡ false
   Beneath (refused r) = Unit {0}
 
-  pub under-beneath : (v : Verdict) → Beneath v → under C v ≡ v
+  pub under_beneath : (v : Verdict) → Beneath v → under C v ≡ v
   unfolding under
-  under-beneath (accepted w) h = rw (under, h) refl
-  under-beneath (refused r) h = refl
+  under_beneath (accepted w) h = rw (under, h) refl
+  under_beneath (refused r) h = refl
 
-  pub under-beyond : {v : Verdict} {w : Table} → v ≡ accepted w → beyond C w.header ≡ true → under C v ≡ refused seventeen
+  pub under_beyond : {v : Verdict} {w : Table} → v ≡ accepted w → beyond C w.header ≡ true → under C v ≡ refused seventeen
   unfolding under
-  under-beyond e h = rw (e, under, h) refl
+  under_beyond e h = rw (e, under, h) refl
 
   -- a verdict under a ceiling is the full one or 17, so what holds of both holds of it
-  pub under-cases : (P : Verdict → Type 0) (v : Verdict) → P v → P (refused seventeen) → P (under C v)
+  pub under_cases : (P : Verdict → Type 0) (v : Verdict) → P v → P (refused seventeen) → P (under C v)
   unfolding under
-  under-cases P (accepted w) full beyond-it = by-test (beyond C w.header)
+  under_cases P (accepted w) full beyond-it = by_test (beyond C w.header)
     where
-      by-test : (b : Bool) → P (elim b [ true ↦ refused seventeen | false ↦ accepted w ])
-      by-test true = beyond-it
-      by-test false = full
-  under-cases P (refused r) full beyond-it = full
+      by_test : (b : Bool) → P (elim b [ true ↦ refused seventeen | false ↦ accepted w ])
+      by_test true = beyond-it
+      by_test false = full
+  under_cases P (refused r) full beyond-it = full
 
   module _ (L : Limits) (t : List ℕ) where
     -- ---- within a ceiling: "Within them the rig's answers and memory equal the full calls'."
@@ -58,10 +58,10 @@ module _ (C : Ceiling) where
       pub start : (b : ℕ) → block_start_under C L t b ≡ block_start L t b
       pub refusal : (b : ℕ) → block_refusal_under C L t b ≡ block_refusal L t b
 
-    pub same-reading : Beneath (reading L both t) → SameReading
+    pub same_reading : Beneath (reading L both t) → SameReading
     unfolding read_answer_under read_answer block_part_under block_part block_start_under block_start block_refusal_under block_refusal reading_under
-    same-reading h =
-        let e = under-beneath (reading L both t) h in
+    same_reading h =
+        let e = under_beneath (reading L both t) h in
         record { answer = ap read_of e; part = λ b. ap (part_of t b) e; start = λ b. ap (start_of b) e; refusal = λ b. ap (no_block b) e }
 
     -- normalise and step
@@ -72,10 +72,10 @@ module _ (C : Ceiling) where
       pub step : (bs : List ℕ) (b : ℕ) (out : List ℕ) → step_answer_under C L t bs b out ≡ step_answer L t bs b out
       pub state : (bs : List ℕ) (b : ℕ) (out : List ℕ) → step_out_under C L t bs b out ≡ step_out L t bs b out
 
-    pub same-writing : Beneath (reading L (only written) t) → SameWriting
+    pub same_writing : Beneath (reading L (only written) t) → SameWriting
     unfolding normalise_answer_under normalise_out_under normalised_under normalise_answer normalise_out normalised step_answer_under step_out_under stepped_under step_answer step_out stepped reading_under
-    same-writing h =
-        let e = under-beneath (reading L (only written) t) h in
+    same_writing h =
+        let e = under_beneath (reading L (only written) t) h in
         record {
           normalises = λ size. ap (λ (v : Verdict). fitted size (normal_of v)) e;
           normalise = λ out. ap (λ (v : Verdict). write_answer (fitted (length out) (normal_of v))) e;
@@ -89,20 +89,20 @@ module _ (C : Ceiling) where
       pub decides : decide_answer_under C L t bs mem ≡ decide_answer L t bs (first_of C.numbers mem)
       pub leaves : decide_memory_under C L t bs mem ≡ decide_memory L t bs (first_of C.numbers mem) ++ behind_of C.numbers mem
       pub plans : (out : List ℕ) → plan_answer_under C L t bs mem out ≡ plan_answer L t bs (first_of C.numbers mem) out
-      pub planLeaves : plan_memory_under C L t bs mem ≡ plan_memory L t bs (first_of C.numbers mem) ++ behind_of C.numbers mem
+      pub plan_leaves : plan_memory_under C L t bs mem ≡ plan_memory L t bs (first_of C.numbers mem) ++ behind_of C.numbers mem
       pub writes : (out : List ℕ) → plan_out_under C L t bs mem out ≡ plan_out L t bs (first_of C.numbers mem) out
 
-    pub same-planning : Beneath (reading L (only normal) t) → (bs : List ℕ) (mem : List ℤ) → SamePlanning bs mem
+    pub same_planning : Beneath (reading L (only normal) t) → (bs : List ℕ) (mem : List ℤ) → SamePlanning bs mem
     unfolding decide_answer_under decide_memory_under plan_answer_under plan_memory_under plan_out_under prepared_under reading_under decide_answer decide_memory plan_answer plan_memory plan_out prepared
-    same-planning h bs mem =
-        let e = under-beneath (reading L (only normal) t) h in
+    same_planning h bs mem =
+        let e = under_beneath (reading L (only normal) t) h in
         let first = first_of C.numbers mem in
         let leaves = ap (λ (v : Verdict). memory_of L (ready_of L v bs) first ++ behind_of C.numbers mem) e in
         record {
           decides = ap (λ (v : Verdict). decide_of L (length first) (ready_of L v bs)) e;
           leaves = leaves;
           plans = λ out. ap (λ (v : Verdict). plan_of L (length first) (length out) (ready_of L v bs)) e;
-          planLeaves = leaves;
+          plan_leaves = leaves;
           writes = λ out. ap (λ (v : Verdict). plan_out_of L (length first) (ready_of L v bs) out) e;
         }
 
@@ -111,25 +111,25 @@ module _ (C : Ceiling) where
       pub decides : decide_answer_under C L t bs mem ≡ decide_answer L t bs mem
       pub leaves : decide_memory_under C L t bs mem ≡ decide_memory L t bs mem
       pub plans : (out : List ℕ) → plan_answer_under C L t bs mem out ≡ plan_answer L t bs mem out
-      pub planLeaves : plan_memory_under C L t bs mem ≡ plan_memory L t bs mem
+      pub plan_leaves : plan_memory_under C L t bs mem ≡ plan_memory L t bs mem
       pub writes : (out : List ℕ) → plan_out_under C L t bs mem out ≡ plan_out L t bs mem out
 
-    pub whole-planning :
+    pub whole_planning :
         Beneath (reading L (only normal) t) → (bs : List ℕ) (mem : List ℤ) → AtMost C.numbers (length mem) → WholePlanning bs mem
-    whole-planning h bs mem few =
-        let same = same-planning h bs mem in
+    whole_planning h bs mem few =
+        let same = same_planning h bs mem in
         let all = first_whole C.numbers mem few in
         record {
           decides = same.decides ∙ ap (decide_answer L t bs) all;
-          leaves = same.leaves ∙ whole-memory (decide_memory L t bs) all;
+          leaves = same.leaves ∙ whole_memory (decide_memory L t bs) all;
           plans = λ out. same.plans out ∙ ap (λ (m : List ℤ). plan_answer L t bs m out) all;
-          planLeaves = same.planLeaves ∙ whole-memory (plan_memory L t bs) all;
+          plan_leaves = same.plan_leaves ∙ whole_memory (plan_memory L t bs) all;
           writes = λ out. same.writes out ∙ ap (λ (m : List ℤ). plan_out L t bs m out) all;
         }
       where
-        whole-memory :
+        whole_memory :
             (f : List ℤ → List ℤ) → first_of C.numbers mem ≡ mem → f (first_of C.numbers mem) ++ behind_of C.numbers mem ≡ f mem
-        whole-memory f all = ap₂ ◌++◌ (ap f all) (behind_none C.numbers mem few) ∙ append-nil (f mem)
+        whole_memory f all = ap₂ ◌++◌ (ap f all) (behind_none C.numbers mem few) ∙ append-nil (f mem)
 
     -- For every table, refused or not: a memory keeps its length, its first numbers are written as a memory of their own, and those
     -- behind them are kept.
@@ -168,9 +168,9 @@ module _ (C : Ceiling) where
         pub start : (b : ℕ) → block_start_under C L t b ≡ 0
         pub refusal : (b : ℕ) → block_refusal_under C L t b ≡ some r
 
-      pub turned-reading : reading_under C L both t ≡ refused r → TurnedReading
+      pub turned_reading : reading_under C L both t ≡ refused r → TurnedReading
       unfolding read_answer_under block_part_under block_start_under block_refusal_under read_of part_of start_of no_block
-      turned-reading u =
+      turned_reading u =
           record { answer = ap read_of u; part = λ b. ap (part_of t b) u; start = λ b. ap (start_of b) u; refusal = λ b. ap (no_block b) u }
 
       pub record TurnedWriting : Type 0 where
@@ -179,9 +179,9 @@ module _ (C : Ceiling) where
         pub step : (bs : List ℕ) (b : ℕ) (out : List ℕ) → step_answer_under C L t bs b out ≡ write.Refused r
         pub state : (bs : List ℕ) (b : ℕ) (out : List ℕ) → step_out_under C L t bs b out ≡ out
 
-      pub turned-writing : reading_under C L (only written) t ≡ refused r → TurnedWriting
+      pub turned_writing : reading_under C L (only written) t ≡ refused r → TurnedWriting
       unfolding normalise_answer_under normalise_out_under normalised_under step_answer_under step_out_under stepped_under normal_of step_of fitted write_answer output_after
-      turned-writing u =
+      turned_writing u =
           record {
             normalise = λ out. ap (λ (v : Verdict). write_answer (fitted (length out) (normal_of v))) u;
             normal_form = λ out. ap (λ (v : Verdict). output_after (fitted (length out) (normal_of v)) out) u;
@@ -193,12 +193,12 @@ module _ (C : Ceiling) where
         pub decides : decide_answer_under C L t bs mem ≡ decide.Refused r
         pub leaves : decide_memory_under C L t bs mem ≡ mem
         pub plans : (out : List ℕ) → plan_answer_under C L t bs mem out ≡ plan.Refused r
-        pub planLeaves : plan_memory_under C L t bs mem ≡ mem
+        pub plan_leaves : plan_memory_under C L t bs mem ≡ mem
         pub writes : (out : List ℕ) → plan_out_under C L t bs mem out ≡ out
 
-      pub turned-planning : reading_under C L (only normal) t ≡ refused r → (bs : List ℕ) (mem : List ℤ) → TurnedPlanning bs mem
+      pub turned_planning : reading_under C L (only normal) t ≡ refused r → (bs : List ℕ) (mem : List ℤ) → TurnedPlanning bs mem
       unfolding decide_answer_under decide_memory_under plan_answer_under plan_memory_under plan_out_under prepared_under ready_of decide_of memory_of plan_of plan_out_of
-      turned-planning u bs mem =
+      turned_planning u bs mem =
           let n = C.numbers in
           let first = first_of n mem in
           let leaves = ap (λ (v : Verdict). memory_of L (ready_of L v bs) first ++ behind_of n mem) u ∙ first_behind n mem in
@@ -206,7 +206,7 @@ module _ (C : Ceiling) where
             decides = ap (λ (v : Verdict). decide_of L (length first) (ready_of L v bs)) u;
             leaves = leaves;
             plans = λ out. ap (λ (v : Verdict). plan_of L (length first) (length out) (ready_of L v bs)) u;
-            planLeaves = leaves;
+            plan_leaves = leaves;
             writes = λ out. ap (λ (v : Verdict). plan_out_of L (length first) (ready_of L v bs) out) u;
           }
 
@@ -216,21 +216,21 @@ module _ (C : Ceiling) where
     pub read : reading L w t ≡ accepted table
     pub head : beyond C table.header ≡ true
 
-  pub seventeen-exactly : (L : Limits) (w : Wanted) (t : List ℕ) → (reading_under C L w t ≡ refused seventeen) ↔ Beyond L w t
+  pub seventeen_exactly : (L : Limits) (w : Wanted) (t : List ℕ) → (reading_under C L w t ≡ refused seventeen) ↔ Beyond L w t
   unfolding reading_under under
-  seventeen-exactly L w t = (λ e. by-verdict (reading L w t) refl e, λ b. under-beyond b.read b.head)
+  seventeen_exactly L w t = (λ e. by_verdict (reading L w t) refl e, λ b. under_beyond b.read b.head)
     where
-      by-test :
+      by_test :
           (k : Table) → reading L w t ≡ accepted k → (b : Bool) → beyond C k.header ≡ b
           → elim b [ true ↦ refused seventeen | false ↦ accepted k ] ≡ refused seventeen
           → Beyond L w t
-      by-test k read_is true h e = record { table = k; read = read_is; head = h }
-      by-test k read_is false h e = clash cc
+      by_test k read_is true h e = record { table = k; read = read_is; head = h }
+      by_test k read_is false h e = clash cc
 
       -- no check of a table has this number
-      by-verdict : (v : Verdict) → reading L w t ≡ v → under C v ≡ refused seventeen → Beyond L w t
-      by-verdict (accepted k) read_is e = by-test k read_is (beyond C k.header) refl e
-      by-verdict (refused r) read_is e =
+      by_verdict : (v : Verdict) → reading L w t ≡ v → under C v ≡ refused seventeen → Beyond L w t
+      by_verdict (accepted k) read_is e = by_test k read_is (beyond C k.header) refl e
+      by_verdict (refused r) read_is e =
           let same : r ≡ seventeen = cc in
           let small = subst (IfRefused (Full (length_limit L w t + 3))) (read_is ∙ ap refused same) (reading_refused L w t) in
           absurd (omega (arith, small.number))

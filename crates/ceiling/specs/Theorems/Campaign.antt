@@ -15,22 +15,22 @@ use Rattle.model.specs.Reading.{Table, Verdict, accepted, refused, only, reading
 use Rattle.model.specs.Calls.{Output, writes, turns, fitted, normal_of, normal_bytes, normalised, on_output, campaign_decision, campaign_plan, campaign_memory, campaign_out}
 use Rattle.ceiling.specs.Ceiling.{Ceiling, most_vars, beyond, reading_under, first_of, behind_of, normalised_under, campaign_decision_under, campaign_plan_under, campaign_memory_under, campaign_out_under}
 use Rattle.model.specs.Theorems.Laws.Booleans.{clash}
-use Rattle.model.specs.Theorems.Reading.Accepted.{reading-head, reading_form}
+use Rattle.model.specs.Theorems.Reading.Accepted.{reading_head, reading_form}
 use Rattle.model.specs.Theorems.Printing.Outputs.{fitted_cases}
 use Rattle.model.specs.Theorems.NormalForm.Print.{normal_table, normal_accepted}
-use Rattle.model.specs.Theorems.Campaigns.OneCall.{decides-on, plans-on, fills-on, writes-on}
+use Rattle.model.specs.Theorems.Campaigns.OneCall.{decides_on, plans_on, fills_on, writes_on}
 use Rattle.ceiling.specs.Theorems.Used.{first_behind}
-use Rattle.ceiling.specs.Theorems.Calls.{Beneath, same-writing, same-planning}
+use Rattle.ceiling.specs.Theorems.Calls.{Beneath, same_writing, same_planning}
 use Rattle.ceiling.specs.Theorems.Full.{not_beyond, beneath_counts}
 
 module _ (C : Ceiling) (t : List ℕ) where
   -- the normal form has twice the variables and as many moves
-  pub normal-beneath :
+  pub normal_beneath :
       (w : Table) → reading paper (only written) t ≡ accepted w → beyond C w.header ≡ false
       → Beneath C (reading paper (only normal) (normal_bytes w.task))
   unfolding most_vars normal_table normal_task
-  normal-beneath w e h =
-      let counts = reading-head paper (only written) t e in
+  normal_beneath w e h =
+      let counts = reading_head paper (only written) t e in
       let form : w.header.form ≡ written = reading_form paper written t e in
       let within = beneath_counts C w.header h in
       let vars = subst (λ (f : Form). w.header.vars ≤ most_vars C f) form within.1 in
@@ -38,18 +38,18 @@ module _ (C : Ceiling) (t : List ℕ) where
       (not_beyond C (normal_table w.task).header (omega (arith, within.0, counts.2)) (omega (arith, vars, counts.1)))
 
   -- what normalise writes is within the ceiling
-  pub wrote-beneath :
+  pub wrote_beneath :
       Beneath C (reading paper (only written) t) → (size : ℕ) (nb : List ℕ) → normalised paper t size ≡ writes nb
       → Beneath C (reading paper (only normal) nb)
   unfolding normalised normal_of fitted
-  wrote-beneath h size nb = go (reading paper (only written) t) refl h
+  wrote_beneath h size nb = go (reading paper (only written) t) refl h
     where
       go :
           (v : Verdict) → reading paper (only written) t ≡ v → Beneath C v → fitted size (normal_of v) ≡ writes nb
           → Beneath C (reading paper (only normal) nb)
       go (accepted w) is h e =
           fitted_cases size (normal_bytes w.task) (λ (o : Output). o ≡ writes nb → Beneath C (reading paper (only normal) nb))
-          (λ fits e. let same : normal_bytes w.task ≡ nb = cc in subst (λ (l : List ℕ). Beneath C (reading paper (only normal) l)) same (normal-beneath w is h))
+          (λ fits e. let same : normal_bytes w.task ≡ nb = cc in subst (λ (l : List ℕ). Beneath C (reading paper (only normal) l)) same (normal_beneath w is h))
           (λ short e. clash cc) e
       go (refused r) is h e = clash cc
 
@@ -70,24 +70,24 @@ module _ (C : Ceiling) (t : List ℕ) where
         first : List ℤ
         first = first_of C.numbers layers
 
-        under-is : normalised_under C paper t (length normalOut) ≡ normalised paper t (length normalOut)
-        under-is = (same-writing C paper t h).normalises (length normalOut)
+        under_is : normalised_under C paper t (length normalOut) ≡ normalised paper t (length normalOut)
+        under_is = (same_writing C paper t h).normalises (length normalOut)
 
         go : (o : Output) → normalised paper t (length normalOut) ≡ o → SameCampaign
         go (writes nb) e =
-            let same = same-planning C paper nb (wrote-beneath h (length normalOut) nb e) bs layers in
+            let same = same_planning C paper nb (wrote_beneath h (length normalOut) nb e) bs layers in
             record {
-              decides = rw (under-is, e) same.decides ∙ sym (decides-on t bs normalOut first out nb e);
-              plans = rw (under-is, e) (same.plans out) ∙ sym (plans-on t bs normalOut first out nb e);
-              leaves = rw (under-is, e) same.planLeaves ∙ ap (λ (m : List ℤ). m ++ behind_of C.numbers layers) (sym (fills-on t bs normalOut first out nb e));
-              writes = rw (under-is, e) (same.writes out) ∙ sym (writes-on t bs normalOut first out nb e);
+              decides = rw (under_is, e) same.decides ∙ sym (decides_on t bs normalOut first out nb e);
+              plans = rw (under_is, e) (same.plans out) ∙ sym (plans_on t bs normalOut first out nb e);
+              leaves = rw (under_is, e) same.plan_leaves ∙ ap (λ (m : List ℤ). m ++ behind_of C.numbers layers) (sym (fills_on t bs normalOut first out nb e));
+              writes = rw (under_is, e) (same.writes out) ∙ sym (writes_on t bs normalOut first out nb e);
             }
         go (turns r) e =
             record {
-              decides = rw (under-is, e) refl;
-              plans = rw (under-is, e) refl;
-              leaves = rw (under-is, e) (sym (first_behind C.numbers layers));
-              writes = rw (under-is, e) refl;
+              decides = rw (under_is, e) refl;
+              plans = rw (under_is, e) refl;
+              leaves = rw (under_is, e) (sym (first_behind C.numbers layers));
+              writes = rw (under_is, e) refl;
             }
 
     -- turned away, with 17 or an earlier refusal: every lent memory is kept
@@ -97,6 +97,6 @@ module _ (C : Ceiling) (t : List ℕ) where
       pub leaves : campaign_memory_under C paper t bs normalOut layers ≡ layers
       pub writes : campaign_out_under C paper t bs normalOut layers out ≡ out
 
-    pub turned-campaign : (r : Refusal) → reading_under C paper (only written) t ≡ refused r → TurnedCampaign r
+    pub turned_campaign : (r : Refusal) → reading_under C paper (only written) t ≡ refused r → TurnedCampaign r
     unfolding campaign_decision_under campaign_plan_under campaign_memory_under campaign_out_under on_output normalised_under normal_of fitted
-    turned-campaign r u = record { decides = rw u refl; plans = rw u refl; leaves = rw u refl; writes = rw u refl }
+    turned_campaign r u = record { decides = rw u refl; plans = rw u refl; leaves = rw u refl; writes = rw u refl }

@@ -9,7 +9,7 @@ use Rattle.ceiling.specs.Ceiling.{Ceiling, read_answer_under, block_part_under, 
 use Rattle.model.specs.Exports.{read_code, write_code, decide_code, plan_code, plan_record_count, plan_first_moves, block_answer, read_apart, write_apart, decide_apart, plan_apart}
 use Rattle.model.specs.Theorems.Sizes.Answers.{WriteSmall, write_wider}
 use Rattle.model.specs.Theorems.Campaigns.Codes.{read_back, write_back, decide_back, plan_back}
-use Rattle.ceiling.specs.Theorems.Sizes.{read-small-under, block-small-under, normalise-small-under, step-small-under, decide-small-under, plan-small-under, campaign-decision-small-under, campaign-plan-small-under}
+use Rattle.ceiling.specs.Theorems.Sizes.{read_small_under, block_small_under, normalise_small_under, step_small_under, decide_small_under, plan_small_under, campaign_decision_small_under, campaign_plan_small_under}
 
 -- plan's code, with its two further numbers, which held x and y before
 abbrev PlanApart : PlanAnswer → Type 0
@@ -34,12 +34,12 @@ pub record CodesApart (C : Ceiling) (t bs : List ℕ) (mem : List ℤ) (normalOu
 pub codes_apart : (C : Ceiling) (t bs : List ℕ) (mem : List ℤ) (normalOut out : List ℕ) → CodesApart C t bs mem normalOut out
 codes_apart C t bs mem normalOut out =
     record {
-      read = read_back (read_answer_under C paper t) (read-small-under C t);
-      block = λ b. short_back (block_answer (block_part_under C paper t b) (block_refusal_under C paper t b)) (block-small-under C t b);
-      normalise = short_back (normalise_answer_under C paper t out) (normalise-small-under C t out);
-      step = λ b. let a = step_answer_under C paper t bs b out in short_back a (write_wider a (omega arith) (step-small-under C t bs b out));
-      decides = decide_back (decide_answer_under C paper t bs mem) (decide-small-under C t bs mem);
-      plans = plan_back (plan_answer_under C paper t bs mem out) (plan-small-under C t bs mem out);
-      decision = decide_back (campaign_decision_under C paper t bs normalOut mem) (campaign-decision-small-under C t bs normalOut mem);
-      plan = plan_back (campaign_plan_under C paper t bs normalOut mem out) (campaign-plan-small-under C t bs normalOut mem out);
+      read = read_back (read_answer_under C paper t) (read_small_under C t);
+      block = λ b. short_back (block_answer (block_part_under C paper t b) (block_refusal_under C paper t b)) (block_small_under C t b);
+      normalise = short_back (normalise_answer_under C paper t out) (normalise_small_under C t out);
+      step = λ b. let a = step_answer_under C paper t bs b out in short_back a (write_wider a (omega arith) (step_small_under C t bs b out));
+      decides = decide_back (decide_answer_under C paper t bs mem) (decide_small_under C t bs mem);
+      plans = plan_back (plan_answer_under C paper t bs mem out) (plan_small_under C t bs mem out);
+      decision = decide_back (campaign_decision_under C paper t bs normalOut mem) (campaign_decision_small_under C t bs normalOut mem);
+      plan = plan_back (campaign_plan_under C paper t bs normalOut mem out) (campaign_plan_small_under C t bs normalOut mem out);
     }

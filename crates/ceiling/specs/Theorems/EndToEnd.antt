@@ -17,10 +17,10 @@ use Rattle.ceiling.specs.Ceiling.{Ceiling, beyond, reading_under, first_of, norm
 use Rattle.model.specs.Theorems.Campaigns.Demand2.{normal_part}
 use Rattle.model.specs.Theorems.Campaigns.Demand3.{relaxed_task, end_of, Given, Answers, decide_layers, plan_layers}
 use Rattle.model.specs.Theorems.Campaigns.EndToEnd.{demand3, LayersWithin, decide_within, plan_within}
-use Rattle.model.specs.Theorems.Campaigns.OneCall.{Bounded, campaign-promise}
+use Rattle.model.specs.Theorems.Campaigns.OneCall.{Bounded, campaign_promise}
 use Rattle.ceiling.specs.Theorems.Used.{AtMost, first_room}
-use Rattle.ceiling.specs.Theorems.Calls.{Beneath, under-cases, same-writing, same-planning}
-use Rattle.ceiling.specs.Theorems.Campaign.{normal-beneath, same_campaign}
+use Rattle.ceiling.specs.Theorems.Calls.{Beneath, under_cases, same_writing, same_planning}
+use Rattle.ceiling.specs.Theorems.Campaign.{normal_beneath, same_campaign}
 
 -- The premises, "for every table that 17 does not refuse, with at most those 2,048 numbers as room for the layers": those of demand 3, the
 -- layer memory being the numbers that the ceiling allows; and a head that is not beyond the ceiling.
@@ -66,27 +66,27 @@ module _ (C : Ceiling) (t bs normalOut : List ℕ) (layers : List ℤ) (out : Li
     abbrev size : ℕ
     size = length (normal_bytes g.given.table.task)
 
-    beneath-written : Beneath C (reading paper (only written) t)
-    beneath-written = subst (Beneath C) (sym g.given.read) g.beneath
+    beneath_written : Beneath C (reading paper (only written) t)
+    beneath_written = subst (Beneath C) (sym g.given.read) g.beneath
 
     part_same : normal_part_under C t normalOut size ≡ normal_part t normalOut size
-    part_same = ap (take size) ((same-writing C paper t beneath-written).normal_form normalOut)
+    part_same = ap (take size) ((same_writing C paper t beneath_written).normal_form normalOut)
 
-    beneath-normal : Beneath C (reading paper (only normal) (normal_part t normalOut size))
-    beneath-normal =
+    beneath_normal : Beneath C (reading paper (only normal) (normal_part t normalOut size))
+    beneath_normal =
         subst (λ (nb : List ℕ). Beneath C (reading paper (only normal) nb))
         (sym (demand3 t bs normalOut (first_of C.numbers layers) out g.given).normal_form)
-        (normal-beneath C t g.given.table g.given.read g.beneath)
+        (normal_beneath C t g.given.table g.given.read g.beneath)
 
     -- DEMAND 3 UNDER A CEILING: "For the rig's calls demand 3 is owed for every table that 17 does not refuse". Normalise writes the
     -- normal form, and on exactly those bytes decide and plan answer as demand 3 says.
-    pub demand3-under :
+    pub demand3_under :
         let nb = normal_part_under C t normalOut (length (normal_bytes g.given.table.task)) in
         Answers g.given.table bs (normalise_answer_under C paper t normalOut) nb (decide_answer_under C paper nb bs layers)
         (plan_answer_under C paper nb bs layers out) out (plan_out_under C paper nb bs layers out)
-    demand3-under =
-        let same = same-planning C paper (normal_part t normalOut size) beneath-normal bs layers in
-        same_answers g.given.table bs out ((same-writing C paper t beneath-written).normalise normalOut) part_same
+    demand3_under =
+        let same = same_planning C paper (normal_part t normalOut size) beneath_normal bs layers in
+        same_answers g.given.table bs out ((same_writing C paper t beneath_written).normalise normalOut) part_same
         (ap (λ (nb : List ℕ). decide_answer_under C paper nb bs layers) part_same ∙ same.decides)
         (ap (λ (nb : List ℕ). plan_answer_under C paper nb bs layers out) part_same ∙ same.plans out)
         (ap (λ (nb : List ℕ). plan_out_under C paper nb bs layers out) part_same ∙ same.writes out)
@@ -95,18 +95,18 @@ module _ (C : Ceiling) (t bs normalOut : List ℕ) (layers : List ℤ) (out : Li
 -- ---- the bound, for all inputs whatever
 
 module _ (C : Ceiling) (t bs : List ℕ) (layers : List ℤ) where
-  pub decide-within-under : LayersWithin t (decide_layers (decide_answer_under C paper t bs layers))
+  pub decide_within_under : LayersWithin t (decide_layers (decide_answer_under C paper t bs layers))
   unfolding decide_answer_under prepared_under reading_under decide_answer prepared ready_of decide_of decide_layers
-  decide-within-under =
+  decide_within_under =
       let first = first_of C.numbers layers in
-      under-cases C (λ (v : Verdict). LayersWithin t (decide_layers (decide_of paper (length first) (ready_of paper v bs))))
+      under_cases C (λ (v : Verdict). LayersWithin t (decide_layers (decide_of paper (length first) (ready_of paper v bs))))
       (reading paper (only normal) t) (decide_within t bs first) tt
 
-  pub plan-within-under : (out : List ℕ) → LayersWithin t (plan_layers (plan_answer_under C paper t bs layers out))
+  pub plan_within_under : (out : List ℕ) → LayersWithin t (plan_layers (plan_answer_under C paper t bs layers out))
   unfolding plan_answer_under prepared_under reading_under plan_answer prepared ready_of plan_of plan_layers
-  plan-within-under out =
+  plan_within_under out =
       let first = first_of C.numbers layers in
-      under-cases C (λ (v : Verdict). LayersWithin t (plan_layers (plan_of paper (length first) (length out) (ready_of paper v bs))))
+      under_cases C (λ (v : Verdict). LayersWithin t (plan_layers (plan_of paper (length first) (length out) (ready_of paper v bs))))
       (reading paper (only normal) t) (plan_within t bs first out) tt
 
 -- ---- in one call
@@ -122,29 +122,29 @@ module _ (C : Ceiling) (t bs normalOut : List ℕ) (layers : List ℤ) (out : Li
     pub bounded : Bounded (normalised_under C paper t (length normalOut)) d p
 
   -- what the call answers keeps the promise
-  keeps-claim :
+  keeps_claim :
       (g : GivenUnder C t bs normalOut layers out)
       → Answers g.given.table bs (normalise_answer_under C paper t normalOut)
       (normal_part_under C t normalOut (length (normal_bytes g.given.table.task)))
       (campaign_decision_under C paper t bs normalOut layers) (campaign_plan_under C paper t bs normalOut layers out) out
       (campaign_out_under C paper t bs normalOut layers out)
-  keeps-claim g =
-      let beneath = beneath-written C t bs normalOut layers out g in
+  keeps_claim g =
+      let beneath = beneath_written C t bs normalOut layers out g in
       let same = same_campaign C t bs normalOut layers out beneath in
-      same_answers g.given.table bs out ((same-writing C paper t beneath).normalise normalOut) (part_same C t bs normalOut layers out g)
+      same_answers g.given.table bs out ((same_writing C paper t beneath).normalise normalOut) (part_same C t bs normalOut layers out g)
       same.decides same.plans same.writes
-      ((campaign-promise t bs normalOut (first_of C.numbers layers) out).claim g.given)
+      ((campaign_promise t bs normalOut (first_of C.numbers layers) out).claim g.given)
 
   keeps_bound :
       (o : Output)
       → Bounded o (on_output o (λ nb. decide_answer_under C paper nb bs layers) (λ r. decide.Refused r))
       (on_output o (λ nb. plan_answer_under C paper nb bs layers out) (λ r. plan.Refused r))
   unfolding on_output
-  keeps_bound (writes nb) = (decide-within-under C nb bs layers, plan-within-under C nb bs layers out)
+  keeps_bound (writes nb) = (decide_within_under C nb bs layers, plan_within_under C nb bs layers out)
   keeps_bound (turns r) = tt
 
-  pub promise-under :
+  pub promise_under :
       PromiseUnder (campaign_decision_under C paper t bs normalOut layers) (campaign_plan_under C paper t bs normalOut layers out)
       (campaign_out_under C paper t bs normalOut layers out)
   unfolding campaign_decision_under campaign_plan_under
-  promise-under = record { claim = keeps-claim; bounded = keeps_bound (normalised_under C paper t (length normalOut)) }
+  promise_under = record { claim = keeps_claim; bounded = keeps_bound (normalised_under C paper t (length normalOut)) }

@@ -18,9 +18,9 @@ use Rattle.model.specs.Reading.{Table, Verdict, accepted, refused, only, reading
 use Rattle.model.specs.Calls.{Ready, ready, unready, ready_with, ready_of}
 use Rattle.ceiling.specs.Ceiling.{Ceiling, seventeen, most_vars, beyond, under, reading_under, prepared_under}
 use Rattle.model.specs.Theorems.Reading.WellFormed.{TaskOk}
-use Rattle.model.specs.Theorems.Reading.Accepted.{reading-head, reading_form, reading_task}
+use Rattle.model.specs.Theorems.Reading.Accepted.{reading_head, reading_form, reading_task}
 use Rattle.model.specs.Theorems.Laws.Booleans.{T-cases, clash, or_right}
-use Rattle.model.specs.Theorems.Laws.Searching.{firstFrom-cases}
+use Rattle.model.specs.Theorems.Laws.Searching.{first_from_cases}
 use Rattle.ceiling.specs.Theorems.Full.{beneath_counts}
 
 -- ---- the largest layer that fits
@@ -69,9 +69,9 @@ first_unfitting numbers props moves vars m some-var first short before =
 
 module _ (L : Limits) (k : Task) (s : State) (size : ℕ) where
   -- a layer that is not refused fits
-  stored-fits : (t : ℕ) → (T (refuses L k s size t) → ⊥) → room k t ≤ size
+  stored_fits : (t : ℕ) → (T (refuses L k s size t) → ⊥) → room k t ≤ size
   unfolding wrong14
-  stored-fits t stored =
+  stored_fits t stored =
       nltb→le size (room k t) (not_T (ltb size (room k t)) (λ short. stored (or_right (wrong15 L k s t) (ltb size (room k t)) short)))
 
   -- 14 at a layer: the memory is too short for it, and holds every layer before it
@@ -80,10 +80,10 @@ module _ (L : Limits) (k : Task) (s : State) (size : ℕ) where
     pub before : (u : ℕ) → u < m → room k u ≤ size
     pub reports : m ≤ reported (outcome k s)
 
-  pub stopped-short : (m : ℕ) → build L k s size ≡ stopped 14 m → StoppedShort m
+  pub stopped_short : (m : ℕ) → build L k s size ≡ stopped 14 m → StoppedShort m
   unfolding build stop_at wrong14 stop_number
-  stopped-short m e =
-      firstFrom-cases (refuses L k s size) (λ (f : Option ℕ). stop_at L k s f (outcome k s) ≡ stopped 14 m → StoppedShort m) 0
+  stopped_short m e =
+      first_from_cases (refuses L k s size) (λ (f : Option ℕ). stop_at L k s f (outcome k s) ≡ stopped 14 m → StoppedShort m) 0
       (suc (reported (outcome k s)))
       (λ t low high bad before. by_number t (omega arith) (wrong15 L k s t) bad (λ u h. before u (omega arith) h))
       (λ never same. clash cc) e
@@ -97,16 +97,16 @@ module _ (L : Limits) (k : Task) (s : State) (size : ℕ) where
       by_number t within false bad before same =
           let here : t ≡ m = cc in
           subst StoppedShort here
-          (record { short = ltb→lt size (room k t) bad; before = λ u h. stored-fits u (before u h); reports = within })
+          (record { short = ltb→lt size (room k t) bad; before = λ u h. stored_fits u (before u h); reports = within })
 
   -- an answer: the memory holds all its layers
-  pub answered-fits : (o : Outcome) → build L k s size ≡ answered o → room k (reported (outcome k s)) ≤ size
+  pub answered_fits : (o : Outcome) → build L k s size ≡ answered o → room k (reported (outcome k s)) ≤ size
   unfolding build stop_at wrong14
-  answered-fits o e =
-      firstFrom-cases (refuses L k s size) (λ (f : Option ℕ). stop_at L k s f (outcome k s) ≡ answered o → room k (reported (outcome k s)) ≤ size)
+  answered_fits o e =
+      first_from_cases (refuses L k s size) (λ (f : Option ℕ). stop_at L k s f (outcome k s) ≡ answered o → room k (reported (outcome k s)) ≤ size)
       0 (suc (reported (outcome k s)))
       (λ t low high bad before same. clash cc)
-      (λ never same. stored-fits (reported (outcome k s)) (never (reported (outcome k s)) (omega arith) (omega arith))) e
+      (λ never same. stored_fits (reported (outcome k s)) (never (reported (outcome k s)) (omega arith) (omega arith))) e
 
 -- ---- under a ceiling
 
@@ -117,7 +117,7 @@ pub prepared_under_cases :
     → ((r : Refusal) → P (unready r))
     → P (prepared_under C paper t bs)
 unfolding prepared_under reading_under under ready_of ready_with most_vars
-prepared_under_cases C P t bs go back = by-verdict (reading paper (only normal) t) refl
+prepared_under_cases C P t bs go back = by_verdict (reading paper (only normal) t) refl
   where
     by_state :
         (w : Table) → TaskOk paper normal w.task → length w.task.moves ≤ C.moves → w.task.vars ≤ 2 * C.vars
@@ -125,17 +125,17 @@ prepared_under_cases C P t bs go back = by-verdict (reading paper (only normal) 
     by_state w ok moves vars none = go w.task (normal_state (state_of w.task.props bs)) ok moves vars
     by_state w ok moves vars (some r) = back r
 
-    by-test :
+    by_test :
         (w : Table) → reading paper (only normal) t ≡ accepted w → (b : Bool) → beyond C w.header ≡ b
         → P (ready_of paper (elim b [ true ↦ refused seventeen | false ↦ accepted w ]) bs)
-    by-test w e true h = back seventeen
-    by-test w e false h =
-        let counts = reading-head paper (only normal) t e in
+    by_test w e true h = back seventeen
+    by_test w e false h =
+        let counts = reading_head paper (only normal) t e in
         let within = beneath_counts C w.header h in
         let vars : w.header.vars ≤ 2 * C.vars = subst (λ (f : Form). w.header.vars ≤ most_vars C f) (reading_form paper normal t e) within.1 in
         by_state w (reading_task paper normal t e) (omega (arith, within.0, counts.2)) (omega (arith, vars, counts.1))
         (state_refusal paper w.task.props (w.task.vars / 2) bs)
 
-    by-verdict : (v : Verdict) → reading paper (only normal) t ≡ v → P (ready_of paper (under C v) bs)
-    by-verdict (accepted w) e = by-test w e (beyond C w.header) refl
-    by-verdict (refused r) e = back r
+    by_verdict : (v : Verdict) → reading paper (only normal) t ≡ v → P (ready_of paper (under C v) bs)
+    by_verdict (accepted w) e = by_test w e (beyond C w.header) refl
+    by_verdict (refused r) e = back r

@@ -10,8 +10,8 @@ use Rattle.model.specs.Reading.{Verdict, accepted, refused, Wanted, only, both, 
 use Rattle.ceiling.specs.Ceiling.{Ceiling, full, most_vars, beyond}
 use Rattle.model.specs.Theorems.Reading.WellFormed.{TaskOk, VarsOk}
 use Rattle.model.specs.Theorems.Laws.Booleans.{or_left, or_right, false_not}
-use Rattle.model.specs.Theorems.Reading.Accepted.{reading-ok, reading-head}
-use Rattle.ceiling.specs.Theorems.Calls.{Beneath, SameReading, same-reading, SameWriting, same-writing, WholePlanning, whole-planning}
+use Rattle.model.specs.Theorems.Reading.Accepted.{reading_ok, reading_head}
+use Rattle.ceiling.specs.Theorems.Calls.{Beneath, SameReading, same_reading, SameWriting, same_writing, WholePlanning, whole_planning}
 
 -- a head is not beyond a ceiling exactly if its counts are within
 pub not_beyond : (C : Ceiling) (h : Head) → h.moves ≤ C.moves → h.vars ≤ most_vars C h.form → beyond C h ≡ false
@@ -38,8 +38,8 @@ full_refuses_none w t = go (reading paper w t) refl
   where
     go : (v : Verdict) → reading paper w t ≡ v → Beneath full v
     go (accepted k) e =
-        let ok : TaskOk paper k.header.form k.task = reading-ok paper w t e in
-        let counts = reading-head paper w t e in
+        let ok : TaskOk paper k.header.form k.task = reading_ok paper w t e in
+        let counts = reading_head paper w t e in
         not_beyond full k.header (omega (arith, ok.moves, counts.2))
         (omega (arith, vars_within k.header.form k.task.vars ok.vars, counts.1))
     go (refused r) e = tt
@@ -53,7 +53,7 @@ pub full_is_none : (t : List ℕ) → FullIsNone t
 unfolding full
 full_is_none t =
     record {
-      reading = same-reading full paper t (full_refuses_none both t);
-      writing = same-writing full paper t (full_refuses_none (only written) t);
-      planning = λ bs mem. whole-planning full paper t (full_refuses_none (only normal) t) bs mem tt;
+      reading = same_reading full paper t (full_refuses_none both t);
+      writing = same_writing full paper t (full_refuses_none (only written) t);
+      planning = λ bs mem. whole_planning full paper t (full_refuses_none (only normal) t) bs mem tt;
     }

@@ -18,34 +18,34 @@ use Rattle.model.specs.Reading.{only, reading}
 use Rattle.model.specs.Calls.{Output, writes, turns, on_output, normalised, campaign_decision, campaign_plan, campaign_memory, campaign_out, fitted, output_after, Ready, ready, unready, prepared, decided, decide_of, decide_answer, memory_of, decide_memory, record_bytes, plan_records, plan_fitted, plan_of, plan_answer, plan_memory, plan_out_of, plan_out}
 use Rattle.ceiling.specs.Ceiling.{Ceiling, first_of, behind_of, normalised_under, decide_answer_under, campaign_decision_under, campaign_plan_under, campaign_memory_under, campaign_out_under}
 use Rattle.model.specs.Theorems.Laws.Booleans.{true_t, or_cases, or_left, or_right}
-use Rattle.model.specs.Theorems.Laws.Searching.{firstFrom-cases}
-use Rattle.model.specs.Theorems.Layers.Entries.{first_found, first-missing}
-use Rattle.model.specs.Theorems.Layers.Rebuilding.{built-fits}
+use Rattle.model.specs.Theorems.Laws.Searching.{first_from_cases}
+use Rattle.model.specs.Theorems.Layers.Entries.{first_found, first_missing}
+use Rattle.model.specs.Theorems.Layers.Rebuilding.{built_fits}
 use Rattle.ceiling.specs.Theorems.Used.{first_behind}
-use Rattle.ceiling.specs.Theorems.Calls.{Beneath, same-writing, same-planning, WholePlanning}
-use Rattle.ceiling.specs.Theorems.Campaign.{wrote-beneath}
+use Rattle.ceiling.specs.Theorems.Calls.{Beneath, same_writing, same_planning, WholePlanning}
+use Rattle.ceiling.specs.Theorems.Campaign.{wrote_beneath}
 
 module _ (L : Limits) (k : Task) (s : State) {size more : ℕ} (longer : size ≤ more) where
   -- what is refused in a longer memory is refused in a shorter one
-  still-refused : (t : ℕ) → T (refuses L k s more t) → T (refuses L k s size t)
+  still_refused : (t : ℕ) → T (refuses L k s more t) → T (refuses L k s size t)
   unfolding wrong14
-  still-refused t bad =
+  still_refused t bad =
       or_cases (wrong15 L k s t) (ltb more (room k t)) bad (or_left (wrong15 L k s t) (ltb size (room k t)))
       (λ short.
       let less : more < room k t = ltb→lt more (room k t) short in
       or_right (wrong15 L k s t) (ltb size (room k t)) (lt→ltb size (room k t) (omega arith)))
 
   -- building in a longer memory ends as in a shorter one that did not stop with 14
-  pub build-more : ((m : ℕ) → build L k s size ≡ stopped 14 m → ⊥) → build L k s more ≡ build L k s size
+  pub build_more : ((m : ℕ) → build L k s size ≡ stopped 14 m → ⊥) → build L k s more ≡ build L k s size
   unfolding build stop_at stop_number
-  build-more enough =
-      firstFrom-cases (refuses L k s size)
+  build_more enough =
+      first_from_cases (refuses L k s size)
       (λ (f : Option ℕ). ((m : ℕ) → stop_at L k s f (outcome k s) ≡ stopped 14 m → ⊥) → build L k s more ≡ stop_at L k s f (outcome k s))
       0 (suc (reported (outcome k s)))
-      (λ t low high bad before enough. by_number t (omega arith) (λ u h again. before u (omega arith) h (still-refused u again)) (wrong15 L k s t) refl enough)
+      (λ t low high bad before enough. by_number t (omega arith) (λ u h again. before u (omega arith) h (still_refused u again)) (wrong15 L k s t) refl enough)
       (λ never enough.
       ap (λ (f : Option ℕ). stop_at L k s f (outcome k s))
-      (first-missing (refuses L k s more) (suc (reported (outcome k s))) (λ u h again. never u (omega arith) (omega arith) (still-refused u again))))
+      (first_missing (refuses L k s more) (suc (reported (outcome k s))) (λ u h again. never u (omega arith) (omega arith) (still_refused u again))))
       enough
     where
       by_number :
@@ -78,32 +78,32 @@ module _ (L : Limits) (first behind : List ℤ) where
   abbrev Enough : Ready → Type 0
   Enough r = (m : ℕ) → decide_of L (length first) r ≡ decide.Refused (record { number = 14; place = m }) → ⊥
 
-  pub more-built : (k : Task) (s : State) → Enough (ready k s) → build L k s (length whole) ≡ build L k s (length first)
+  pub more_built : (k : Task) (s : State) → Enough (ready k s) → build L k s (length whole) ≡ build L k s (length first)
   unfolding decide_of decided
-  more-built k s enough = build-more L k s longer (λ m e. enough m (ap decided e))
+  more_built k s enough = build_more L k s longer (λ m e. enough m (ap decided e))
 
-  pub more-decides : (r : Ready) → Enough r → decide_of L (length whole) r ≡ decide_of L (length first) r
+  pub more_decides : (r : Ready) → Enough r → decide_of L (length whole) r ≡ decide_of L (length first) r
   unfolding decide_of
-  more-decides (ready k s) enough = ap decided (more-built k s enough)
-  more-decides (unready r) enough = refl
+  more_decides (ready k s) enough = ap decided (more_built k s enough)
+  more_decides (unready r) enough = refl
 
-  pub more-leaves : (r : Ready) → Enough r → memory_of L r whole ≡ memory_of L r first ++ behind
+  pub more_leaves : (r : Ready) → Enough r → memory_of L r whole ≡ memory_of L r first ++ behind
   unfolding memory_of
-  more-leaves (ready k s) enough =
-      ap (λ (b : Built). overwrite (built_memory k s b) whole) (more-built k s enough)
-      ∙ sym (over_first (built_memory k s (build L k s (length first))) first behind (built-fits L k s (length first)))
-  more-leaves (unready r) enough = refl
+  more_leaves (ready k s) enough =
+      ap (λ (b : Built). overwrite (built_memory k s b) whole) (more_built k s enough)
+      ∙ sym (over_first (built_memory k s (build L k s (length first))) first behind (built_fits L k s (length first)))
+  more_leaves (unready r) enough = refl
 
-  pub more-plans : (r : Ready) → Enough r → (room : ℕ) → plan_of L (length whole) room r ≡ plan_of L (length first) room r
+  pub more_plans : (r : Ready) → Enough r → (room : ℕ) → plan_of L (length whole) room r ≡ plan_of L (length first) room r
   unfolding plan_of
-  more-plans (ready k s) enough room = ap (plan_fitted room k s) (more-built k s enough)
-  more-plans (unready r) enough room = refl
+  more_plans (ready k s) enough room = ap (plan_fitted room k s) (more_built k s enough)
+  more_plans (unready r) enough room = refl
 
-  pub more-writes : (r : Ready) → Enough r → (out : List ℕ) → plan_out_of L (length whole) r out ≡ plan_out_of L (length first) r out
+  pub more_writes : (r : Ready) → Enough r → (out : List ℕ) → plan_out_of L (length whole) r out ≡ plan_out_of L (length first) r out
   unfolding plan_out_of
-  more-writes (ready k s) enough out =
-      ap (λ (b : Built). output_after (fitted (length out) (writes (record_bytes (plan_records k s b)))) out) (more-built k s enough)
-  more-writes (unready r) enough out = refl
+  more_writes (ready k s) enough out =
+      ap (λ (b : Built). output_after (fitted (length out) (writes (record_bytes (plan_records k s b)))) out) (more_built k s enough)
+  more_writes (unready r) enough out = refl
 
 -- Of a table that 17 does not turn away, in any memory: where decide under the ceiling does not answer 14, decide and plan answer and
 -- leave what the full calls do.
@@ -113,19 +113,19 @@ pub same_but_14 :
     → WholePlanning C L t bs mem
 unfolding decide_answer decide_memory plan_answer plan_memory plan_out
 same_but_14 C L t bs mem h enough =
-    let same = same-planning C L t h bs mem in
+    let same = same_planning C L t h bs mem in
     let n = C.numbers in
     let first = first_of n mem in
     let all : first ++ behind_of n mem ≡ mem = first_behind n mem in
     let r = prepared L t bs in
     let fine : Enough L first (behind_of n mem) r = λ m e. enough m (same.decides ∙ e) in
-    let leaves = sym (more-leaves L first (behind_of n mem) r fine) ∙ ap (memory_of L r) all in
+    let leaves = sym (more_leaves L first (behind_of n mem) r fine) ∙ ap (memory_of L r) all in
     record {
-      decides = same.decides ∙ sym (more-decides L first (behind_of n mem) r fine) ∙ ap (λ (m : List ℤ). decide_of L (length m) r) all;
+      decides = same.decides ∙ sym (more_decides L first (behind_of n mem) r fine) ∙ ap (λ (m : List ℤ). decide_of L (length m) r) all;
       leaves = same.leaves ∙ leaves;
-      plans = λ out. same.plans out ∙ sym (more-plans L first (behind_of n mem) r fine (length out)) ∙ ap (λ (m : List ℤ). plan_of L (length m) (length out) r) all;
-      planLeaves = same.planLeaves ∙ leaves;
-      writes = λ out. same.writes out ∙ sym (more-writes L first (behind_of n mem) r fine out) ∙ ap (λ (m : List ℤ). plan_out_of L (length m) r out) all;
+      plans = λ out. same.plans out ∙ sym (more_plans L first (behind_of n mem) r fine (length out)) ∙ ap (λ (m : List ℤ). plan_of L (length m) (length out) r) all;
+      plan_leaves = same.plan_leaves ∙ leaves;
+      writes = λ out. same.writes out ∙ sym (more_writes L first (behind_of n mem) r fine out) ∙ ap (λ (m : List ℤ). plan_out_of L (length m) r out) all;
     }
 
 -- in one call too
@@ -142,20 +142,20 @@ pub campaign_but_14 :
 unfolding campaign_decision_under campaign_plan_under campaign_memory_under campaign_out_under campaign_decision campaign_plan campaign_memory campaign_out on_output
 campaign_but_14 C t bs normalOut mem out h = go (normalised paper t (length normalOut)) refl
   where
-    under-is : normalised_under C paper t (length normalOut) ≡ normalised paper t (length normalOut)
-    under-is = (same-writing C paper t h).normalises (length normalOut)
+    under_is : normalised_under C paper t (length normalOut) ≡ normalised paper t (length normalOut)
+    under_is = (same_writing C paper t h).normalises (length normalOut)
 
     go :
         (o : Output) → normalised paper t (length normalOut) ≡ o
         → ((m : ℕ) → campaign_decision_under C paper t bs normalOut mem ≡ decide.Refused (record { number = 14; place = m }) → ⊥)
         → WholeCampaign C t bs normalOut mem out
     go (writes nb) e enough =
-        let same = same_but_14 C paper nb bs mem (wrote-beneath C t h (length normalOut) nb e) (λ m d. enough m (rw (under-is, e) d)) in
+        let same = same_but_14 C paper nb bs mem (wrote_beneath C t h (length normalOut) nb e) (λ m d. enough m (rw (under_is, e) d)) in
         record {
-          decides = rw (under-is, e) same.decides;
-          plans = rw (under-is, e) (same.plans out);
-          leaves = rw (under-is, e) same.planLeaves;
-          writes = rw (under-is, e) (same.writes out);
+          decides = rw (under_is, e) same.decides;
+          plans = rw (under_is, e) (same.plans out);
+          leaves = rw (under_is, e) same.plan_leaves;
+          writes = rw (under_is, e) (same.writes out);
         }
     go (turns r) e enough =
-        record { decides = rw (under-is, e) refl; plans = rw (under-is, e) refl; leaves = rw (under-is, e) refl; writes = rw (under-is, e) refl }
+        record { decides = rw (under_is, e) refl; plans = rw (under_is, e) refl; leaves = rw (under_is, e) refl; writes = rw (under_is, e) refl }

@@ -3,7 +3,7 @@ use native.Mathlib.Omega.{arith}
 use borrow.Author.Rules.{rules}
 use Rattle.model.specs.Task.{written}
 use Rattle.table.specs.Names.{wanted_of}
-use Rattle.table.specs.Outlines.{head_read, head-refused}
+use Rattle.table.specs.Outlines.{head_read, head_refused}
 use Rattle.checker.specs.Replies.{replied_other, reply_table, check_replied}
 use Rattle.checker.proofs.check.Statement.{statement}
 use Rattle.checker.proofs.check.Tie as tie
@@ -35,7 +35,7 @@ unfolding wanted_of
 returns-2 c =
     let a = c.before.before.before.before.before.before.before.before.before.args in
     check_replied a.table.now a.state.now a.list.now
-    (replied_other _ (reply_table a.table.now a.state.now a.list.now (head-refused written c.before.before.before.outline.ensures c.before.r.given.1)))
+    (replied_other _ (reply_table a.table.now a.state.now a.list.now (head_refused written c.before.before.before.outline.ensures c.before.r.given.1)))
 
 pub check-spec : {M : Type 1} → statement M
 check-spec =

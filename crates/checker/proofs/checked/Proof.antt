@@ -2,7 +2,7 @@
 use borrow.Author.Rules.{rules}
 use Rattle.state.specs.Checking.{check_accepted, check_refused}
 use Rattle.transition.specs.Turns.{few_props, few_vars}
-use Rattle.checker.specs.Replies.{replied_other, reply-state}
+use Rattle.checker.specs.Replies.{replied_other, reply_state}
 use Rattle.checker.proofs.checked.Statement.{statement}
 use Rattle.checker.proofs.checked.Tie as tie
 
@@ -27,7 +27,7 @@ returns c = c.before.before.follow.ensures
 returns-2 : tie.Need-returns-2
 returns-2 c =
     let s = c.before.before.before.before.before.before.before.before in
-    replied_other _ (reply-state s.requires s.args.state.now s.args.list.now (check_refused c.before.before.before.check.ensures c.before.r.given.1))
+    replied_other _ (reply_state s.requires s.args.state.now s.args.list.now (check_refused c.before.before.before.check.ensures c.before.r.given.1))
 
 pub checked-spec : {M : Type 1} → statement M
 checked-spec =

@@ -2,8 +2,8 @@
 use native.Mathlib.Omega.{arith}
 use borrow.Author.Rules.{rules}
 use Rattle.transition.specs.Turns.{few_props, few_vars, block_in}
-use Rattle.transition.specs.Entries.{walked-ended, walked-stopped}
-use Rattle.checker.specs.Replies.{replied_same, replied_other, goal-in, reply-fails, reply-end}
+use Rattle.transition.specs.Entries.{walked_ended, walked_stopped}
+use Rattle.checker.specs.Replies.{replied_same, replied_other, goal_in, reply_fails, reply_end}
 use Rattle.checker.proofs.follow.Statement.{statement}
 use Rattle.checker.proofs.follow.Tie as tie
 
@@ -24,9 +24,9 @@ finish-requires c κs =
       few_props = few_props p;
       few_vars = few_vars p;
       goal = p.table.task.goal;
-      stands = goal-in p s.args.state.now s.args.list.now c.before.before.before.part.ensures.0;
+      stands = goal_in p s.args.state.now s.args.list.now c.before.before.before.part.ensures.0;
       over = _;
-      holds = (walked-ended _ _ _ _ _ _ _ c.before.before.before.before.before.before.before.walk.ensures p c.before.before.before.before.before.enum_told.given.1).holds;
+      holds = (walked_ended _ _ _ _ _ _ _ c.before.before.before.before.before.before.before.walk.ensures p c.before.before.before.before.before.enum_told.given.1).holds;
     }
 
 enum-known-index : tie.Need-enum-known-index
@@ -39,16 +39,16 @@ returns : tie.Need-returns
 returns c =
     let s = c.before.before.before.before.before.before.before.before.before.before.before.before.before.before.before.before.before in
     let p = s.requires.0 in
-    let m = walked-ended _ _ _ _ _ _ _ c.before.before.before.before.before.before.before.before.before.before.walk.ensures p c.before.before.before.before.before.before.before.before.enum_told.given.1 in
+    let m = walked_ended _ _ _ _ _ _ _ c.before.before.before.before.before.before.before.before.before.before.walk.ensures p c.before.before.before.before.before.before.before.before.enum_told.given.1 in
     replied_same
-    (c.before.before.finish.ensures.is p.table.task.goal _ (goal-in p s.args.state.now s.args.list.now c.before.before.before.before.before.before.part.ensures.0) m.holds)
-    (reply-end p s.args.state.now s.args.list.now s.requires.1 m.made)
+    (c.before.before.finish.ensures.is p.table.task.goal _ (goal_in p s.args.state.now s.args.list.now c.before.before.before.before.before.before.part.ensures.0) m.holds)
+    (reply_end p s.args.state.now s.args.list.now s.requires.1 m.made)
 
 returns-2 : tie.Need-returns-2
 returns-2 c =
     let s = c.before.before.before.before.before.before.before.before.before.before in
     replied_other _
-    (reply-fails s.requires.0 s.args.state.now s.args.list.now s.requires.1 (walked-stopped _ _ _ _ _ _ _ c.before.before.before.walk.ensures s.requires.0 c.before.index.given.1))
+    (reply_fails s.requires.0 s.args.state.now s.args.list.now s.requires.1 (walked_stopped _ _ _ _ _ _ _ c.before.before.before.walk.ensures s.requires.0 c.before.index.given.1))
 
 pub follow-spec : {M : Type 1} → statement M
 follow-spec =

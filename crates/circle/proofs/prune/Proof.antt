@@ -4,7 +4,7 @@ use Prim.Native.Nat.{◌-◌, ◌≤◌}
 use mathlib.Core.Path.{◌∙◌}
 use mathlib.Core.Logic.{⊎_elim}
 use native.Mathlib.Omega.{arith}
-use Rattle.circle.specs.Pruning.{alive_at, kept, kept-alive, kept-dead, Filled, filled_none, filled_more}
+use Rattle.circle.specs.Pruning.{alive_at, kept, kept_alive, kept_dead, Filled, filled_none, filled_more}
 use Rattle.circle.proofs.prune.Statement.{statement}
 use Rattle.circle.proofs.prune.Tie as tie
 
@@ -40,7 +40,7 @@ unfolding alive_at
 loop-again c = (
   omega arith,
   filled_more c.before.before.before.loop.invariant.1 (omega arith)
-      (⊎_elim (λ w. kept-alive _ _ _ _ w.0.taken (w.2 ∙ w.1.ensures)) (λ w. kept-dead _ _ _ _ w.0.left w.1) c.if1.branch),
+      (⊎_elim (λ w. kept_alive _ _ _ _ w.0.taken (w.2 ∙ w.1.ensures)) (λ w. kept_dead _ _ _ _ w.0.left w.1) c.if1.branch),
 )
 
 returns : tie.Need-returns invariant-loop decreases-loop

@@ -1,7 +1,7 @@
 -- `fill` meets its contract: 19 before 13, and 13 before a byte is written. Assumes nothing.
 use native.Mathlib.Omega.{arith}
 use borrow.Author.Rules.{rules}
-use Rattle.closure.specs.Filling.{filled_stuck, filled-short, filled-whole}
+use Rattle.closure.specs.Filling.{filled_stuck, filled_short, filled_whole}
 use Rattle.closure.proofs.fill.Statement.{statement}
 use Rattle.closure.proofs.fill.Tie as tie
 
@@ -26,7 +26,7 @@ refused-requires-2 c κs = search rules
 returns : tie.Need-returns
 returns c =
     let e = c.before.before.before in
-    rw c.refused2.ensures (filled-short (rw e.end.given.1 at e.before.before.before.walk.ensures) _ (omega arith))
+    rw c.refused2.ensures (filled_short (rw e.end.given.1 at e.before.before.before.walk.ensures) _ (omega arith))
 
 walk-requires-2 : tie.Need-walk-requires-2
 walk-requires-2 c κs = search rules
@@ -42,7 +42,7 @@ same_length c = search rules
 returns-3 : tie.Need-returns-3
 returns-3 c =
     let e = c.before.before.before.before.before.before in
-    filled-whole (rw e.end.given.1 at e.before.before.before.walk.ensures) _ c.before.before.walk2.result (omega arith)
+    filled_whole (rw e.end.given.1 at e.before.before.before.walk.ensures) _ c.before.before.walk2.result (omega arith)
     c.before.before.walk2.ensures
 
 pub fill_spec : {M : Type 1} → statement M

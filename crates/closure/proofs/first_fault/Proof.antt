@@ -1,7 +1,7 @@
 -- `first_fault` meets its contract: windows before durations. Assumes nothing.
 use mathlib.Core.Path.{sym, ap, ◌∙◌}
 use borrow.Author.Rules.{rules}
-use Rattle.closure.specs.Checking.{fault_of, fault-window, fault-duration}
+use Rattle.closure.specs.Checking.{fault_of, fault_window, fault_duration}
 use Rattle.closure.proofs.first_fault.Statement.{statement}
 use Rattle.closure.proofs.first_fault.Tie as tie
 
@@ -19,12 +19,12 @@ first-duration-requires c κs = search rules
 
 returns : tie.Need-returns
 unfolding fault_of
-returns c = fault-window _ _ (sym (ap fault_of c.before.wrong.given.1) ∙ c.before.before.before.first-window.ensures)
+returns c = fault_window _ _ (sym (ap fault_of c.before.wrong.given.1) ∙ c.before.before.before.first-window.ensures)
 
 returns-2 : tie.Need-returns-2
 unfolding fault_of
 returns-2 c =
-    fault-duration _ _ c.first-duration.result (sym (ap fault_of c.before.enum_told.given.1) ∙ c.before.before.before.first-window.ensures)
+    fault_duration _ _ c.first-duration.result (sym (ap fault_of c.before.enum_told.given.1) ∙ c.before.before.before.first-window.ensures)
     c.first-duration.ensures
 
 pub first-fault-spec : {M : Type 1} → statement M

@@ -4,10 +4,10 @@ use Prim.Native.Nat.{◌-◌, ◌*◌}
 use native.Mathlib.Omega.{arith}
 use mathlib.Core.Path.{sym, ◌∙◌}
 use lib.ListN.{length}
-use Rattle.model.specs.Theorems.Laws.Searching.{Searched, searched_start, searched-next, searched-found, searched-all}
+use Rattle.model.specs.Theorems.Laws.Searching.{Searched, searched_start, searched_next, searched_found, searched_all}
 use Rattle.placement.specs.Day.{paper_day, window_at, pieces, wrong_window, first_window}
-use Rattle.placement.specs.Theorems.Checks.{begins-piece, pieces_end, pieces-most}
-use Rattle.closure.specs.Checking.{fault_of, ShutBefore, shut_first, shut_next, window-passed}
+use Rattle.placement.specs.Theorems.Checks.{begins_piece, pieces_end, pieces_most}
+use Rattle.closure.specs.Checking.{fault_of, ShutBefore, shut_first, shut_next, window_passed}
 use Rattle.closure.proofs.first_window.Statement.{statement}
 use Rattle.closure.proofs.first_window.Tie as tie
 
@@ -21,7 +21,7 @@ loop-holds : tie.Need-loop-init invariant-loop decreases-loop
 loop-holds c = (searched_start _ _, shut_first _)
 
 mul-loop : tie.Need-overflow-mul-loop invariant-loop decreases-loop
-mul-loop c = let n = length c.before.before.args.windows.now in omega (arith, pieces-most 8 n (omega arith), c.loop.invariant.0.within)
+mul-loop c = let n = length c.before.before.args.windows.now in omega (arith, pieces_most 8 n (omega arith), c.loop.invariant.0.within)
 
 wrong-window-requires : tie.Need-wrong-window-requires invariant-loop decreases-loop
 wrong-window-requires c κs = (omega arith, c.before.loop.invariant.1)
@@ -31,7 +31,7 @@ unfolding fault_of first_window
 returns c =
     let n = length c.before.before.before.before.before.args.windows.now in
     let l = c.before.before.before.loop in
-    sym (searched-found l.invariant.0 (begins-piece 8 n (omega arith) l.i (omega arith)) (sym c.before.wrong-window.ensures ∙ c.if1.true))
+    sym (searched_found l.invariant.0 (begins_piece 8 n (omega arith) l.i (omega arith)) (sym c.before.wrong_window_lem.ensures ∙ c.if1.true))
 
 mul-minute-at : tie.Need-overflow-mul-minute-at invariant-loop decreases-loop
 mul-minute-at c = omega arith
@@ -40,7 +40,7 @@ add-minute-at : tie.Need-overflow-add-minute-at invariant-loop decreases-loop
 add-minute-at c = omega arith
 
 minute-at-requires : tie.Need-minute-at-requires invariant-loop decreases-loop
-minute-at-requires c κs = omega (arith, (window-passed c.before.wrong-window.ensures c.if1.false).whole)
+minute-at-requires c κs = omega (arith, (window_passed c.before.wrong_window_lem.ensures c.if1.false).whole)
 
 add-i : tie.Need-overflow-add-i invariant-loop decreases-loop
 add-i c = omega arith
@@ -53,7 +53,7 @@ unfolding window_at
 loop-again c =
     let n = length c.before.before.before.before.before.before.args.windows.now in
     let l = c.before.before.before.before.loop in (
-      searched-next l.invariant.0 (begins-piece 8 n (omega arith) l.i (omega arith)) (sym c.before.before.wrong-window.ensures ∙ c.before.if1.false),
+      searched_next l.invariant.0 (begins_piece 8 n (omega arith) l.i (omega arith)) (sym c.before.before.wrong_window_lem.ensures ∙ c.before.if1.false),
       shut_next _ l.i c.minute-at.ensures.0,
     )
 
@@ -62,7 +62,7 @@ unfolding fault_of first_window
 returns-2 c =
     let n = length c.before.before.before.args.windows.now in
     let l = c.before.loop in
-    sym (searched-all l.invariant.0 (pieces_end 8 n (omega arith) l.i (omega arith)))
+    sym (searched_all l.invariant.0 (pieces_end 8 n (omega arith) l.i (omega arith)))
 
 pub first-window-spec : {M : Type 1} → statement M
 first-window-spec =

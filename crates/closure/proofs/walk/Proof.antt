@@ -8,7 +8,7 @@ use lib.Dec.{leb}
 use lib.ListN.{length}
 use Rattle.placement.specs.Day.{window_at, duration_at, pieces}
 use Rattle.placement.specs.Placing.{start_in}
-use Rattle.closure.specs.Walking.{Walking, walking_begin, walking-place, walking-leave, walking-stuck, walking-placed}
+use Rattle.closure.specs.Walking.{Walking, walking_begin, walking_place, walking_leave, walking_stuck, walking_placed}
 use Rattle.closure.proofs.walk.Statement.{statement}
 use Rattle.closure.proofs.walk.Tie as tie
 
@@ -49,7 +49,7 @@ loop-again : tie.Need-loop-preserved invariant-loop decreases-loop
 unfolding duration_at
 loop-again c =
     let t = c.before.before.before.before.before.before in
-    walking-place t.before.before.before.before.before.requires t.before.loop.invariant (omega arith) c.before.before.before.before.before.minute-at.ensures.0
+    walking_place t.before.before.before.before.before.requires t.before.loop.invariant (omega arith) c.before.before.before.before.before.minute-at.ensures.0
     (omega arith) c.before.before.put-u32.ensures
 
 mul-if2 : tie.Need-overflow-mul-if2 invariant-loop decreases-loop
@@ -61,7 +61,7 @@ same_length c = c.before.before.before.before.loop.invariant.written.kept
 returns : tie.Need-returns invariant-loop decreases-loop
 unfolding duration_at
 returns c =
-    walking-stuck c.before.before.before.before.before.before.before.before.requires c.before.before.before.before.loop.invariant (omega arith)
+    walking_stuck c.before.before.before.before.before.before.before.before.requires c.before.before.before.before.loop.invariant (omega arith)
     c.before.before.minute-at.ensures.0 (omega arith) (omega arith)
 
 mul-minute-at-2 : tie.Need-overflow-mul-minute-at-2 invariant-loop decreases-loop
@@ -93,7 +93,7 @@ unfolding duration_at window_at start_in
 loop-again-2 c =
     let t = c.before.before.before.before.before.before in
     let from = t.before.loop.from in
-    walking-leave t.before.before.before.before.before.requires t.before.loop.invariant (omega arith) c.before.before.before.before.before.minute-at.ensures.0
+    walking_leave t.before.before.before.before.before.requires t.before.loop.invariant (omega arith) c.before.before.before.before.before.minute-at.ensures.0
     (omega arith) (omega arith)
     (c.before.later.ensures ∙ ap (λ (o : ℕ). cond (leb from o) o from) c.before.before.minute-at2.ensures.0)
     c.minute-at3.ensures.0
@@ -102,7 +102,7 @@ same-length-2 : tie.Need-same-length-2 invariant-loop decreases-loop
 same-length-2 c = c.before.loop.invariant.written.kept
 
 returns-2 : tie.Need-returns-2 invariant-loop decreases-loop
-returns-2 c = walking-placed c.before.before.before.before.before.requires c.before.loop.invariant (omega arith)
+returns-2 c = walking_placed c.before.before.before.before.before.requires c.before.loop.invariant (omega arith)
 
 pub walk-spec : {M : Type 1} → statement M
 walk-spec =

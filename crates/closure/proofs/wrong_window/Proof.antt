@@ -3,13 +3,13 @@ use native.Mathlib.Omega.{arith}
 use borrow.Author.Rules.{rules}
 use lib.Dec.{ltb, ltb→lt, nltb→le, not_T}
 use Rattle.placement.specs.Day.{paper_day, window_at}
-use Rattle.closure.specs.Checking.{window-by, window-wrong, overlap}
+use Rattle.closure.specs.Checking.{window_by, window_wrong, overlap}
 use Rattle.closure.proofs.wrong_window.Statement.{statement}
 use Rattle.closure.proofs.wrong_window.Tie as tie
 
 returns : tie.Need-returns
 unfolding paper_day
-returns c = window-wrong (λ ok. omega (arith, ok.number))
+returns c = window_wrong (λ ok. omega (arith, ok.number))
 
 mul-if2 : tie.Need-overflow-mul-if2
 mul-if2 c = search rules
@@ -18,7 +18,7 @@ sub-if2 : tie.Need-overflow-sub-if2
 sub-if2 c = search rules
 
 returns-2 : tie.Need-returns-2
-returns-2 c = window-wrong (λ ok. omega (arith, ok.whole))
+returns-2 c = window_wrong (λ ok. omega (arith, ok.whole))
 
 mul-minute-at : tie.Need-overflow-mul-minute-at
 mul-minute-at c = search rules
@@ -37,18 +37,18 @@ minute-at-requires-2 c κs = search rules
 
 returns-3 : tie.Need-returns-3
 unfolding window_at
-returns-3 c = window-wrong (λ ok. omega (arith, ok.later))
+returns-3 c = window_wrong (λ ok. omega (arith, ok.later))
 
 returns-4 : tie.Need-returns-4
 unfolding window_at paper_day
-returns-4 c = window-wrong (λ ok. omega (arith, ok.in_range))
+returns-4 c = window_wrong (λ ok. omega (arith, ok.in_range))
 
 returns-5 : tie.Need-returns-5
 unfolding window_at paper_day
 returns-5 c =
     let s = c.before.before.before.before.before.before.before in
     let o = c.before.before.before.minute-at.result in
-    window-by (ltb o s.args.before)
+    window_by (ltb o s.args.before)
     (λ t ok. overlap s.requires.1 ok (omega (arith, ltb→lt o s.args.before t)))
     (λ f.
     let after = nltb→le o s.args.before (not_T (ltb o s.args.before) f) in

@@ -4,7 +4,7 @@ use mathlib.Core.Path.{refl}
 use native.Mathlib.Omega.{arith}
 use borrow.Author.Tests.{not-true, not-false, lt-ltb}
 use borrow.Author.Rules.{rules}
-use Rattle.command.specs.Checks.{misplaced-place, misplaced-head, misplaced-closed, misplaced-open}
+use Rattle.command.specs.Checks.{misplaced_place, misplaced_head, misplaced_closed, misplaced_open}
 use Rattle.command.proofs.misplaced.Statement.{statement}
 use Rattle.command.proofs.misplaced.Tie as tie
 
@@ -12,22 +12,22 @@ in-place-requires : tie.Need-in-place-requires
 in-place-requires c κs = search rules
 
 returns : tie.Need-returns
-returns c = misplaced-place _ _ _ _ _ _ _ c.before.in_place.ensures refl refl (not-true _ c.if1.true)
+returns c = misplaced_place _ _ _ _ _ _ _ c.before.in_place.ensures refl refl (not-true _ c.if1.true)
 
 head-wanted-requires : tie.Need-head-wanted-requires
 head-wanted-requires c κs = search rules
 
 returns-2 : tie.Need-returns-2
-returns-2 c = misplaced-head _ _ _ _ _ _ _ c.before.before.before.in_place.ensures c.before.head-wanted.ensures refl (not-false _ c.before.before.if1.false) (not-true _ c.if2.true)
+returns-2 c = misplaced_head _ _ _ _ _ _ _ c.before.before.before.in_place.ensures c.before.head_wanted_lem.ensures refl (not-false _ c.before.before.if1.false) (not-true _ c.if2.true)
 
 returns-3 : tie.Need-returns-3
-returns-3 c = misplaced-closed _ _ _ _ _ _ _ c.before.before.before.before.in_place.ensures c.before.before.head-wanted.ensures refl (not-false _ c.before.before.before.if1.false) (not-false _ c.before.if2.false) c.if3.true
+returns-3 c = misplaced_closed _ _ _ _ _ _ _ c.before.before.before.before.in_place.ensures c.before.before.head_wanted_lem.ensures refl (not-false _ c.before.before.before.if1.false) (not-false _ c.before.if2.false) c.if3.true
 
 after-term-requires : tie.Need-after-term-requires
 after-term-requires c κs = search rules
 
 returns-4 : tie.Need-returns-4
-returns-4 c = misplaced-open _ _ _ _ _ _ _ c.before.before.before.before.before.in_place.ensures c.before.before.before.head-wanted.ensures c.after-term.ensures (not-false _ c.before.before.before.before.if1.false) (not-false _ c.before.before.if2.false) (lt-ltb 0 c.before.before.before.before.before.before.args.terms (omega arith))
+returns-4 c = misplaced_open _ _ _ _ _ _ _ c.before.before.before.before.before.in_place.ensures c.before.before.before.head_wanted_lem.ensures c.after-term.ensures (not-false _ c.before.before.before.before.if1.false) (not-false _ c.before.before.if2.false) (lt-ltb 0 c.before.before.before.before.before.before.args.terms (omega arith))
 
 pub misplaced-spec : {M : Type 1} → statement M
 misplaced-spec =

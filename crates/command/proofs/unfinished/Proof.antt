@@ -10,7 +10,7 @@ use Rattle.model.specs.Reading.{checks16}
 use Rattle.command.specs.declared.Wanted.{Wanted}
 use Rattle.command.specs.declared.Wanted.TheVariants.{Written, Normal, Both, Stored}
 use Rattle.command.specs.Names.{place_of, wanted_of}
-use Rattle.command.specs.Checks.{unfinished-active, unfinished-stored, unfinished-place}
+use Rattle.command.specs.Checks.{unfinished_active, unfinished_stored, unfinished_place}
 use Rattle.command.specs.contracts.Wanted.{the_type}
 use Rattle.command.proofs.unfinished.Statement.{statement}
 use Rattle.command.proofs.unfinished.Tie as tie
@@ -24,7 +24,7 @@ checks Both h = refl
 checks Stored h = absurd (miss (0 ∷ 1 ∷ 2 ∷ []) 3 tt h)
 
 returns : tie.Need-returns
-returns c = unfinished-active _ _ _ c.if1.true
+returns c = unfinished_active _ _ _ c.if1.true
 
 enum_told : tie.Need-enum-told
 enum_told c = search rules
@@ -34,11 +34,11 @@ lies-requires c κs = search rules
 
 returns-2 : tie.Need-returns-2
 unfolding checks16 wanted_of
-returns-2 c = unfinished-stored _ _ _ (rw c.enum_told.given.1 refl)
+returns-2 c = unfinished_stored _ _ _ (rw c.enum_told.given.1 refl)
 
 returns-3 : tie.Need-returns-3
 unfolding place_of
-returns-3 c = unfinished-place _ _ _ _ c.before.before.if1.false (checks _ c.before.match.keys2) c.lies.ensures
+returns-3 c = unfinished_place _ _ _ _ c.before.before.if1.false (checks _ c.before.match.keys2) c.lies.ensures
 
 pub unfinished-spec : {M : Type 1} → statement M
 unfinished-spec = tie.close (tie.spec returns enum_told lies-requires returns-2 returns-3)

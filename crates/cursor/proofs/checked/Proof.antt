@@ -12,7 +12,7 @@ use Rattle.model.specs.Command.{width}
 use Rattle.cursor.specs.declared.Check.TheVariants.{Refused}
 use Rattle.command.specs.Names.{place_of, command_is, wanted_of}
 use Rattle.command.specs.Checks.{misplaced, miscounted, closes_idle}
-use Rattle.cursor.specs.State.{wrong_at, cursor_refusal, order-3, order-2, order-6, order-16, order-4, order-5, order-passes}
+use Rattle.cursor.specs.State.{wrong_at, cursor_refusal, order_3, order_2, order_6, order_16, order_4, order_5, order_passes}
 use Rattle.cursor.specs.Passing.{wrong_near}
 use Rattle.cursor.proofs.checked.Statement.{statement}
 use Rattle.cursor.proofs.checked.Tie as tie
@@ -57,7 +57,7 @@ refusal-requires c κs = search rules
 
 returns : tie.Need-returns
 unfolding cursor_refusal
-returns c = ap Refused c.refusal.ensures ∙ order-3 _ _ _ _ _ _ _ (sym c.before.before.misplaced.ensures ∙ c.before.if1.true)
+returns c = ap Refused c.refusal.ensures ∙ order_3 _ _ _ _ _ _ _ (sym c.before.before.misplaced.ensures ∙ c.before.if1.true)
 
 sub-if2 : tie.Need-overflow-sub-if2
 sub-if2 c = search rules
@@ -70,7 +70,7 @@ refusal-requires-2 c κs = search rules
 
 returns-2 : tie.Need-returns-2
 unfolding cursor_refusal
-returns-2 c = ap Refused c.refusal2.ensures ∙ order-2 _ _ _ _ _ _ _ (placed c.before.before.before) (cut c.before)
+returns-2 c = ap Refused c.refusal2.ensures ∙ order_2 _ _ _ _ _ _ _ (placed c.before.before.before) (cut c.before)
 
 miscounted-requires : tie.Need-miscounted-requires
 miscounted-requires c κs = search rules
@@ -82,7 +82,7 @@ returns-3 : tie.Need-returns-3
 unfolding cursor_refusal
 returns-3 c =
     ap Refused c.refusal3.ensures
-    ∙ order-6 _ _ _ _ _ _ _ (placed c.before.before.before.before.before) (uncut c.before.before.before)
+    ∙ order_6 _ _ _ _ _ _ _ (placed c.before.before.before.before.before) (uncut c.before.before.before)
     (sym c.before.before.miscounted.ensures ∙ c.before.if3.true)
 
 closes-idle-requires : tie.Need-closes-idle-requires
@@ -95,7 +95,7 @@ returns-4 : tie.Need-returns-4
 unfolding cursor_refusal
 returns-4 c =
     ap Refused c.refusal4.ensures
-    ∙ order-16 _ _ _ _ _ _ _ (placed c.before.before.before.before.before.before.before) (uncut c.before.before.before.before.before) (counted c.before.before.before)
+    ∙ order_16 _ _ _ _ _ _ _ (placed c.before.before.before.before.before.before.before) (uncut c.before.before.before.before.before) (counted c.before.before.before)
     (sym c.before.before.closes-idle.ensures ∙ c.before.if4.true)
 
 wrong-operand-requires : tie.Need-wrong-operand-requires
@@ -112,7 +112,7 @@ unfolding cursor_refusal wrong_at
 returns-5 c =
     ap Refused c.refusal5.ensures
     ∙ ap (λ (n : ℕ). Refused (record { number = 4; place = c.before.before.before.before.before.before.before.before.before.before.before.before.args.c.at + n })) c.before.before.wrong-operand.ensures
-    ∙ order-4 _ _ _ _ _ _ _ (placed c.before.before.before.before.before.before.before.before.before) (uncut c.before.before.before.before.before.before.before) (counted c.before.before.before.before.before) (busy c.before.before.before) (wrong c.before)
+    ∙ order_4 _ _ _ _ _ _ _ (placed c.before.before.before.before.before.before.before.before.before) (uncut c.before.before.before.before.before.before.before) (counted c.before.before.before.before.before) (busy c.before.before.before) (wrong c.before)
 
 named-again-requires : tie.Need-named-again-requires
 named-again-requires c κs = (c.before.before.before.before.before.before.before.before.before.before.before.requires, room c.before.before.before.before.before.before, ranged c)
@@ -124,13 +124,13 @@ returns-6 : tie.Need-returns-6
 unfolding cursor_refusal
 returns-6 c =
     ap Refused c.refusal6.ensures
-    ∙ order-5 _ _ _ _ _ _ _ (placed c.before.before.before.before.before.before.before.before.before.before.before) (uncut c.before.before.before.before.before.before.before.before.before) (counted c.before.before.before.before.before.before.before) (busy c.before.before.before.before.before) (ranged c.before.before.before)
+    ∙ order_5 _ _ _ _ _ _ _ (placed c.before.before.before.before.before.before.before.before.before.before.before) (uncut c.before.before.before.before.before.before.before.before.before) (counted c.before.before.before.before.before.before.before) (busy c.before.before.before.before.before) (ranged c.before.before.before)
     (sym c.before.before.Named-again.ensures ∙ c.before.if6.true)
 
 returns-7 : tie.Need-returns-7
 unfolding cursor_refusal
 returns-7 c =
-    order-passes _ _ _ _ _ _ _ (placed c.before.before.before.before.before.before.before.before.before.before) (uncut c.before.before.before.before.before.before.before.before) (counted c.before.before.before.before.before.before) (busy c.before.before.before.before) (ranged c.before.before)
+    order_passes _ _ _ _ _ _ _ (placed c.before.before.before.before.before.before.before.before.before.before) (uncut c.before.before.before.before.before.before.before.before) (counted c.before.before.before.before.before.before) (busy c.before.before.before.before) (ranged c.before.before)
     (sym c.before.Named-again.ensures ∙ c.if6.false)
 
 pub checked-spec : {M : Type 1} → statement M

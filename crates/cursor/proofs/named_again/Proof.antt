@@ -11,7 +11,7 @@ use Rattle.model.specs.Limits.{paper}
 use Rattle.model.specs.Command.{width, need_prop, add_prop, delete_prop, close_effect}
 use Rattle.command.specs.Names.{command_is}
 use Rattle.cursor.specs.State.{wrong_at, repeated}
-use Rattle.cursor.specs.Passing.{need-range, add-range, delete-range, effect-range}
+use Rattle.cursor.specs.Passing.{need_range, add_range, delete_range, effect_range}
 use Rattle.cursor.proofs.named_again.Statement.{statement}
 use Rattle.cursor.proofs.named_again.Tie as tie
 
@@ -70,7 +70,7 @@ add-named : tie.Need-overflow-add-named
 add-named c = search rules
 
 named-requires : tie.Need-named-requires
-named-requires c κs = (omega (arith, uncut5 c), omega (arith, need-range c.before.before.before.args.table.now c.before.before.before.args.c (ranged5 c), c.before.before.before.requires.0.props))
+named-requires c κs = (omega (arith, uncut5 c), omega (arith, need_range c.before.before.before.args.table.now c.before.before.before.args.c (ranged5 c), c.before.before.before.requires.0.props))
 
 enum-told-6 : tie.Need-enum-told-6
 enum-told-6 c = search rules
@@ -79,7 +79,7 @@ add-named-2 : tie.Need-overflow-add-named-2
 add-named-2 c = search rules
 
 named-requires-2 : tie.Need-named-requires-2
-named-requires-2 c κs = (omega (arith, uncut6 c), omega (arith, add-range c.before.before.before.args.table.now c.before.before.before.args.c (ranged6 c), c.before.before.before.requires.0.props))
+named-requires-2 c κs = (omega (arith, uncut6 c), omega (arith, add_range c.before.before.before.args.table.now c.before.before.before.args.c (ranged6 c), c.before.before.before.requires.0.props))
 
 enum-told-7 : tie.Need-enum-told-7
 enum-told-7 c = search rules
@@ -88,7 +88,7 @@ add-named-3 : tie.Need-overflow-add-named-3
 add-named-3 c = search rules
 
 named-requires-3 : tie.Need-named-requires-3
-named-requires-3 c κs = (omega (arith, uncut7 c), omega (arith, delete-range c.before.before.before.args.table.now c.before.before.before.args.c (ranged7 c), c.before.before.before.requires.0.props))
+named-requires-3 c κs = (omega (arith, uncut7 c), omega (arith, delete_range c.before.before.before.args.table.now c.before.before.before.args.c (ranged7 c), c.before.before.before.requires.0.props))
 
 enum-told-8 : tie.Need-enum-told-8
 enum-told-8 c = search rules
@@ -119,7 +119,7 @@ mul-result : tie.Need-overflow-mul-result
 mul-result c = search rules
 
 element-copy-out-result : tie.Need-element-copy-out-result
-element-copy-out-result c = omega (arith, effect-range c.before.before.before.before.args.table.now c.before.before.before.before.args.c (ranged10 c.before), c.byte2.ensures.0, c.before.before.before.before.requires.0.vars)
+element-copy-out-result c = omega (arith, effect_range c.before.before.before.before.args.table.now c.before.before.before.before.args.c (ranged10 c.before), c.byte2.ensures.0, c.before.before.before.before.requires.0.vars)
 
 enum-told-11 : tie.Need-enum-told-11
 enum-told-11 c = search rules

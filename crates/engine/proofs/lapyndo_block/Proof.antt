@@ -1,7 +1,7 @@
 -- `lapyndo_block` meets its contract. Assumes nothing.
 use mathlib.Core.Path.{◌∙◌}
 use Rattle.model.specs.Theorems.Sizes.Answers.{block_refused}
-use Rattle.codes.specs.Parts.{block-fits, block-answer, block_copied}
+use Rattle.codes.specs.Parts.{block_fits, block_answer_lem, block_copied}
 use borrow.Author.Rules.{rules}
 use Rattle.engine.proofs.lapyndo_block.Statement.{statement}
 use Rattle.engine.proofs.lapyndo_block.Tie as tie
@@ -14,7 +14,7 @@ copy-requires c κs = search rules
 
 part-code-requires : tie.Need-part-code-requires
 part-code-requires c κs =
-    block-fits _ (block_refused _ _) c.before.before.before.before.block_at.ensures.1
+    block_fits _ (block_refused _ _) c.before.before.before.before.block_at.ensures.1
     c.before.before.before.before.block_at.ensures.2
 
 same_length : tie.Need-same-length
@@ -22,8 +22,8 @@ same_length c = search rules
 
 returns : tie.Need-returns
 returns c = (
-  c.part-code.ensures
-      ∙ block-answer _ (block_refused _ _) c.before.before.before.before.before.block_at.ensures.1
+  c.part_code.ensures
+      ∙ block_answer_lem _ (block_refused _ _) c.before.before.before.before.before.block_at.ensures.1
       c.before.before.before.before.before.block_at.ensures.2 _ c.before.before.before.before.before.block_at.ensures.0,
   block_copied _ _ c.before.before.before.before.before.block_at.ensures.0 c.before.before.before.copy.ensures,
 )

@@ -2,8 +2,8 @@
 use mathlib.Core.Path.{ap, ◌∙◌}
 use Rattle.model.specs.declared.PlanAnswer.{PlanAnswer}
 use Rattle.model.specs.Exports.{decide_code, plan_code, plan_record_count, plan_first_moves}
-use Rattle.model.specs.Theorems.Campaigns.OneCall.{campaign-promise}
-use Rattle.model.specs.Theorems.Sizes.Answers.{campaign-decision-small, campaign-plan-small}
+use Rattle.model.specs.Theorems.Campaigns.OneCall.{campaign_promise}
+use Rattle.model.specs.Theorems.Sizes.Answers.{campaign_decision_small, campaign_plan_small}
 use borrow.Author.Rules.{rules}
 use Rattle.engine.proofs.lapyndo_campaign.Statement.{statement}
 use Rattle.engine.proofs.lapyndo_campaign.Tie as tie
@@ -12,10 +12,10 @@ campaign-requires : tie.Need-campaign-requires
 campaign-requires c κs = search rules
 
 decide-code-requires : tie.Need-decide-code-requires
-decide-code-requires c κs = rw c.before.before.before.before.before.campaign.ensures.decision (campaign-decision-small _ _ _ _)
+decide-code-requires c κs = rw c.before.before.before.before.before.campaign.ensures.decision (campaign_decision_small _ _ _ _)
 
 plan-code-requires : tie.Need-plan-code-requires
-plan-code-requires c κs = rw c.before.before.before.before.before.before.before.before.campaign.ensures.plan (campaign-plan-small _ _ _ _ _)
+plan-code-requires c κs = rw c.before.before.before.before.before.before.before.before.campaign.ensures.plan (campaign_plan_small _ _ _ _ _)
 
 same_length : tie.Need-same-length
 same_length c = search rules
@@ -35,7 +35,7 @@ returns c = (
   c.before.before.before.before.before.before.before.before.before.campaign.ensures.normal,
   c.before.before.before.before.before.before.before.before.before.campaign.ensures.memory,
   c.before.before.before.before.before.before.before.before.before.campaign.ensures.list,
-  rw c.before.before.before.before.before.before.before.before.before.campaign.ensures.list (campaign-promise _ _ _ _ _),
+  rw c.before.before.before.before.before.before.before.before.before.campaign.ensures.list (campaign_promise _ _ _ _ _),
 )
 
 pub lapyndo-campaign-spec : {M : Type 1} → statement M

@@ -2,8 +2,8 @@
 use mathlib.Core.Path.{ap, ◌∙◌}
 use Rattle.model.specs.declared.PlanAnswer.{PlanAnswer}
 use Rattle.model.specs.Exports.{decide_code, plan_code, plan_record_count, plan_first_moves}
-use Rattle.ceiling.specs.Theorems.Sizes.{campaign-decision-small-under, campaign-plan-small-under}
-use Rattle.ceiling.specs.Theorems.EndToEnd.{promise-under}
+use Rattle.ceiling.specs.Theorems.Sizes.{campaign_decision_small_under, campaign_plan_small_under}
+use Rattle.ceiling.specs.Theorems.EndToEnd.{promise_under}
 use borrow.Author.Rules.{rules}
 use Rattle.engine.proofs.lapyndo_rig_campaign.Statement.{statement}
 use Rattle.engine.proofs.lapyndo_rig_campaign.Tie as tie
@@ -15,10 +15,10 @@ rig-campaign-requires : tie.Need-rig-campaign-requires
 rig-campaign-requires c κs = search rules
 
 decide-code-requires : tie.Need-decide-code-requires
-decide-code-requires c κs = rw c.before.before.before.before.before.rig-campaign.ensures.decision (campaign-decision-small-under _ _ _ _ _)
+decide-code-requires c κs = rw c.before.before.before.before.before.rig-campaign.ensures.decision (campaign_decision_small_under _ _ _ _ _)
 
 plan-code-requires : tie.Need-plan-code-requires
-plan-code-requires c κs = rw c.before.before.before.before.before.before.before.before.rig-campaign.ensures.plan (campaign-plan-small-under _ _ _ _ _ _)
+plan-code-requires c κs = rw c.before.before.before.before.before.before.before.before.rig-campaign.ensures.plan (campaign_plan_small_under _ _ _ _ _ _)
 
 same_length : tie.Need-same-length
 same_length c = search rules
@@ -44,7 +44,7 @@ returns c =
       rw board at e.normal,
       rw board at e.memory,
       list,
-      rw list (promise-under _ _ _ _ _ _),
+      rw list (promise_under _ _ _ _ _ _),
     )
 
 pub lapyndo-rig-campaign-spec : {M : Type 1} → statement M

@@ -1,7 +1,7 @@
 -- `lapyndo_rig_decide` meets its contract. Assumes nothing.
 use mathlib.Core.Path.{ap, ◌∙◌}
 use Rattle.model.specs.Exports.{decide_code}
-use Rattle.ceiling.specs.Theorems.Sizes.{decide-small-under}
+use Rattle.ceiling.specs.Theorems.Sizes.{decide_small_under}
 use borrow.Author.Rules.{rules}
 use Rattle.engine.proofs.lapyndo_rig_decide.Statement.{statement}
 use Rattle.engine.proofs.lapyndo_rig_decide.Tie as tie
@@ -13,7 +13,7 @@ decide-requires : tie.Need-decide-requires
 decide-requires c κs = search rules
 
 decide-code-requires : tie.Need-decide-code-requires
-decide-code-requires c κs = rw c.before.decide.ensures.0 (decide-small-under _ _ _ _)
+decide-code-requires c κs = rw c.before.decide.ensures.0 (decide_small_under _ _ _ _)
 
 same_length : tie.Need-same-length
 same_length c = search rules

@@ -5,7 +5,7 @@ use Rattle.model.specs.Limits.{paper}
 use Rattle.ceiling.specs.Ceiling.{normalise_answer_under}
 use Rattle.model.specs.Exports.{write_code}
 use Rattle.model.specs.Theorems.Sizes.Answers.{write_wider}
-use Rattle.ceiling.specs.Theorems.Sizes.{normalise-small-under}
+use Rattle.ceiling.specs.Theorems.Sizes.{normalise_small_under}
 use borrow.Author.Rules.{rules}
 use Rattle.engine.proofs.lapyndo_rig_normalise.Statement.{statement}
 use Rattle.engine.proofs.lapyndo_rig_normalise.Tie as tie
@@ -17,7 +17,7 @@ normalise-requires : tie.Need-normalise-requires
 normalise-requires c κs = search rules
 
 write-code-requires : tie.Need-write-code-requires
-write-code-requires c κs = rw c.before.before.normalise.ensures.0 (write_wider (normalise_answer_under _ paper _ _) (omega arith) (normalise-small-under _ _ _))
+write-code-requires c κs = rw c.before.before.normalise.ensures.0 (write_wider (normalise_answer_under _ paper _ _) (omega arith) (normalise_small_under _ _ _))
 
 same_length : tie.Need-same-length
 same_length c = search rules

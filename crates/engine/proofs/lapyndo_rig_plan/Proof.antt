@@ -2,7 +2,7 @@
 use mathlib.Core.Path.{ap, ◌∙◌}
 use Rattle.model.specs.declared.PlanAnswer.{PlanAnswer}
 use Rattle.model.specs.Exports.{plan_code, plan_record_count, plan_first_moves}
-use Rattle.ceiling.specs.Theorems.Sizes.{plan-small-under}
+use Rattle.ceiling.specs.Theorems.Sizes.{plan_small_under}
 use borrow.Author.Rules.{rules}
 use Rattle.engine.proofs.lapyndo_rig_plan.Statement.{statement}
 use Rattle.engine.proofs.lapyndo_rig_plan.Tie as tie
@@ -14,7 +14,7 @@ plan-requires : tie.Need-plan-requires
 plan-requires c κs = search rules
 
 plan-code-requires : tie.Need-plan-code-requires
-plan-code-requires c κs = rw c.before.before.before.before.before.plan.ensures.0 (plan-small-under _ _ _ _ _)
+plan-code-requires c κs = rw c.before.before.before.before.before.plan.ensures.0 (plan_small_under _ _ _ _ _)
 
 same_length : tie.Need-same-length
 same_length c = search rules

@@ -1,7 +1,7 @@
 -- `lapyndo_rig_read` meets its contract. Assumes nothing.
 use mathlib.Core.Path.{ap, ◌∙◌}
 use Rattle.model.specs.Exports.{read_code}
-use Rattle.ceiling.specs.Theorems.Sizes.{read-small-under}
+use Rattle.ceiling.specs.Theorems.Sizes.{read_small_under}
 use borrow.Author.Rules.{rules}
 use Rattle.engine.proofs.lapyndo_rig_read.Statement.{statement}
 use Rattle.engine.proofs.lapyndo_rig_read.Tie as tie
@@ -13,7 +13,7 @@ read-requires : tie.Need-read-requires
 read-requires c κs = search rules
 
 read-code-requires : tie.Need-read-code-requires
-read-code-requires c κs = rw c.read.ensures (read-small-under _ _)
+read-code-requires c κs = rw c.read.ensures (read_small_under _ _)
 
 returns : tie.Need-returns
 returns c = rw c.before.before.board.ensures at (c.read-code.ensures ∙ ap read_code c.before.read.ensures)

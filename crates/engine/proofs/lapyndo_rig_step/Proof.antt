@@ -5,7 +5,7 @@ use Rattle.model.specs.Limits.{paper}
 use Rattle.ceiling.specs.Ceiling.{step_answer_under}
 use Rattle.model.specs.Exports.{write_code}
 use Rattle.model.specs.Theorems.Sizes.Answers.{write_wider}
-use Rattle.ceiling.specs.Theorems.Sizes.{step-small-under}
+use Rattle.ceiling.specs.Theorems.Sizes.{step_small_under}
 use borrow.Author.Rules.{rules}
 use Rattle.engine.proofs.lapyndo_rig_step.Statement.{statement}
 use Rattle.engine.proofs.lapyndo_rig_step.Tie as tie
@@ -17,7 +17,7 @@ step-requires : tie.Need-step-requires
 step-requires c κs = search rules
 
 write-code-requires : tie.Need-write-code-requires
-write-code-requires c κs = rw c.before.before.step.ensures.0 (write_wider (step_answer_under _ paper _ _ _ _) (omega arith) (step-small-under _ _ _ _ _))
+write-code-requires c κs = rw c.before.before.step.ensures.0 (write_wider (step_answer_under _ paper _ _ _ _) (omega arith) (step_small_under _ _ _ _ _))
 
 same_length : tie.Need-same-length
 same_length c = search rules

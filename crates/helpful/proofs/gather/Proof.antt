@@ -15,19 +15,19 @@ use Rattle.model.specs.Move.{move_at}
 use Rattle.block.specs.Parts.{ranges_of}
 use Rattle.block.specs.Items.{Left}
 use Rattle.stored_layer.specs.View.{held_by, held_at}
-use Rattle.helpful.specs.Sets.{Gatherable, helpfulIn, setFrom, set-none, set_all, set-fits, set_next, unused, tested as move-tested}
+use Rattle.helpful.specs.Sets.{Gatherable, helpful_in, set_from, set_none, set_all, set_fits, set_next, unused, tested as move-tested}
 use Rattle.helpful.proofs.gather.Statement.{statement}
 use Rattle.helpful.proofs.gather.Tie as tie
 
 abbrev invariant-loop : tie.invariant-loop
 invariant-loop table marks wanted targets layers row props moves set₀ b₀ set b =
-    (b ≤ moves) × ((x : Gatherable table marks wanted targets layers row props moves) → set ≡ setFrom x b)
+    (b ≤ moves) × ((x : Gatherable table marks wanted targets layers row props moves) → set ≡ set_from x b)
 
 abbrev decreases-loop : tie.decreases-loop
 decreases-loop table marks wanted targets layers row props moves set₀ b₀ set b = b
 
 loop-holds : tie.Need-loop-init invariant-loop decreases-loop
-loop-holds c = (omega arith, λ x. set-none x)
+loop-holds c = (omega arith, λ x. set_none x)
 
 sub-b : tie.Need-overflow-sub-b invariant-loop decreases-loop
 sub-b c = omega arith
@@ -46,12 +46,12 @@ below i = omega (arith, i.loop-test.true, i.before.loop.invariant.0)
 
 -- the set, doubled
 fits : (i : tie.In-loop invariant-loop decreases-loop) → 2 * i.before.loop.set + 1 < 2 ^ 64
-fits i = let x = i.before.before.before.before.requires in set-fits x i.before.loop.b i.loop-test.true i.before.loop.invariant.0 (i.before.loop.invariant.1 x)
+fits i = let x = i.before.before.before.before.requires in set_fits x i.before.loop.b i.loop-test.true i.before.loop.invariant.0 (i.before.loop.invariant.1 x)
 
 -- the set with the move's bit
 next :
-    (i : tie.In-loop invariant-loop decreases-loop) (x : Reading i) (t : Bool) → helpfulIn x (move_at x.task (number i)) ≡ t
-    → cond t 1 0 + 2 * i.before.loop.set ≡ setFrom x (number i)
+    (i : tie.In-loop invariant-loop decreases-loop) (x : Reading i) (t : Bool) → helpful_in x (move_at x.task (number i)) ≡ t
+    → cond t 1 0 + 2 * i.before.loop.set ≡ set_from x (number i)
 next i x t e = set_next x i.before.loop.b i.loop-test.true i.before.loop.invariant.0 (i.before.loop.invariant.1 x) t e
 
 -- the move's entry is there
@@ -92,11 +92,11 @@ loop-again c =
 part-requires : tie.Need-part-requires invariant-loop decreases-loop
 part-requires c κs = let i = c.before.before.before in i.before.before.before.before.requires.parts.inside (number i) (omega (arith, below i, i.before.before.before.before.requires.many))
 
-move-left :
+move_left :
     (c : tie.After-part invariant-loop decreases-loop)
     → let i = c.before.before.before.before in
     (x : Reading i) → Left (ranges_of normal x.task) c.part.result.now 1 (move_at x.task (number i))
-move-left c x =
+move_left c x =
     let i = c.before.before.before.before in
     subst (λ (l : List ℕ). Left (ranges_of normal x.task) l 1 (move_at x.task (number i))) (sym c.part.ensures.0) (x.parts.move (number i) (omega (arith, below i, x.many)))
 
@@ -104,7 +104,7 @@ supports-requires : tie.Need-supports-requires invariant-loop decreases-loop
 supports-requires c κs =
     let i = c.before.before.before.before in
     let x = i.before.before.before.before.requires in
-    record { ranges = ranges_of normal x.task; block = move_at x.task (number i); over = (x.over, x.wants); left = move-left c x; scene = x.scene }
+    record { ranges = ranges_of normal x.task; block = move_at x.task (number i); over = (x.over, x.wants); left = move_left c x; scene = x.scene }
 
 loop-less-2 : tie.Need-loop-smaller-2 invariant-loop decreases-loop
 loop-less-2 c = omega (arith, c.before.before.before.before.before.before.loop-test.true)
@@ -113,11 +113,11 @@ loop-less-2 c = omega (arith, c.before.before.before.before.before.before.loop-t
 tested :
     (c : tie.After-supports invariant-loop decreases-loop)
     → let i = c.before.before.before.before.before in
-    (x : Reading i) → helpfulIn x (move_at x.task (number i)) ≡ c.supports.result
+    (x : Reading i) → helpful_in x (move_at x.task (number i)) ≡ c.supports.result
 tested c x =
     let i = c.before.before.before.before.before in
     let e = c.before.before in
-    move-tested x (below i) (held-is e.before) (c.supports.ensures.is (ranges_of normal x.task) (move_at x.task (number i)) (x.over, x.wants) (move-left c.before x) x.scene)
+    move-tested x (below i) (held-is e.before) (c.supports.ensures.is (ranges_of normal x.task) (move_at x.task (number i)) (x.over, x.wants) (move_left c.before x) x.scene)
     ∙ ap (λ (u : Bool). u && c.supports.result) (not-false e.before.held.result e.if1.false)
 
 loop-again-2 : tie.Need-loop-preserved-2 invariant-loop decreases-loop

@@ -5,7 +5,7 @@ use mathlib.Core.Path.{◌≡◌}
 use borrow.Author.Rules.{rules}
 use lib.ListN.{length, drop, take, length-drop}
 use lib.Seq.{take_all}
-use Rattle.helpful.specs.Sets.{layer-gatherable}
+use Rattle.helpful.specs.Sets.{layer_gatherable}
 use Rattle.helpful.proofs.helpful_moves.Statement.{statement}
 use Rattle.helpful.proofs.helpful_moves.Tie as tie
 
@@ -34,10 +34,10 @@ row_is c =
     take_all (length a.layers.now - (a.props + a.moves)) (drop (a.props + a.moves) a.layers.now) (omega (arith, length-drop (a.props + a.moves) a.layers.now))
 
 gather-requires : tie.Need-gather-requires
-gather-requires c κs = layer-gatherable c.before.before.before.before.before.before.before.requires (row_is c)
+gather-requires c κs = layer_gatherable c.before.before.before.before.before.before.before.requires (row_is c)
 
 returns : tie.Need-returns
-returns c x = record { is = c.gather.ensures (layer-gatherable x (row_is c.before)) }
+returns c x = record { is = c.gather.ensures (layer_gatherable x (row_is c.before)) }
 
 pub helpful-moves-spec : {M : Type 1} → statement M
 helpful-moves-spec =

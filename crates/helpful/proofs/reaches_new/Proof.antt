@@ -4,10 +4,10 @@ use mathlib.Core.Path.{◌≡◌, sym, ap, ◌∙◌}
 use Rattle.integer.specs.Linear.{back, back_small}
 use Rattle.model.specs.Layer.{Value, reaches, layer_value}
 use Rattle.model.specs.Memory.{encode}
-use Rattle.block.specs.Blocks.{layer_summable, layer-effect-value, effect_base}
+use Rattle.block.specs.Blocks.{layer_summable, layer_effect_value, effect_base}
 use Rattle.targets.specs.Encoding.{is_free}
 use Rattle.achievers.specs.Search.{demand_by, demand_code}
-use Rattle.helpful.specs.Support.{new-free, new-had, new-tested}
+use Rattle.helpful.specs.Support.{new_free, new_had, new_tested}
 use borrow.Author.Rules.{rules}
 use Rattle.helpful.proofs.reaches_new.Statement.{statement}
 use Rattle.helpful.proofs.reaches_new.Tie as tie
@@ -28,7 +28,7 @@ reached c x e =
     sym (c.reaches.ensures x (back a.args.old a.ranges.old.sfits ∙ e) ∙ ap (reaches x) (back a.args.target a.ranges.target.sfits))
 
 returns : tie.Need-returns
-returns c = record { is = λ k e l t effect row old target small. new-free l t e target small (sym (freed c.before) ∙ c.if1.true) }
+returns c = record { is = λ k e l t effect row old target small. new_free l t e target small (sym (freed c.before) ∙ c.if1.true) }
 
 reaches-requires : tie.Need-reaches-requires
 reaches-requires c κs = search rules
@@ -38,7 +38,7 @@ returns-2 c =
     record {
       is =
           λ k e l t effect row old target small.
-          new-had l t e target (sym (freed c.before.before.before) ∙ c.before.before.if1.false) (reached c.before (l.val e.var) old ∙ c.if2.true);
+          new_had l t e target (sym (freed c.before.before.before) ∙ c.before.before.if1.false) (reached c.before (l.val e.var) old ∙ c.if2.true);
     }
 
 layer-value-requires : tie.Need-layer-value-requires
@@ -60,9 +60,9 @@ returns-3 c =
     record {
       is =
           λ k e l t effect row old target small.
-          let value = layer-effect-value l row effect (rw (back_small a.args.base (omega (arith, effect_base effect))) at v.layer-value.ensures) in
-          new-tested l t e target (sym (freed g.before.before.before) ∙ g.before.before.if1.false) (reached g.before (l.val e.var) old ∙ g.if2.false)
-          (c.reaches2.ensures (layer_value l e) (back v.layer-value.result v.layer-value.type-inv ∙ value.is)
+          let value = layer_effect_value l row effect (rw (back_small a.args.base (omega (arith, effect_base effect))) at v.layer_value.ensures) in
+          new_tested l t e target (sym (freed g.before.before.before) ∙ g.before.before.if1.false) (reached g.before (l.val e.var) old ∙ g.if2.false)
+          (c.reaches2.ensures (layer_value l e) (back v.layer_value.result v.layer_value.type-inv ∙ value.is)
           ∙ ap (reaches (layer_value l e)) (back c.before.demand.result c.before.demand.type-inv ∙ c.before.demand.ensures ∙ ap (demand_by a.args.kind) (back a.args.target a.ranges.target.sfits) ∙ demand_code e.kind a.args.target effect.kind));
     }
 

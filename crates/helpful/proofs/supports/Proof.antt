@@ -16,12 +16,12 @@ use Rattle.model.specs.Layer.{Layer}
 use Rattle.model.specs.Plan.{Wants, supports}
 use Rattle.stored_layer.specs.View.{held_by}
 use Rattle.block.specs.Items.{Ranges, Found, readable, next_ahead}
-use Rattle.block.specs.Blocks.{Walk, Passing, walk_start, walk-found, walk-next, walk-stop, next_is, any-true, any_false, effect_base}
+use Rattle.block.specs.Blocks.{Walk, Passing, walk_start, walk_found, walk_next, walk_stop, next_is, any_true, any_false, effect_base}
 use Rattle.block.specs.declared.ItemAt.{ItemAt}
 use Rattle.block.specs.declared.ItemAt.TheVariants.{Need, Add, Delete, Condition as ConditionAt, Effect as EffectAt, End}
 use Rattle.block.specs.contracts.ItemAt.{the_type}
 use Rattle.block.proofs.Passed.{before_end}
-use Rattle.helpful.specs.Support.{ReachesNew, Scene, supporting, wanted_room, has_room, target_room, row_room, prop-supports, effect-supports}
+use Rattle.helpful.specs.Support.{ReachesNew, Scene, supporting, wanted_room, has_room, target_room, row_room, prop_supports, effect_supports}
 use Rattle.helpful.proofs.supports.Statement.{statement}
 use Rattle.helpful.proofs.supports.Tie as tie
 
@@ -55,7 +55,7 @@ Found_at n i =
 found_at : (n : tie.After-next invariant-loop decreases-loop) {i : ItemAt} → n.next.result ≡ i → Found_at n i
 found_at n e =
     let p = n.before.before.before.requires in
-    walk-found (Over _ _ _ _) supporting n.before.loop.invariant p.ranges p.block p.over p.left p.scene (next_is n.next.ensures e)
+    walk_found (Over _ _ _ _) supporting n.before.loop.invariant p.ranges p.block p.over p.left p.scene (next_is n.next.ensures e)
 
 element-copy-out-lacking : tie.Need-element-copy-out-lacking invariant-loop decreases-loop
 element-copy-out-lacking c =
@@ -87,8 +87,8 @@ returns c =
     let n = m.before.before in
     record {
       is =
-          walk-stop (Over _ _ _ _) supporting n.before.loop.invariant (next_is n.next.ensures m.item.given.1)
-          (λ k s x h. any-true (supports s.0 s.1) (prop-supports x h (c.before.before.held.ensures ∙ ap (λ (e : ℤ). held_by e 0) (back _ c.before.before.before.held-arg.given)) ∙ sym c.before.lacking.ensures ∙ c.if1.true));
+          walk_stop (Over _ _ _ _) supporting n.before.loop.invariant (next_is n.next.ensures m.item.given.1)
+          (λ k s x h. any_true (supports s.0 s.1) (prop_supports x h (c.before.before.held.ensures ∙ ap (λ (e : ℤ). held_by e 0) (back _ c.before.before.before.held-arg.given)) ∙ sym c.before.lacking.ensures ∙ c.if1.true));
     }
 
 enum-known-item-2 : tie.Need-enum-known-item-2 invariant-loop decreases-loop
@@ -149,8 +149,8 @@ returns-2 c =
     let n = m.before.before in
     record {
       is =
-          walk-stop (Over _ _ _ _) supporting n.before.loop.invariant (next_is n.next.ensures m.item2.given.1)
-          (λ k s e x at-v h. any-true (supports s.0 s.1) (effect-supports x at-v h (tested c.before (omega (arith, effect_base h))) ∙ c.if2.true));
+          walk_stop (Over _ _ _ _) supporting n.before.loop.invariant (next_is n.next.ensures m.item2.given.1)
+          (λ k s e x at-v h. any_true (supports s.0 s.1) (effect_supports x at-v h (tested c.before (omega (arith, effect_base h))) ∙ c.if2.true));
     }
 
 enum_told : tie.Need-enum-told invariant-loop decreases-loop
@@ -161,7 +161,7 @@ unfolding any
 returns-3 c =
     let n = c.before.before in
     record {
-      is = walk-stop (Over _ _ _ _) supporting n.before.loop.invariant (next_is n.next.ensures c.enum_told.given.1) (λ s. refl);
+      is = walk_stop (Over _ _ _ _) supporting n.before.loop.invariant (next_is n.next.ensures c.enum_told.given.1) (λ s. refl);
     }
 
 behind-requires : tie.Need-behind-requires invariant-loop decreases-loop
@@ -197,13 +197,13 @@ passes : (c : tie.At-match-branch invariant-loop decreases-loop) → Passes c.be
 passes c =
     let start = c.before.before.before.before in
     ⊎_elim
-    (λ w. subst (Passes start) (sym w.8) (λ k s x h. any_false (supports s.0 s.1) (prop-supports x h (w.5.ensures ∙ ap (λ (e : ℤ). held_by e 0) (back _ w.4.given)) ∙ sym w.6.ensures ∙ w.7.left)))
+    (λ w. subst (Passes start) (sym w.8) (λ k s x h. any_false (supports s.0 s.1) (prop_supports x h (w.5.ensures ∙ ap (λ (e : ℤ). held_by e 0) (back _ w.4.given)) ∙ sym w.6.ensures ∙ w.7.left)))
     (⊎_elim
     (λ w.
     subst (Passes start) (sym w.7)
     (λ k s e x at-v h.
     any_false (supports s.0 s.1)
-    (effect-supports x at-v h
+    (effect_supports x at-v h
     (rw (back_small w.1.given.0.1.1.0 (omega (arith, effect_base h)), back _ w.3.given, back _ w.4.given) at w.5.ensures)
     ∙ w.6.left)))
     (λ w. subst (Passes start) (sym w.1) (no-support start.args.part.now (Over _ _ _ _) c.before.next.result w.0.keys4)))
@@ -219,7 +219,7 @@ loop-again : tie.Need-loop-preserved invariant-loop decreases-loop
 loop-again c =
     let n = c.before.before in
     subst (Walk _ (Over _ _ _ _) supporting) (sym c.behind.ensures)
-    (walk-next (Over _ _ _ _) supporting n.before.loop.invariant (inside c.before)
+    (walk_next (Over _ _ _ _) supporting n.before.loop.invariant (inside c.before)
     (next_is n.next.ensures (same c.before)) (passes c.before))
 
 pub supports-spec : {M : Type 1} → statement M

@@ -2,7 +2,7 @@
 -- The measure is what is left of the width. Assumes nothing.
 use Prim.Native.Nat.{◌-◌}
 use native.Mathlib.Omega.{arith}
-use Rattle.integer.specs.Store.{Stored, stored_none, stored-length, stored_next, stored-all}
+use Rattle.integer.specs.Store.{Stored, stored_none, stored_length, stored_next, stored_all}
 use Rattle.integer.proofs.put_unsigned.Statement.{statement}
 use Rattle.integer.proofs.put_unsigned.Tie as tie
 
@@ -28,7 +28,7 @@ add-out : tie.Need-overflow-add-out invariant-loop decreases-loop
 add-out c = omega arith
 
 slice-write-out : tie.Need-slice-write-out invariant-loop decreases-loop
-slice-write-out c = omega (arith, stored-length c.before.before.requires c.before.loop.invariant)
+slice-write-out c = omega (arith, stored_length c.before.before.requires c.before.loop.invariant)
 
 add_done : tie.Need-overflow-add-done invariant-loop decreases-loop
 add_done c = omega arith
@@ -40,10 +40,10 @@ loop-again : tie.Need-loop-preserved invariant-loop decreases-loop
 loop-again c = stored_next c.before.before.requires (omega arith) c.before.loop.invariant
 
 same_length : tie.Need-same-length invariant-loop decreases-loop
-same_length c = stored-length c.before.before.requires c.before.loop.invariant
+same_length c = stored_length c.before.before.requires c.before.loop.invariant
 
 returns : tie.Need-returns invariant-loop decreases-loop
-returns c = stored-all c.before.before.requires c.before.loop.invariant (omega arith)
+returns c = stored_all c.before.before.requires c.before.loop.invariant (omega arith)
 
 pub put-unsigned-spec : {M : Type 1} → statement M
 put-unsigned-spec =

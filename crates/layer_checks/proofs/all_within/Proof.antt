@@ -3,7 +3,7 @@ use Prim.Native.Nat.{◌-◌}
 use mathlib.Core.Path.{◌≡◌, ◌∙◌, sym}
 use borrow.Author.Tests.{not-true, not-false}
 use Rattle.integer.specs.Linear.{back}
-use Rattle.layer_checks.specs.Comparing.{within_at, Passing, passing_start, passing-next, passing-stop, passing-end}
+use Rattle.layer_checks.specs.Comparing.{within_at, Passing, passing_start, passing_next, passing_stop, passing_end}
 use native.Mathlib.Omega.{arith}
 use Rattle.layer_checks.proofs.all_within.Statement.{statement}
 use Rattle.layer_checks.proofs.all_within.Tie as tie
@@ -32,7 +32,7 @@ unfolding within_at
 told c = rw (back _ c.before.x.given) at c.within-limit.ensures
 
 returns : tie.Need-returns invariant-loop decreases-loop
-returns c = passing-stop c.before.before.before.before.loop.invariant (omega arith) (sym (told c.before) ∙ not-true _ c.if1.true)
+returns c = passing_stop c.before.before.before.before.loop.invariant (omega arith) (sym (told c.before) ∙ not-true _ c.if1.true)
 
 add-v : tie.Need-overflow-add-v invariant-loop decreases-loop
 add-v c = omega arith
@@ -41,10 +41,10 @@ loop-less : tie.Need-loop-smaller invariant-loop decreases-loop
 loop-less c = omega arith
 
 loop-again : tie.Need-loop-preserved invariant-loop decreases-loop
-loop-again c = passing-next c.before.before.before.before.loop.invariant (omega arith) (sym (told c.before) ∙ not-false _ c.if1.false)
+loop-again c = passing_next c.before.before.before.before.loop.invariant (omega arith) (sym (told c.before) ∙ not-false _ c.if1.false)
 
 returns-2 : tie.Need-returns-2 invariant-loop decreases-loop
-returns-2 c = passing-end c.before.loop.invariant (omega arith)
+returns-2 c = passing_end c.before.loop.invariant (omega arith)
 
 pub all-within-spec : {M : Type 1} → statement M
 all-within-spec =

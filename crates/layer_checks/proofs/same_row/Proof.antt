@@ -5,7 +5,7 @@ use borrow.Author.Tests.{not-true, not-false}
 use lib.IntN.{pos}
 use lib.ListN.{get_or}
 use Rattle.integer.specs.Linear.{back}
-use Rattle.layer_checks.specs.Comparing.{not_above, Passing, passing_start, passing-next, passing-stop, passing-end}
+use Rattle.layer_checks.specs.Comparing.{not_above, Passing, passing_start, passing_next, passing_stop, passing_end}
 use native.Mathlib.Omega.{arith}
 use Rattle.layer_checks.proofs.same_row.Statement.{statement}
 use Rattle.layer_checks.proofs.same_row.Tie as tie
@@ -44,7 +44,7 @@ told c =
 
 returns : tie.Need-returns invariant-loop decreases-loop
 unfolding not_above
-returns c = passing-stop c.before.before.before.before.before.loop.invariant (omega arith) (sym (told c.before) ∙ not-true _ c.if1.true)
+returns c = passing_stop c.before.before.before.before.before.loop.invariant (omega arith) (sym (told c.before) ∙ not-true _ c.if1.true)
 
 add-v : tie.Need-overflow-add-v invariant-loop decreases-loop
 add-v c = omega arith
@@ -54,10 +54,10 @@ loop-less c = omega arith
 
 loop-again : tie.Need-loop-preserved invariant-loop decreases-loop
 unfolding not_above
-loop-again c = passing-next c.before.before.before.before.before.loop.invariant (omega arith) (sym (told c.before) ∙ not-false _ c.if1.false)
+loop-again c = passing_next c.before.before.before.before.before.loop.invariant (omega arith) (sym (told c.before) ∙ not-false _ c.if1.false)
 
 returns-2 : tie.Need-returns-2 invariant-loop decreases-loop
-returns-2 c = passing-end c.before.loop.invariant (omega arith)
+returns-2 c = passing_end c.before.loop.invariant (omega arith)
 
 pub same-row-spec : {M : Type 1} → statement M
 same-row-spec =

@@ -2,7 +2,7 @@
 use Prim.Native.Nat.{◌-◌}
 use mathlib.Core.Path.{◌∙◌, sym}
 use borrow.Author.Tests.{not-true, not-false}
-use Rattle.layer_checks.specs.Comparing.{same_truth, Passing, passing_start, passing-next, passing-stop, passing-end}
+use Rattle.layer_checks.specs.Comparing.{same_truth, Passing, passing_start, passing_next, passing_stop, passing_end}
 use native.Mathlib.Omega.{arith}
 use Rattle.layer_checks.proofs.same_truths.Statement.{statement}
 use Rattle.layer_checks.proofs.same_truths.Tie as tie
@@ -27,7 +27,7 @@ same-requires c κs = tt
 
 returns : tie.Need-returns invariant-loop decreases-loop
 unfolding same_truth
-returns c = passing-stop c.before.before.before.before.before.loop.invariant (omega arith) (sym c.before.same.ensures ∙ not-true _ c.if1.true)
+returns c = passing_stop c.before.before.before.before.before.loop.invariant (omega arith) (sym c.before.same.ensures ∙ not-true _ c.if1.true)
 
 add-p : tie.Need-overflow-add-p invariant-loop decreases-loop
 add-p c = omega arith
@@ -37,10 +37,10 @@ loop-less c = omega arith
 
 loop-again : tie.Need-loop-preserved invariant-loop decreases-loop
 unfolding same_truth
-loop-again c = passing-next c.before.before.before.before.before.loop.invariant (omega arith) (sym c.before.same.ensures ∙ not-false _ c.if1.false)
+loop-again c = passing_next c.before.before.before.before.before.loop.invariant (omega arith) (sym c.before.same.ensures ∙ not-false _ c.if1.false)
 
 returns-2 : tie.Need-returns-2 invariant-loop decreases-loop
-returns-2 c = passing-end c.before.loop.invariant (omega arith)
+returns-2 c = passing_end c.before.loop.invariant (omega arith)
 
 pub same-truths-spec : {M : Type 1} → statement M
 same-truths-spec =

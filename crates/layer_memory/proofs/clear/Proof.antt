@@ -1,7 +1,7 @@
 -- `clear` meets its contract. The invariant: the first `i` numbers are −1 and the others as they were. Assumes nothing.
 use Prim.Native.Nat.{◌≤◌, ◌-◌}
 use mathlib.Core.Path.{refl}
-use Rattle.layer_memory.specs.Filling.{Filled, filled_none, filled-step, filled-end, cleared}
+use Rattle.layer_memory.specs.Filling.{Filled, filled_none, filled_step, filled_end, cleared}
 use lib.IntN.{pos}
 use native.Mathlib.Omega.{arith}
 use Rattle.layer_memory.proofs.clear.Statement.{statement}
@@ -30,13 +30,13 @@ loop-less c = omega arith
 
 loop-again : tie.Need-loop-preserved invariant-loop decreases-loop
 unfolding cleared
-loop-again c = (omega arith, filled-step (omega arith) c.before.loop.invariant.1 refl)
+loop-again c = (omega arith, filled_step (omega arith) c.before.loop.invariant.1 refl)
 
 same_length : tie.Need-same-length invariant-loop decreases-loop
 same_length c = c.before.loop.invariant.1.same_length
 
 returns : tie.Need-returns invariant-loop decreases-loop
-returns c = filled-end (omega arith) (omega arith) c.before.loop.invariant.1
+returns c = filled_end (omega arith) (omega arith) c.before.loop.invariant.1
 
 pub clear_spec : {M : Type 1} → statement M
 clear_spec =

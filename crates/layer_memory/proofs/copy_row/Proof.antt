@@ -1,7 +1,7 @@
 -- `copy_row` meets its contract. The invariant: the first `v` values stand there, the others are as they were. Assumes nothing.
 use Prim.Native.Nat.{◌≤◌, ◌-◌}
 use Rattle.integer.specs.Linear.{back}
-use Rattle.layer_memory.specs.Filling.{Filled, filled_none, filled-step, filled-end, row_at}
+use Rattle.layer_memory.specs.Filling.{Filled, filled_none, filled_step, filled_end, row_at}
 use lib.IntN.{pos}
 use native.Mathlib.Omega.{arith}
 use Rattle.layer_memory.proofs.copy_row.Statement.{statement}
@@ -36,13 +36,13 @@ loop-less c = omega arith
 
 loop-again : tie.Need-loop-preserved invariant-loop decreases-loop
 unfolding row_at
-loop-again c = (omega arith, filled-step (omega arith) c.before.before.loop.invariant.1 (back _ c.into.given))
+loop-again c = (omega arith, filled_step (omega arith) c.before.before.loop.invariant.1 (back _ c.into.given))
 
 same_length : tie.Need-same-length invariant-loop decreases-loop
 same_length c = c.before.loop.invariant.1.same_length
 
 returns : tie.Need-returns invariant-loop decreases-loop
-returns c = filled-end (omega arith) (omega arith) c.before.loop.invariant.1
+returns c = filled_end (omega arith) (omega arith) c.before.loop.invariant.1
 
 pub copy-row-spec : {M : Type 1} → statement M
 copy-row-spec =

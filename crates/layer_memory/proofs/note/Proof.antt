@@ -6,7 +6,7 @@ use lib.IntN.{ℤ, pos}
 use lib.ListN.{get_or}
 use Rattle.integer.specs.Linear.{back}
 use Rattle.model.specs.Theorems.Layers.Entries.{noted}
-use Rattle.layer_memory.specs.Filling.{Filled, filled_none, filled-step, filled-end, noted_at}
+use Rattle.layer_memory.specs.Filling.{Filled, filled_none, filled_step, filled_end, noted_at}
 use native.Mathlib.Omega.{arith}
 use Rattle.layer_memory.proofs.note.Statement.{statement}
 use Rattle.layer_memory.proofs.note.Tie as tie
@@ -52,13 +52,13 @@ loop-again c =
     let f = l.invariant.1 in
     let old = get_or l.entries l.i (pos 0) in
     let e = rw (back old c.before.before.old.given) at c.noted.ensures in
-    (omega arith, filled-step (omega arith) f (back c.noted.result c.noted.type-inv ∙ e ∙ ap (λ (z : ℤ). noted z (get_or a.marked.now l.i false) a.t) (f.kept l.i (omega arith))))
+    (omega arith, filled_step (omega arith) f (back c.noted.result c.noted.type-inv ∙ e ∙ ap (λ (z : ℤ). noted z (get_or a.marked.now l.i false) a.t) (f.kept l.i (omega arith))))
 
 same_length : tie.Need-same-length invariant-loop decreases-loop
 same_length c = c.before.loop.invariant.1.same_length
 
 returns : tie.Need-returns invariant-loop decreases-loop
-returns c = filled-end (omega arith) (omega arith) c.before.loop.invariant.1
+returns c = filled_end (omega arith) (omega arith) c.before.loop.invariant.1
 
 pub note-spec : {M : Type 1} → statement M
 note-spec =

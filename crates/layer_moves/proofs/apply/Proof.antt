@@ -18,7 +18,7 @@ use Rattle.block.specs.declared.ItemAt.TheVariants.{Need, Add, Delete, Condition
 use Rattle.block.specs.contracts.ItemAt.{the_type}
 use Rattle.block.proofs.Passed.{before_end}
 use Rattle.layer_moves.specs.Raising.{IsRaised}
-use Rattle.layer_moves.specs.Walking.{AppliedUpTo, LeftIn, AppliesItem, upto_start, upto_next, upto-end}
+use Rattle.layer_moves.specs.Walking.{AppliedUpTo, LeftIn, AppliesItem, upto_start, upto_next, upto_end}
 use Rattle.layer_moves.proofs.apply.Statement.{statement}
 use Rattle.layer_moves.proofs.apply.Tie as tie
 
@@ -149,7 +149,7 @@ same-length-2 c = c.before.before.before.loop.invariant.same_next
 returns : tie.Need-returns invariant-loop decreases-loop
 returns c =
     let n = c.before.before in
-    upto-end n.before.loop.invariant (next_is n.next.ensures c.enum_told.given.1).moves
+    upto_end n.before.loop.invariant (next_is n.next.ensures c.enum_told.given.1).moves
 
 pub apply-spec : {M : Type 1} → statement M
 apply-spec =

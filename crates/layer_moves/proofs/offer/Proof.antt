@@ -4,7 +4,7 @@ use lib.IntN.{pos}
 use Rattle.integer.specs.Linear.{back}
 use Rattle.model.specs.Layer.{Value, reaches}
 use Rattle.model.specs.Memory.{encode}
-use Rattle.layer_moves.specs.Raising.{offer_assign, offer-unbounded, offer-old}
+use Rattle.layer_moves.specs.Raising.{offer_assign, offer_unbounded, offer_old}
 use Rattle.layer_moves.proofs.offer.Statement.{statement}
 use Rattle.layer_moves.proofs.offer.Tie as tie
 
@@ -21,12 +21,12 @@ reaches-requires : tie.Need-reaches-requires
 reaches-requires c κs = tt
 
 returns-2 : tie.Need-returns-2
-returns-2 c = offer-unbounded c.before.before.if1.false (told c.before) c.if2.true
+returns-2 c = offer_unbounded c.before.before.if1.false (told c.before) c.if2.true
 
 returns-3 : tie.Need-returns-3
 returns-3 c =
     let s = c.before.before.before in
-    rw (back s.args.old s.ranges.old.sfits) (offer-old c.before.before.if1.false (told c.before) c.if2.false)
+    rw (back s.args.old s.ranges.old.sfits) (offer_old c.before.before.if1.false (told c.before) c.if2.false)
 
 pub offer-spec : {M : Type 1} → statement M
 offer-spec = tie.close (tie.spec returns reaches-requires returns-2 returns-3)

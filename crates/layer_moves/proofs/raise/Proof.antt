@@ -3,17 +3,17 @@ use mathlib.Core.Path.{◌∙◌, sym, ap}
 use lib.IntN.{pos}
 use lib.ListN.{get_or, set}
 use Rattle.integer.specs.Linear.{back}
-use Rattle.layer_moves.specs.Raising.{IsOffer, raisable-summable, raisable-row, raisable-next, raisable-base, raised_by, raised_already}
+use Rattle.layer_moves.specs.Raising.{IsOffer, raisable_summable, raisable_row, raisable_next, raisable_base, raised_by, raised_already}
 use native.Mathlib.Omega.{arith}
 use borrow.Author.Rules.{rules}
 use Rattle.layer_moves.proofs.raise.Statement.{statement}
 use Rattle.layer_moves.proofs.raise.Tie as tie
 
 mul-so-far : tie.Need-overflow-mul-so-far
-mul-so-far c = omega (arith, raisable-next c.before.requires)
+mul-so-far c = omega (arith, raisable_next c.before.requires)
 
 slice-copy-out-so-far : tie.Need-slice-copy-out-so-far
-slice-copy-out-so-far c = raisable-next c.before.requires
+slice-copy-out-so-far c = raisable_next c.before.requires
 
 is-unbounded-requires : tie.Need-is-unbounded-requires
 is-unbounded-requires c κs = tt
@@ -26,13 +26,13 @@ returns c =
 layer-value-requires : tie.Need-layer-value-requires
 layer-value-requires c κs =
     let s = c.before.before.before.before in
-    rw (back s.args.base s.ranges.base.sfits) (raisable-summable s.requires, raisable-base s.requires)
+    rw (back s.args.base s.ranges.base.sfits) (raisable_summable s.requires, raisable_base s.requires)
 
 mul-old : tie.Need-overflow-mul-old
-mul-old c = omega (arith, raisable-row c.before.before.before.before.before.requires)
+mul-old c = omega (arith, raisable_row c.before.before.before.before.before.requires)
 
 shared-slice-copy-out-old : tie.Need-shared-slice-copy-out-old
-shared-slice-copy-out-old c = raisable-row c.before.before.before.before.before.requires
+shared-slice-copy-out-old c = raisable_row c.before.before.before.before.before.requires
 
 offer-requires : tie.Need-offer-requires
 offer-requires c κs = tt
@@ -53,7 +53,7 @@ returns-2 : tie.Need-returns-2
 returns-2 c =
     let s = c.before.before.before.before.before.before.before.before in
     let a = s.args in
-    let v = c.before.before.before.layer-value in
+    let v = c.before.before.before.layer_value in
     let z = c.before.offer.result in
     let value = rw (back a.base s.ranges.base.sfits) at v.ensures in
     let offered : IsOffer a.kind v.result (get_or a.row.now a.var (pos 0)) z =

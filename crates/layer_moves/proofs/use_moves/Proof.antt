@@ -1,6 +1,6 @@
 -- `use_moves` meets its contract. The invariant: the moves passed are taken in. The measure is the number of moves left. Assumes nothing.
 use Prim.Native.Nat.{◌-◌, ◌≤◌}
-use Rattle.layer_moves.specs.UsingMoves.{UsingMoves, using-start, using-next, using_end, ready-part, ready-takeable}
+use Rattle.layer_moves.specs.UsingMoves.{UsingMoves, using_start, using_next, using_end, ready_part, ready_takeable}
 use native.Mathlib.Omega.{arith}
 use Rattle.layer_moves.proofs.use_moves.Statement.{statement}
 use Rattle.layer_moves.proofs.use_moves.Tie as tie
@@ -12,10 +12,10 @@ abbrev decreases-loop : tie.decreases-loop
 decreases-loop table marks moves has row flags₀ next₀ used₀ b₀ flags next used b = moves - b
 
 loop-holds : tie.Need-loop-init invariant-loop decreases-loop
-loop-holds c = (omega arith, using-start)
+loop-holds c = (omega arith, using_start)
 
 part-requires : tie.Need-part-requires invariant-loop decreases-loop
-part-requires c κs = ready-part c.before.before.before.before.before.before.before.requires c.loop-test.true
+part-requires c κs = ready_part c.before.before.before.before.before.before.before.requires c.loop-test.true
 
 slice-read-before : tie.Need-slice-read-before invariant-loop decreases-loop
 slice-read-before c = omega (arith, c.before.before.before.before.before.before.before.before.before.requires.used_room, c.before.before.before.loop.invariant.1.same_used)
@@ -23,7 +23,7 @@ slice-read-before c = omega (arith, c.before.before.before.before.before.before.
 take-in-requires : tie.Need-take-in-requires invariant-loop decreases-loop
 take-in-requires c κs =
     let i = c.before.before.before.before.before.loop.invariant.1 in
-    ready-takeable c.before.before.before.before.before.before.before.before.before.before.before.requires c.before.before.before.before.loop-test.true c.before.before.before.part.ensures.0 i.same_flags i.same_values
+    ready_takeable c.before.before.before.before.before.before.before.before.before.before.before.requires c.before.before.before.before.loop-test.true c.before.before.before.part.ensures.0 i.same_flags i.same_values
 
 slice-write-used : tie.Need-slice-write-used invariant-loop decreases-loop
 slice-write-used c = omega (arith, c.before.before.before.before.before.before.before.before.before.before.before.before.before.before.before.requires.used_room, c.before.before.before.before.before.before.before.before.before.loop.invariant.1.same_used)
@@ -37,7 +37,7 @@ loop-less c = omega arith
 loop-again : tie.Need-loop-preserved invariant-loop decreases-loop
 loop-again c =
     let t = c.before.before.before.take_in in
-    (omega arith, using-next c.before.before.before.before.before.before.before.before.before.loop.invariant.1 c.before.before.before.before.before.before.before.before.loop-test.true c.before.before.before.before.before.before.before.before.before.before.before.before.before.before.before.requires.used_room t.auto.1.1.1.1.0 t.auto.1.1.1.1.1.0 c.before.before.before.before.before.before.before.part.ensures.0 t.ensures)
+    (omega arith, using_next c.before.before.before.before.before.before.before.before.before.loop.invariant.1 c.before.before.before.before.before.before.before.before.loop-test.true c.before.before.before.before.before.before.before.before.before.before.before.before.before.before.before.requires.used_room t.auto.1.1.1.1.0 t.auto.1.1.1.1.1.0 c.before.before.before.before.before.before.before.part.ensures.0 t.ensures)
 
 same_length : tie.Need-same-length invariant-loop decreases-loop
 same_length c = c.before.loop.invariant.1.same_flags

@@ -2,7 +2,7 @@
 use borrow.Author.Rules.{rules}
 use borrow.Author.Tests.{not-true, not-false}
 use native.Mathlib.Omega.{arith}
-use Rattle.layer_step.specs.Step.{steppable_row, stepped_same, stepped-large, stepped-short, stepped-new}
+use Rattle.layer_step.specs.Step.{steppable_row, stepped_same, stepped_large, stepped_short, stepped_new}
 use Rattle.layer_step.proofs.step.Statement.{statement}
 use Rattle.layer_step.proofs.step.Tie as tie
 
@@ -28,11 +28,11 @@ all-within-requires : tie.Need-all-within-requires
 all-within-requires c κs = search rules
 
 returns-2 : tie.Need-returns-2
-returns-2 c = stepped-large c.before.before.before.before.before.before.before.before.before.before.before.use-moves.ensures c.before.before.before.before.settled.ensures c.before.before.before.if1.false c.before.all-within.ensures (not-true _ c.if2.true)
+returns-2 c = stepped_large c.before.before.before.before.before.before.before.before.before.before.before.use-moves.ensures c.before.before.before.before.settled.ensures c.before.before.before.if1.false c.before.all-within.ensures (not-true _ c.if2.true)
 
 returns-3 : tie.Need-returns-3
 returns-3 c =
-    stepped-short c.before.before.before.before.before.before.before.before.before.before.before.before.before.use-moves.ensures c.before.before.before.before.before.before.settled.ensures c.before.before.before.before.before.if1.false c.before.before.before.all-within.ensures (not-false _ c.before.before.if2.false) c.if3.true
+    stepped_short c.before.before.before.before.before.before.before.before.before.before.before.before.before.use-moves.ensures c.before.before.before.before.before.before.settled.ensures c.before.before.before.before.before.if1.false c.before.before.before.all-within.ensures (not-false _ c.before.before.if2.false) c.if3.true
 
 slice-aggregate-copy-row : tie.Need-slice-aggregate-copy-row
 slice-aggregate-copy-row c = search rules
@@ -45,7 +45,7 @@ same_length c = search rules
 
 returns-4 : tie.Need-returns-4
 returns-4 c =
-    stepped-new c.before.before.before.before.before.before.before.before.before.before.before.before.before.before.before.before.before.use-moves.ensures c.before.before.before.before.before.before.before.before.before.before.settled.ensures c.before.before.before.before.before.before.before.before.before.if1.false c.before.before.before.before.before.before.before.all-within.ensures (not-false _ c.before.before.before.before.before.before.if2.false) c.before.before.before.before.if3.false c.before.copy-row.ensures
+    stepped_new c.before.before.before.before.before.before.before.before.before.before.before.before.before.before.before.before.before.use-moves.ensures c.before.before.before.before.before.before.before.before.before.before.settled.ensures c.before.before.before.before.before.before.before.before.before.if1.false c.before.before.before.before.before.before.before.all-within.ensures (not-false _ c.before.before.before.before.before.before.if2.false) c.before.before.before.before.if3.false c.before.copy-row.ensures
 
 pub step_spec : {M : Type 1} → statement M
 step_spec =

@@ -5,7 +5,7 @@ use Rattle.model.specs.Task.{normal, Task}
 use Rattle.table.specs.Outlines.{Outline}
 use Rattle.layer_step.specs.Step.{Counts}
 use Rattle.layers.specs.Building.{Layered}
-use Rattle.layers.specs.Starting.{start_of, props-small, vars_small, moves-small, half-vars, state-long, first-layer, first_short, first-stored}
+use Rattle.layers.specs.Starting.{start_of, props_small, vars_small, moves_small, half_vars, state_long, first_layer, first_short, first_stored}
 use borrow.Author.Rules.{rules}
 use borrow.Rule.Slice.PartMut.{put_mid, same_len_mid, mid_len}
 use lib.ListN.{length}
@@ -14,10 +14,10 @@ use Rattle.layers.proofs.build.Statement.{statement}
 use Rattle.layers.proofs.build.Tie as tie
 
 add-front : tie.Need-overflow-add-front
-add-front c = omega (arith, props-small c.before.before.requires, moves-small c.before.before.requires)
+add-front c = omega (arith, props_small c.before.before.requires, moves_small c.before.before.requires)
 
 add-if1 : tie.Need-overflow-add-if1
-add-if1 c = omega (arith, props-small c.before.before.requires, moves-small c.before.before.requires, vars_small c.before.before.requires)
+add-if1 c = omega (arith, props_small c.before.before.requires, moves_small c.before.before.requires, vars_small c.before.before.requires)
 
 returns : tie.Need-returns
 returns c = record { is = λ k o n. first_short o.ok n c.before.before.before.args.state.now c.before.before.before.requires.accepted c.if1.true }
@@ -26,13 +26,13 @@ slice-aggregate-load-truths : tie.Need-slice-aggregate-load-truths
 slice-aggregate-load-truths c = refl
 
 load-truths-requires : tie.Need-load-truths-requires
-load-truths-requires c κs = (omega (arith, state-long c.before.before.before.before.requires), props-small c.before.before.before.before.requires)
+load-truths-requires c κs = (omega (arith, state_long c.before.before.before.before.requires), props_small c.before.before.before.before.requires)
 
 slice-aggregate-load-signed : tie.Need-slice-aggregate-load-signed
 slice-aggregate-load-signed c = refl
 
 load-signed-requires : tie.Need-load-signed-requires
-load-signed-requires c κs = (state-long c.before.before.before.before.before.before.before.requires, omega (arith, half-vars c.before.before.before.before.before.before.before.requires, vars_small c.before.before.before.before.before.before.before.requires))
+load-signed-requires c κs = (state_long c.before.before.before.before.before.before.before.requires, omega (arith, half_vars c.before.before.before.before.before.before.before.requires, vars_small c.before.before.before.before.before.before.before.requires))
 
 slice-aggregate-copy-row : tie.Need-slice-aggregate-copy-row
 slice-aggregate-copy-row c = sym c.before.before.load_signed.auto.1.1.1.0
@@ -69,7 +69,7 @@ slice-aggregate-note c = sym c.before.before.before.before.before.before.before.
 note-requires : tie.Need-note-requires
 note-requires c κs = (
   omega (arith, c.before.before.before.clear.auto.0, row_long c.before.before.before.before.before.before, c.before.before.before.before.before.before.before.before.before.before.before.before.before.before.before.if1.false),
-  omega (arith, c.before.before.before.before.before.before.before.before.before.before.before.before.before.load-truths.auto.1.1.0, props-small c.before.before.before.before.before.before.before.before.before.before.before.before.before.before.before.before.before.before.requires),
+  omega (arith, c.before.before.before.before.before.before.before.before.before.before.before.before.before.load-truths.auto.1.1.0, props_small c.before.before.before.before.before.before.before.before.before.before.before.before.before.before.before.before.before.before.requires),
   omega arith,
 )
 
@@ -83,9 +83,9 @@ stored :
 stored c k o n =
     let a = c.before.before.before.before.before.before.before.before.before.before.before.before.before.before.before.before.before.before.before.args in
     let p = c.before.before.before.before.before.before.before.before.before.before.before.before.before.before.before.before.before.before.before.requires in
-    first-stored o.ok n a.state.now p.accepted c.before.before.before.before.before.before.before.before.before.before.before.before.before.before.before.before.if1.false
-    (first-layer o.ok n a.state.now p.accepted _ _
-    (omega (arith, c.before.before.before.before.before.before.before.before.before.before.before.before.before.before.load-truths.auto.1.1.0, props-small p))
+    first_stored o.ok n a.state.now p.accepted c.before.before.before.before.before.before.before.before.before.before.before.before.before.before.before.before.if1.false
+    (first_layer o.ok n a.state.now p.accepted _ _
+    (omega (arith, c.before.before.before.before.before.before.before.before.before.before.before.before.before.before.load-truths.auto.1.1.0, props_small p))
     (omega (arith, c.before.before.before.before.before.before.before.before.before.before.before.load_signed.auto.1.1.1.0, vars_small p))
     c.before.before.before.before.before.before.before.before.before.before.before.before.before.before.load-truths.ensures
     c.before.before.before.before.before.before.before.before.before.before.before.load_signed.ensures)

@@ -5,7 +5,7 @@ use mathlib.Core.Path.{◌≡◌, refl, sym, ◌∙◌}
 use borrow.Rule.Slice.PartMut.{put_mid, same_len_mid, mid_len}
 use lib.ListN.{length}
 use Rattle.model.specs.Layer.{bound}
-use Rattle.layers.specs.Building.{Grows, Growing, growing-start, growing-next, goal-testable-at, steppable-at, memory-room, has_room, row_room, count_small, layer_small, reached-at, exhausted-at, below-bound, new-room, large-at, short-at, next-at}
+use Rattle.layers.specs.Building.{Grows, Growing, growing_start, growing_next, goal_testable_at, steppable_at, memory_room, has_room, row_room, count_small, layer_small, reached_at, exhausted_at, below_bound, new_room, large_at, short_at, next_at}
 use native.Mathlib.Omega.{arith}
 use Rattle.layers.proofs.grow.Statement.{statement}
 use Rattle.layers.proofs.grow.Tie as tie
@@ -19,15 +19,15 @@ decreases-loop table marks n layers₀ has₀ row₀ used₀ end₀ t₀ layers 
 add-end : tie.Need-overflow-add-end invariant-loop decreases-loop
 add-end c =
     let p = c.before.before.before.requires in
-    omega (arith, memory-room p.outlined p.counts p.layered)
+    omega (arith, memory_room p.outlined p.counts p.layered)
 
 add-end-2 : tie.Need-overflow-add-end-2 invariant-loop decreases-loop
 add-end-2 c =
     let p = c.before.before.before.before.requires in
-    omega (arith, memory-room p.outlined p.counts p.layered)
+    omega (arith, memory_room p.outlined p.counts p.layered)
 
 loop-holds : tie.Need-loop-init invariant-loop decreases-loop
-loop-holds c = (c.before.before.before.before.requires.has_long, c.before.before.before.before.requires.row_long, refl, growing-start)
+loop-holds c = (c.before.before.before.before.requires.has_long, c.before.before.before.before.requires.row_long, refl, growing_start)
 
 -- layer t in the caller's reading, with the moves that the step before used
 current :
@@ -39,14 +39,14 @@ current c = let p = c.before.before.before.before.before.requires in c.loop.inva
 within : (c : tie.At-loop invariant-loop decreases-loop) → let a = c.before.before.before.before.before.args.n in (c.loop.end ≤ length c.loop.layers) × (a.props + a.moves ≤ length c.loop.layers)
 within c =
     let p = c.before.before.before.before.before.requires in
-    let m = memory-room p.outlined p.counts (current c).layered in
+    let m = memory_room p.outlined p.counts (current c).layered in
     (omega (arith, m, c.loop.invariant.3.end_is), omega (arith, m))
 
-moves-small : (c : tie.At-loop invariant-loop decreases-loop) → c.before.before.before.before.before.args.n.moves ≤ 64
-moves-small c = let p = c.before.before.before.before.before.requires in count_small p.outlined p.counts (current c).layered
+moves_small : (c : tie.At-loop invariant-loop decreases-loop) → c.before.before.before.before.before.args.n.moves ≤ 64
+moves_small c = let p = c.before.before.before.before.before.requires in count_small p.outlined p.counts (current c).layered
 
-props-small : (c : tie.At-loop invariant-loop decreases-loop) → c.before.before.before.before.before.args.n.props ≤ 120
-props-small c = let p = c.before.before.before.before.before.requires in omega (arith, has_room p.outlined p.counts (current c).layered, c.loop.invariant.0)
+props_small : (c : tie.At-loop invariant-loop decreases-loop) → c.before.before.before.before.before.args.n.props ≤ 120
+props_small c = let p = c.before.before.before.before.before.requires in omega (arith, has_room p.outlined p.counts (current c).layered, c.loop.invariant.0)
 
 vars_small : (c : tie.At-loop invariant-loop decreases-loop) → c.before.before.before.before.before.args.n.vars ≤ 32
 vars_small c = let p = c.before.before.before.before.before.requires in omega (arith, row_room p.outlined p.counts (current c).layered, c.loop.invariant.1)
@@ -63,7 +63,7 @@ slice-aggregate-goal-met-2 c = sym c.before.before.loop.invariant.1
 goal-met-requires : tie.Need-goal-met-requires invariant-loop decreases-loop
 goal-met-requires c κs =
     let p = c.before.before.before.before.before.before.before.requires in
-    goal-testable-at p.outlined p.counts (current c.before.before).layered
+    goal_testable_at p.outlined p.counts (current c.before.before).layered
 
 same_length : tie.Need-same-length invariant-loop decreases-loop
 same_length c = c.before.before.before.before.loop.invariant.3.same_length
@@ -71,7 +71,7 @@ same_length c = c.before.before.before.before.loop.invariant.3.same_length
 returns : tie.Need-returns invariant-loop decreases-loop
 returns c =
     let g = c.before.before.before.before.loop.invariant.3 in
-    record { is = λ k s old o n a. reached-at o n (g.is k s old o n a).layered c.before.goal-met.ensures c.if1.true }
+    record { is = λ k s old o n a. reached_at o n (g.is k s old o n a).layered c.before.goal_met.ensures c.if1.true }
 
 add-place : tie.Need-overflow-add-place invariant-loop decreases-loop
 add-place c = omega (arith, t-small c.before.before.before.before)
@@ -91,7 +91,7 @@ part-behind-end c = omega arith
 step-requires : tie.Need-step-requires invariant-loop decreases-loop
 step-requires c κs =
     let p = c.before.before.before.before.before.before.before.before.before.before.before.before.before.before.requires in
-    steppable-at p.outlined p.counts (current c.before.before.before.before.before.before.before.before.before).layered (omega (arith, moves-small c.before.before.before.before.before.before.before.before.before, c.before.before.before.before.before.before.before.before.before.loop.invariant.2))
+    steppable_at p.outlined p.counts (current c.before.before.before.before.before.before.before.before.before).layered (omega (arith, moves_small c.before.before.before.before.before.before.before.before.before, c.before.before.before.before.before.before.before.before.before.loop.invariant.2))
 
 -- the memory and the arrays keep their lengths in the step
 after-long : (c : tie.After-step invariant-loop decreases-loop) → let l = c.before.before.before.before.before.before.before.before.before.before.loop in length (put_mid l.end (length l.layers - l.end) l.layers c.step.new.1.1.1.1.1.1.1.0) ≡ length l.layers
@@ -113,7 +113,7 @@ notable :
     × (l.loop.t < 2 ^ 63)
 notable c =
     let l = c.before.before.before.before.before.before.before.before.before.before in
-    (omega (arith, within l, after-long c), omega (arith, used-long c, moves-small l), omega (arith, t-small l))
+    (omega (arith, within l, after-long c), omega (arith, used-long c, moves_small l), omega (arith, t-small l))
 
 enum_told : tie.Need-enum-told invariant-loop decreases-loop
 enum_told c = c.match.keys1
@@ -134,7 +134,7 @@ returns-2 c =
       is =
           λ k s old o n a.
           let h = g.is k s old o n a in
-          exhausted-at o n h.layered c.before.before.before.before.before.before.before.before.before.before.before.before.before.before.goal-met.ensures c.before.before.before.before.before.before.before.before.before.before.before.before.before.if1.false g.end_is h.used_in c.before.before.before.before.before.before.before.step.ensures c.before.before.before.before.enum_told.given.1 c.before.note-moves.ensures;
+          exhausted_at o n h.layered c.before.before.before.before.before.before.before.before.before.before.before.before.before.before.goal_met.ensures c.before.before.before.before.before.before.before.before.before.before.before.before.before.if1.false g.end_is h.used_in c.before.before.before.before.before.before.before.step.ensures c.before.before.before.before.enum_told.given.1 c.before.note-moves.ensures;
     }
 
 enum-told-2 : tie.Need-enum-told-2 invariant-loop decreases-loop
@@ -150,7 +150,7 @@ returns-3 c =
       is =
           λ k s old o n a.
           let h = g.is k s old o n a in
-          large-at o n h.layered c.before.before.before.before.before.before.before.before.before.before.goal-met.ensures c.before.before.before.before.before.before.before.before.before.if1.false g.end_is h.used_in c.before.before.before.step.ensures c.enum-told2.given.1;
+          large_at o n h.layered c.before.before.before.before.before.before.before.before.before.before.goal_met.ensures c.before.before.before.before.before.before.before.before.before.if1.false g.end_is h.used_in c.before.before.before.step.ensures c.enum-told2.given.1;
     }
 
 enum-told-3 : tie.Need-enum-told-3 invariant-loop decreases-loop
@@ -166,7 +166,7 @@ returns-4 c =
       is =
           λ k s old o n a.
           let h = g.is k s old o n a in
-          short-at o n h.layered c.before.before.before.before.before.before.before.before.before.before.goal-met.ensures c.before.before.before.before.before.before.before.before.before.if1.false g.end_is h.used_in c.before.before.before.step.ensures c.enum-told3.given.1;
+          short_at o n h.layered c.before.before.before.before.before.before.before.before.before.before.goal_met.ensures c.before.before.before.before.before.before.before.before.before.if1.false g.end_is h.used_in c.before.before.before.step.ensures c.enum-told3.given.1;
     }
 
 enum-told-4 : tie.Need-enum-told-4 invariant-loop decreases-loop
@@ -188,7 +188,7 @@ slice-aggregate-note c = sym (flags_long c.before.before.before.before.before.be
 note-requires : tie.Need-note-requires invariant-loop decreases-loop
 note-requires c κs = (
   omega (arith, within c.before.before.before.before.before.before.before.before.before.before.before.before.before.before.before.before.before.before.before, noted-long c.before.before.before),
-  omega (arith, props-small c.before.before.before.before.before.before.before.before.before.before.before.before.before.before.before.before.before.before.before, flags_long c.before.before.before.before.before.before.before.before.before),
+  omega (arith, props_small c.before.before.before.before.before.before.before.before.before.before.before.before.before.before.before.before.before.before.before, flags_long c.before.before.before.before.before.before.before.before.before),
   omega (arith, t-small c.before.before.before.before.before.before.before.before.before.before.before.before.before.before.before.before.before.before.before),
 )
 
@@ -219,7 +219,7 @@ stored-within c =
     let p = c.before.before.before.before.before.before.before.before.before.before.before.before.before.before.before.before.before.before.requires in
     let h = current c.before.before.before.before.before.before.before.before.before.before.before.before.before in
     let g = c.before.before.before.before.before.before.before.before.before.before.before.before.before.loop.invariant.3 in
-    new-room p.outlined p.counts h.layered c.before.before.before.before.before.before.before.before.before.before.goal-met.ensures c.before.before.before.before.before.before.before.before.before.if1.false g.end_is h.used_in c.before.before.before.step.ensures c.enum-told4.given.1
+    new_room p.outlined p.counts h.layered c.before.before.before.before.before.before.before.before.before.before.goal_met.ensures c.before.before.before.before.before.before.before.before.before.if1.false g.end_is h.used_in c.before.before.before.step.ensures c.enum-told4.given.1
 
 copy-row-requires : tie.Need-copy-row-requires invariant-loop decreases-loop
 copy-row-requires c κs =
@@ -237,7 +237,7 @@ loop-less c =
     let p = c.before.before.before.before.before.before.before.before.before.before.before.before.before.before.before.before.before.before.before.before.before.before.before.before.before.before.before.before.before.before.before.before.requires in
     let h = current c.before.before.before.before.before.before.before.before.before.before.before.before.before.before.before.before.before.before.before.before.before.before.before.before.before.before.before in
     let g = c.before.before.before.before.before.before.before.before.before.before.before.before.before.before.before.before.before.before.before.before.before.before.before.before.before.before.before.loop.invariant.3 in
-    omega (arith, below-bound p.outlined p.counts h.layered c.before.before.before.before.before.before.before.before.before.before.before.before.before.before.before.before.before.before.before.before.before.before.before.before.goal-met.ensures c.before.before.before.before.before.before.before.before.before.before.before.before.before.before.before.before.before.before.before.before.before.before.before.if1.false g.end_is h.used_in c.before.before.before.before.before.before.before.before.before.before.before.before.before.before.before.before.before.step.ensures c.before.before.before.before.before.before.before.before.before.before.before.before.before.before.enum-told4.given.1)
+    omega (arith, below_bound p.outlined p.counts h.layered c.before.before.before.before.before.before.before.before.before.before.before.before.before.before.before.before.before.before.before.before.before.before.before.before.goal_met.ensures c.before.before.before.before.before.before.before.before.before.before.before.before.before.before.before.before.before.before.before.before.before.before.before.if1.false g.end_is h.used_in c.before.before.before.before.before.before.before.before.before.before.before.before.before.before.before.before.before.step.ensures c.before.before.before.before.before.before.before.before.before.before.before.before.before.before.enum-told4.given.1)
 
 loop-again : tie.Need-loop-preserved invariant-loop decreases-loop
 loop-again c =
@@ -245,9 +245,9 @@ loop-again c =
       flags_long c.before.before.before.before.before.before.before.before.before.before.before.before.before.before.before.before.before,
       c.before.before.copy-row.auto.1.0 ∙ c.before.before.before.before.before.before.before.before.before.before.before.before.before.before.before.before.before.before.before.before.before.before.before.before.before.before.before.loop.invariant.1,
       used-long c.before.before.before.before.before.before.before.before.before.before.before.before.before.before.before.before.before,
-      growing-next g (stored-long c.before.before.before.before.before.before.before)
+      growing_next g (stored-long c.before.before.before.before.before.before.before)
           (λ k s old o n h.
-          next-at o n h.layered c.before.before.before.before.before.before.before.before.before.before.before.before.before.before.before.before.before.before.before.before.before.before.before.before.goal-met.ensures c.before.before.before.before.before.before.before.before.before.before.before.before.before.before.before.before.before.before.before.before.before.before.before.if1.false g.end_is h.used_in c.before.before.before.before.before.before.before.before.before.before.before.before.before.before.before.before.before.step.ensures c.before.before.before.before.before.before.before.before.before.before.before.before.before.before.enum-told4.given.1
+          next_at o n h.layered c.before.before.before.before.before.before.before.before.before.before.before.before.before.before.before.before.before.before.before.before.before.before.before.before.goal_met.ensures c.before.before.before.before.before.before.before.before.before.before.before.before.before.before.before.before.before.before.before.before.before.before.before.if1.false g.end_is h.used_in c.before.before.before.before.before.before.before.before.before.before.before.before.before.before.before.before.before.step.ensures c.before.before.before.before.before.before.before.before.before.before.before.before.before.before.enum-told4.given.1
           c.before.before.before.before.before.before.before.before.before.before.before.note-moves2.ensures c.before.before.before.before.before.before.before.note.ensures c.before.before.copy-row.ensures),
     )
 

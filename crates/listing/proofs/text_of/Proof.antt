@@ -10,7 +10,7 @@ use Rattle.model.specs.Limits.{paper}
 use Rattle.model.specs.Calls.{prepared}
 use Rattle.model.specs.Listing.{answer_text}
 use Rattle.report.specs.Plans.{planned_records}
-use Rattle.listing.specs.Rooms.{printed_is, refused-room, refused-text, planned-room, planned-lists, planned-text}
+use Rattle.listing.specs.Rooms.{printed_is, refused_room, refused_text, planned_room, planned_lists, planned_text}
 use borrow.Author.Rules.{rules}
 use Rattle.listing.proofs.text_of.Statement.{statement}
 use Rattle.listing.proofs.text_of.Tie as tie
@@ -22,7 +22,7 @@ enum-known-r : tie.Need-enum-known-r
 enum-known-r c = search rules
 
 listing-text-requires : tie.Need-listing-text-requires
-listing-text-requires c κs = refused-room c.before.before.before.before.before.before.before.before.before.before.before.before.before.before.requires c.before.before.before.before.before.before.before.before.before.before.before.before.before.before.args.task.now c.before.before.before.before.before.before.before.before.before.before.before.before.before.before.args.state.now c.before.before.before.r.given.0.0
+listing-text-requires c κs = refused_room c.before.before.before.before.before.before.before.before.before.before.before.before.before.before.requires c.before.before.before.before.before.before.before.before.before.before.before.before.before.before.args.task.now c.before.before.before.before.before.before.before.before.before.before.before.before.before.before.args.state.now c.before.before.before.r.given.0.0
 
 enum-known-n : tie.Need-enum-known-n
 enum-known-n c = search rules
@@ -43,7 +43,7 @@ listing-text-requires-2 : tie.Need-listing-text-requires-2
 listing-text-requires-2 c κs =
     let s = c.before.before.before.before.before.before.before.before.before.before.before.before.before.before.before.before.before.before.before.before.before in
     let p = c.before.before.before.before.before.plan.ensures in
-    rw p.0 (planned-room s.requires s.args.task.now s.args.state.now _ p.2)
+    rw p.0 (planned_room s.requires s.args.task.now s.args.state.now _ p.2)
 
 same_length : tie.Need-same-length
 same_length c = search rules
@@ -59,7 +59,7 @@ returns c =
     let s = c.before.before.before.before.before.before.before.before.before.before.before.before.before.before.before.before.before in
     let r = c.before.before.before.before.before.before.r.given in
     printed_is s.args.task.now s.args.state.now (c.before.before.listing-text.ensures [] tt)
-    (refused-text s.requires s.args.task.now s.args.state.now r.0.0 (sym c.before.before.before.before.before.before.before.before.before.before.normalise.ensures.0 ∙ r.1))
+    (refused_text s.requires s.args.task.now s.args.state.now r.0.0 (sym c.before.before.before.before.before.before.before.before.before.before.normalise.ensures.0 ∙ r.1))
 
 same-length-4 : tie.Need-same-length-4
 same-length-4 c = search rules
@@ -81,10 +81,10 @@ returns-2 c =
     let p = c.before.before.before.before.before.before.before.before.plan in
     let part = take n.0.0 m.new.1.0 in
     let rs = planned_records (prepared paper part s.args.state.now) in
-    let lists = planned-lists s.requires s.args.task.now s.args.state.now part p.ensures.2 in
+    let lists = planned_lists s.requires s.args.task.now s.args.state.now part p.ensures.2 in
     printed_is s.args.task.now s.args.state.now (c.before.before.listing-text2.ensures rs (rw p.ensures.0 lists))
     (ap (λ (a : PlanAnswer). answer_text a rs) p.ensures.0
-    ∙ planned-text s.requires s.args.task.now s.args.state.now n.0.0 part (sym m.ensures.0 ∙ n.1) (ap (take n.0.0) m.ensures.1))
+    ∙ planned_text s.requires s.args.task.now s.args.state.now n.0.0 part (sym m.ensures.0 ∙ n.1) (ap (take n.0.0) m.ensures.1))
 
 pub text-of-spec : {M : Type 1} → statement M
 text-of-spec =

@@ -3,8 +3,8 @@ use native.Mathlib.Omega.{arith}
 use borrow.Author.Rules.{rules}
 use Rattle.model.specs.Task.{written}
 use Rattle.table.specs.Names.{wanted_of}
-use Rattle.table.specs.Outlines.{head_read, head-refused}
-use Rattle.normal.specs.Heads.{normalise-written, normalise_refused}
+use Rattle.table.specs.Outlines.{head_read, head_refused}
+use Rattle.normal.specs.Heads.{normalise_written, normalise_refused}
 use Rattle.normal.proofs.normalise.Statement.{statement}
 use Rattle.normal.proofs.normalise.Tie as tie
 
@@ -29,13 +29,13 @@ returns : tie.Need-returns
 unfolding wanted_of
 returns c =
     let h = head_read written c.before.before.before.before.before.before.before.before.outline.ensures c.before.before.before.before.before.before.props.given.1 (record { each = λ i. omega (arith, c.before.before.before.before.before.before.before.before.before.before.before.shared-slice-known.given i) }) in
-    normalise-written h c.before.before.write.ensures
+    normalise_written h c.before.before.write.ensures
 
 returns-2 : tie.Need-returns-2
 unfolding wanted_of
 returns-2 c =
     let a = c.before.before.before.before.before.before.before.args in
-    normalise_refused a.table.now a.out.now (head-refused written c.before.before.before.outline.ensures c.before.r.given.1)
+    normalise_refused a.table.now a.out.now (head_refused written c.before.before.before.outline.ensures c.before.r.given.1)
 
 pub normalise-spec : {M : Type 1} → statement M
 normalise-spec =

@@ -6,8 +6,8 @@ use mathlib.Core.List.{[]}
 use lib.ListN.{length, get_or}
 use Rattle.model.specs.Command.{code_of}
 use Rattle.block.specs.Remaining.{Remaining}
-use Rattle.reader.specs.Written.{read_task, move-remaining, block_in, few-moves}
-use Rattle.normal.specs.Tables.{MovesWriting, moves_start, moves-short, moves-step, moves-end}
+use Rattle.reader.specs.Written.{read_task, move_remaining, block_in, few_moves}
+use Rattle.normal.specs.Tables.{MovesWriting, moves_start, moves_short, moves_step, moves_end}
 use Rattle.normal.proofs.put_moves.Statement.{statement}
 use Rattle.normal.proofs.put_moves.Tie as tie
 
@@ -23,7 +23,7 @@ some c = omega (arith, c.loop-test.true, c.before.before.before.before.before.re
 
 -- its part holds its items
 remains : (c : tie.After-part invariant-loop decreases-loop) → Remaining c.part.result.now 1 (get_or (read_task c.before.before.before.before.before.before.args.table.now).moves c.before.before.loop.b [])
-remains c = move-remaining c.before.before.before.before.before.before.requires.0 c.before.before.loop.b c.before.loop-test.true c.part.ensures.0
+remains c = move_remaining c.before.before.before.before.before.before.requires.0 c.before.before.loop.b c.before.loop-test.true c.part.ensures.0
 
 loop-holds : tie.Need-loop-init invariant-loop decreases-loop
 loop-holds c = let a = c.before.before.before.args in moves_start (read_task a.table.now).moves a.out.now a.start
@@ -37,11 +37,11 @@ put-block-requires c κs =
     record {
       block = get_or (read_task c.before.before.before.before.before.before.before.args.table.now).moves l.before.loop.b [];
       remaining = remains c.before;
-      short = moves-short l.before.loop.invariant (some l) c.before.before.before.before.before.before.before.requires.1;
+      short = moves_short l.before.loop.invariant (some l) c.before.before.before.before.before.before.before.requires.1;
     }
 
 add-b : tie.Need-overflow-add-b invariant-loop decreases-loop
-add-b c = omega (arith, few-moves c.before.before.before.before.before.before.before.before.before.before.requires.0)
+add-b c = omega (arith, few_moves c.before.before.before.before.before.before.before.before.before.before.requires.0)
 
 loop-less : tie.Need-loop-smaller invariant-loop decreases-loop
 loop-less c = omega arith
@@ -49,13 +49,13 @@ loop-less c = omega arith
 loop-again : tie.Need-loop-preserved invariant-loop decreases-loop
 unfolding code_of
 loop-again c =
-    moves-step c.before.before.before.before.before.before.loop.invariant (some c.before.before.before.before.before) (c.before.before.put-block.ensures _ (remains c.before.before.before.before))
+    moves_step c.before.before.before.before.before.before.loop.invariant (some c.before.before.before.before.before) (c.before.before.put-block.ensures _ (remains c.before.before.before.before))
 
 same_length : tie.Need-same-length invariant-loop decreases-loop
 same_length c = c.before.loop.invariant.writing.so_far.kept
 
 returns : tie.Need-returns invariant-loop decreases-loop
-returns c = moves-end c.before.loop.invariant (omega (arith, c.loop-test.false, c.before.before.before.before.before.requires.0.count))
+returns c = moves_end c.before.loop.invariant (omega (arith, c.loop-test.false, c.before.before.before.before.before.requires.0.count))
 
 pub put-moves-spec : {M : Type 1} → statement M
 put-moves-spec =

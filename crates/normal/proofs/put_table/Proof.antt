@@ -5,7 +5,7 @@ use lib.ListN.{length}
 use Rattle.model.specs.Command.{code_of}
 use Rattle.block.specs.Remaining.{Remaining}
 use Rattle.normal_block.specs.Blocks.{block_print}
-use Rattle.reader.specs.Written.{read_task, goal-remaining, block_in, few_props, few_vars, few-moves}
+use Rattle.reader.specs.Written.{read_task, goal_remaining, block_in, few_props, few_vars, few_moves}
 use Rattle.normal.specs.Tables.{moves_print, normal_size, whole_written, source_small}
 use Rattle.normal.proofs.put_table.Statement.{statement}
 use Rattle.normal.proofs.put_table.Tie as tie
@@ -18,7 +18,7 @@ put-head-requires : tie.Need-put-head-requires
 put-head-requires c κs =
     let s = c.before.before.before.before in
     let p = s.requires.0 in
-    (omega (arith, few_props p, s.requires.1.props_is), omega (arith, few_vars p, s.requires.1.vars_is), few-moves p)
+    (omega (arith, few_props p, s.requires.1.props_is), omega (arith, few_vars p, s.requires.1.vars_is), few_moves p)
 
 put-moves-requires : tie.Need-put-moves-requires
 put-moves-requires c κs =
@@ -30,7 +30,7 @@ part-requires c κs = let s = c.before.before.before.before.before.before.before
 
 -- the goal's part holds its items
 remains : (c : tie.After-part) → Remaining c.part.result.now 1 (read_task c.before.before.before.before.before.before.before.before.before.before.before.before.args.table.now).goal
-remains c = goal-remaining c.before.before.before.before.before.before.before.before.before.before.before.before.requires.0 c.part.ensures.0
+remains c = goal_remaining c.before.before.before.before.before.before.before.before.before.before.before.before.requires.0 c.part.ensures.0
 
 put-block-requires : tie.Need-put-block-requires
 put-block-requires c κs =

@@ -5,13 +5,13 @@ use mathlib.Core.Path.{sym, ap, ◌∙◌}
 use borrow.Author.Rules.{rules}
 use borrow.Author.Tests.{le-ltb}
 use lib.Dec.{ltb}
-use Rattle.reader.specs.Written.{head-source, head-heads, head-short}
+use Rattle.reader.specs.Written.{head_source, head_heads, head_short}
 use Rattle.normal.specs.Tables.{normal_twice}
 use Rattle.normal.proofs.too_short.Statement.{statement}
 use Rattle.normal.proofs.too_short.Tie as tie
 
 mul-if1 : tie.Need-overflow-mul-if1
-mul-if1 c = omega (arith, head-short c.before.before.requires)
+mul-if1 c = omega (arith, head_short c.before.before.requires)
 
 returns : tie.Need-returns
 returns c = sym (le-ltb c.before.before.before.args.room _ (omega (arith, normal_twice c.before.before.before.requires, c.if1.true)))
@@ -20,7 +20,7 @@ slice-aggregate-put-table : tie.Need-slice-aggregate-put-table
 slice-aggregate-put-table c = search rules
 
 put-table-requires : tie.Need-put-table-requires
-put-table-requires c κs = let h = c.before.before.before.before.requires in (head-source h, head-heads h)
+put-table-requires c κs = let h = c.before.before.before.before.requires in (head_source h, head_heads h)
 
 returns-2 : tie.Need-returns-2
 returns-2 c = ap (ltb c.before.before.before.before.before.before.args.room) (c.before.put-table.ensures.behind ∙ zero-add _)

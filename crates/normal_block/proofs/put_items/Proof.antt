@@ -6,7 +6,7 @@ use lib.ListN.{length}
 use Rattle.model.specs.Task.{Block}
 use Rattle.block.specs.Items.{next_ahead}
 use Rattle.block.specs.Remaining.{Remaining, remaining_readable}
-use Rattle.normal_block.specs.Blocks.{ItemsWriting, items_start, items-split, items-short, items-step, items-end}
+use Rattle.normal_block.specs.Blocks.{ItemsWriting, items_start, items_split, items_short, items_step, items_end}
 use Rattle.normal_block.proofs.put_items.Statement.{statement}
 use Rattle.normal_block.proofs.put_items.Tie as tie
 
@@ -33,7 +33,7 @@ put-item-requires : tie.Need-put-item-requires invariant-loop decreases-loop
 put-item-requires c κs =
     let n = c.before.before in
     let l = own n.before.before in
-    ((items-split l n.before.loop-test.true n.next.ensures).writable, items-short l n.before.before.before.before.before.requires.short)
+    ((items_split l n.before.loop-test.true n.next.ensures).writable, items_short l n.before.before.before.before.before.requires.short)
 
 loop-less : tie.Need-loop-smaller invariant-loop decreases-loop
 loop-less c =
@@ -43,13 +43,13 @@ loop-less c =
 loop-again : tie.Need-loop-preserved invariant-loop decreases-loop
 loop-again c b r =
     let n = c.before.before.before.before.before in
-    items-step (n.before.before.loop.invariant b r) n.before.loop-test.true n.next.ensures c.before.before.put_item.ensures c.before.before.before.before.behind.ensures
+    items_step (n.before.before.loop.invariant b r) n.before.loop-test.true n.next.ensures c.before.before.put_item.ensures c.before.before.before.before.behind.ensures
 
 same_length : tie.Need-same-length invariant-loop decreases-loop
 same_length c = (own c.before).writing.so_far.kept
 
 returns : tie.Need-returns invariant-loop decreases-loop
-returns c b r = items-end (c.before.loop.invariant b r) c.loop-test.false
+returns c b r = items_end (c.before.loop.invariant b r) c.loop-test.false
 
 pub put-items-spec : {M : Type 1} → statement M
 put-items-spec =

@@ -5,10 +5,10 @@ use native.Mathlib.Omega.{arith}
 use mathlib.Core.Path.{ap, ◌∙◌}
 use Rattle.integer.specs.Linear.{back}
 use Rattle.block.specs.Sums.{few_terms}
-use Rattle.output.specs.Writing.{Writing, writing-behind}
+use Rattle.output.specs.Writing.{Writing, writing_behind}
 use Rattle.normal_condition.specs.Signs.{negate_if, sum_bytes}
-use Rattle.block.specs.Terms.{SumAt, terms_at, sum_behind, sum-term, term-variable, term-weighs}
-use Rattle.normal_condition.specs.Sums.{sum_start, sum_step, sum_done, sum-short}
+use Rattle.block.specs.Terms.{SumAt, terms_at, sum_behind, sum_term, term_variable, term_weighs}
+use Rattle.normal_condition.specs.Sums.{sum_start, sum_step, sum_done, sum_short}
 use Rattle.normal_condition.proofs.put_sum.Statement.{statement}
 use Rattle.normal_condition.proofs.put_sum.Tie as tie
 
@@ -39,10 +39,10 @@ add_term : tie.Need-overflow-add-term invariant-loop decreases-loop
 add_term c = omega (arith, (behind c.before).terms.bytes.within)
 
 variable-requires : tie.Need-variable-requires invariant-loop decreases-loop
-variable-requires c κs = sum-term (behind c.before) (omega arith)
+variable-requires c κs = sum_term (behind c.before) (omega arith)
 
 weight-requires : tie.Need-weight-requires invariant-loop decreases-loop
-weight-requires c κs = sum-term (behind c.before.before) (omega arith)
+weight-requires c κs = sum_term (behind c.before.before) (omega arith)
 
 negate-if-requires : tie.Need-negate-if-requires invariant-loop decreases-loop
 negate-if-requires c κs = rw (back c.weight.result c.weight.type-inv) (omega (arith, c.weight.ensures.small))
@@ -54,8 +54,8 @@ put-kept-requires c κs =
     let s = start l in
     let told = rw (back n.before.weight.result n.before.weight.type-inv) at n.negate-if.ensures in
     rw (back n.negate-if.result n.negate-if.type-inv) (
-      omega (arith, writing-behind l.loop.invariant.1, sum-short s.args.negated s.pre.0, s.pre.1),
-      omega (arith, (term-variable (behind l) (omega arith) n.before.before.variable.ensures).1),
+      omega (arith, writing_behind l.loop.invariant.1, sum_short s.args.negated s.pre.0, s.pre.1),
+      omega (arith, (term_variable (behind l) (omega arith) n.before.before.variable.ensures).1),
       omega (arith, told.1, n.before.weight.ensures.small),
     )
 
@@ -75,8 +75,8 @@ loop-again c =
     let stored = rw (back n.negate-if.result n.negate-if.type-inv) at c.before.before.put-kept.ensures in (
       omega arith,
       sum_step a.negated a.part.now a.from a.n l.loop.i n.before.before.before.loop-test.true l.loop.invariant.1
-          (term-variable s (omega arith) n.before.before.variable.ensures).0
-          (told ∙ ap (negate_if a.negated) (term-weighs s (omega arith) n.before.weight.ensures))
+          (term_variable s (omega arith) n.before.before.variable.ensures).0
+          (told ∙ ap (negate_if a.negated) (term_weighs s (omega arith) n.before.weight.ensures))
           stored,
     )
 

@@ -8,7 +8,7 @@ use Rattle.model.specs.Limits.{paper, comparison_in_range, bound_in_range}
 use Rattle.model.specs.Command.{width}
 use Rattle.model.specs.Seen.{byte_after, number_after}
 use Rattle.model.specs.Reading.{operands}
-use Rattle.operand.specs.Ranges.{wrong_operand, view_at, wrong_first, wrong-later, wrong_none, through}
+use Rattle.operand.specs.Ranges.{wrong_operand, view_at, wrong_first, wrong_later, wrong_none, through}
 use Rattle.operand.proofs.condition_operand.Statement.{statement}
 use Rattle.operand.proofs.condition_operand.Tie as tie
 
@@ -41,14 +41,14 @@ bound-in-range-requires c κs = search rules
 returns-2 : tie.Need-returns-2
 unfolding wrong_operand operands byte_after number_after view_at paper
 returns-2 c =
-    wrong-later _ _ _ (through (comparison_in_range _) c.before.before.before.before.before.byte.ensures.0 c.before.before.before.before.comparison_in_range_lem.ensures (not-false _ c.before.before.before.if1.false))
+    wrong_later _ _ _ (through (comparison_in_range _) c.before.before.before.before.before.byte.ensures.0 c.before.before.before.before.comparison_in_range_lem.ensures (not-false _ c.before.before.before.if1.false))
     (wrong_first _ _ _ (through (bound_in_range paper _) (back _ c.before.before.i32-at.type-inv ∙ c.before.before.i32-at.ensures.0) c.before.bound_in_range_lem.ensures (not-true _ c.if2.true)))
 
 returns-3 : tie.Need-returns-3
 unfolding wrong_operand operands byte_after number_after view_at paper
 returns-3 c =
-    wrong-later _ _ _ (through (comparison_in_range _) c.before.before.before.before.before.byte.ensures.0 c.before.before.before.before.comparison_in_range_lem.ensures (not-false _ c.before.before.before.if1.false))
-    (wrong-later _ _ _ (through (bound_in_range paper _) (back _ c.before.before.i32-at.type-inv ∙ c.before.before.i32-at.ensures.0) c.before.bound_in_range_lem.ensures (not-false _ c.if2.false))
+    wrong_later _ _ _ (through (comparison_in_range _) c.before.before.before.before.before.byte.ensures.0 c.before.before.before.before.comparison_in_range_lem.ensures (not-false _ c.before.before.before.if1.false))
+    (wrong_later _ _ _ (through (bound_in_range paper _) (back _ c.before.before.i32-at.type-inv ∙ c.before.before.i32-at.ensures.0) c.before.bound_in_range_lem.ensures (not-false _ c.if2.false))
     wrong_none)
 
 pub condition-operand-spec : {M : Type 1} → statement M

@@ -8,7 +8,7 @@ use Rattle.model.specs.Limits.{paper, kind_in_range, base_in_range}
 use Rattle.model.specs.Command.{width}
 use Rattle.model.specs.Seen.{byte_after, number_after}
 use Rattle.model.specs.Reading.{operands}
-use Rattle.operand.specs.Ranges.{wrong_operand, view_at, wrong_first, wrong-later, wrong_none, below_no, below_yes, through}
+use Rattle.operand.specs.Ranges.{wrong_operand, view_at, wrong_first, wrong_later, wrong_none, below_no, below_yes, through}
 use Rattle.operand.proofs.effect_operand.Statement.{statement}
 use Rattle.operand.proofs.effect_operand.Tie as tie
 
@@ -38,7 +38,7 @@ byte-requires-2 c κs = search rules
 returns-2 : tie.Need-returns-2
 unfolding wrong_operand operands byte_after number_after view_at paper
 returns-2 c =
-    wrong-later _ _ _ (through (kind_in_range _) c.before.before.before.before.byte.ensures.0 c.before.before.before.kind_in_range_lem.ensures (not-false _ c.before.before.if1.false))
+    wrong_later _ _ _ (through (kind_in_range _) c.before.before.before.before.byte.ensures.0 c.before.before.before.kind_in_range_lem.ensures (not-false _ c.before.before.if1.false))
     (wrong_first _ _ _ (below_no _ _ _ c.before.byte2.ensures.0 c.if2.true))
 
 add-i32-at : tie.Need-overflow-add-i32-at
@@ -55,16 +55,16 @@ base-in-range-requires c κs = search rules
 returns-3 : tie.Need-returns-3
 unfolding wrong_operand operands byte_after number_after view_at paper
 returns-3 c =
-    wrong-later _ _ _ (through (kind_in_range _) c.before.before.before.before.before.before.before.byte.ensures.0 c.before.before.before.before.before.before.kind_in_range_lem.ensures (not-false _ c.before.before.before.before.before.if1.false))
-    (wrong-later _ _ _ (below_yes _ _ _ c.before.before.before.before.byte2.ensures.0 c.before.before.before.if2.false)
+    wrong_later _ _ _ (through (kind_in_range _) c.before.before.before.before.before.before.before.byte.ensures.0 c.before.before.before.before.before.before.kind_in_range_lem.ensures (not-false _ c.before.before.before.before.before.if1.false))
+    (wrong_later _ _ _ (below_yes _ _ _ c.before.before.before.before.byte2.ensures.0 c.before.before.before.if2.false)
     (wrong_first _ _ _ (through (base_in_range paper) (back _ c.before.before.i32-at.type-inv ∙ c.before.before.i32-at.ensures.0) c.before.base-in-range.ensures (not-true _ c.if3.true))))
 
 returns-4 : tie.Need-returns-4
 unfolding wrong_operand operands byte_after number_after view_at paper
 returns-4 c =
-    wrong-later _ _ _ (through (kind_in_range _) c.before.before.before.before.before.before.before.byte.ensures.0 c.before.before.before.before.before.before.kind_in_range_lem.ensures (not-false _ c.before.before.before.before.before.if1.false))
-    (wrong-later _ _ _ (below_yes _ _ _ c.before.before.before.before.byte2.ensures.0 c.before.before.before.if2.false)
-    (wrong-later _ _ _ (through (base_in_range paper) (back _ c.before.before.i32-at.type-inv ∙ c.before.before.i32-at.ensures.0) c.before.base-in-range.ensures (not-false _ c.if3.false))
+    wrong_later _ _ _ (through (kind_in_range _) c.before.before.before.before.before.before.before.byte.ensures.0 c.before.before.before.before.before.before.kind_in_range_lem.ensures (not-false _ c.before.before.before.before.before.if1.false))
+    (wrong_later _ _ _ (below_yes _ _ _ c.before.before.before.before.byte2.ensures.0 c.before.before.before.if2.false)
+    (wrong_later _ _ _ (through (base_in_range paper) (back _ c.before.before.i32-at.type-inv ∙ c.before.before.i32-at.ensures.0) c.before.base-in-range.ensures (not-false _ c.if3.false))
     wrong_none))
 
 pub effect-operand-spec : {M : Type 1} → statement M

@@ -6,7 +6,7 @@ use Rattle.model.specs.Limits.{paper, vars_in_range}
 use Rattle.model.specs.Command.{width}
 use Rattle.model.specs.Seen.{byte_after}
 use Rattle.model.specs.Reading.{operands}
-use Rattle.operand.specs.Ranges.{wrong_operand, view_at, wrong_first, wrong-later, wrong_none, at_most_no, at_most_yes, through}
+use Rattle.operand.specs.Ranges.{wrong_operand, view_at, wrong_first, wrong_later, wrong_none, at_most_no, at_most_yes, through}
 use Rattle.operand.proofs.head_operand.Statement.{statement}
 use Rattle.operand.proofs.head_operand.Tie as tie
 
@@ -36,7 +36,7 @@ vars-in-range-requires c κs = search rules
 returns-2 : tie.Need-returns-2
 unfolding wrong_operand operands byte_after view_at paper
 returns-2 c =
-    wrong-later _ _ _ (at_most_yes _ _ _ c.before.before.before.before.byte.ensures.0 c.before.before.before.if1.false)
+    wrong_later _ _ _ (at_most_yes _ _ _ c.before.before.before.before.byte.ensures.0 c.before.before.before.if1.false)
     (wrong_first _ _ _ (through (vars_in_range paper _) c.before.before.byte2.ensures.0 c.before.vars_in_range_lem.ensures (not-true _ c.if2.true)))
 
 add-byte-3 : tie.Need-overflow-add-byte-3
@@ -50,16 +50,16 @@ byte-requires-3 c κs = search rules
 returns-3 : tie.Need-returns-3
 unfolding wrong_operand operands byte_after view_at paper
 returns-3 c =
-    wrong-later _ _ _ (at_most_yes _ _ _ c.before.before.before.before.before.before.byte.ensures.0 c.before.before.before.before.before.if1.false)
-    (wrong-later _ _ _ (through (vars_in_range paper _) c.before.before.before.before.byte2.ensures.0 c.before.before.before.vars_in_range_lem.ensures (not-false _ c.before.before.if2.false))
+    wrong_later _ _ _ (at_most_yes _ _ _ c.before.before.before.before.before.before.byte.ensures.0 c.before.before.before.before.before.if1.false)
+    (wrong_later _ _ _ (through (vars_in_range paper _) c.before.before.before.before.byte2.ensures.0 c.before.before.before.vars_in_range_lem.ensures (not-false _ c.before.before.if2.false))
     (wrong_first _ _ _ (at_most_no _ _ _ c.before.byte3.ensures.0 c.if3.true)))
 
 returns-4 : tie.Need-returns-4
 unfolding wrong_operand operands byte_after view_at paper
 returns-4 c =
-    wrong-later _ _ _ (at_most_yes _ _ _ c.before.before.before.before.before.before.byte.ensures.0 c.before.before.before.before.before.if1.false)
-    (wrong-later _ _ _ (through (vars_in_range paper _) c.before.before.before.before.byte2.ensures.0 c.before.before.before.vars_in_range_lem.ensures (not-false _ c.before.before.if2.false))
-    (wrong-later _ _ _ (at_most_yes _ _ _ c.before.byte3.ensures.0 c.if3.false) wrong_none))
+    wrong_later _ _ _ (at_most_yes _ _ _ c.before.before.before.before.before.before.byte.ensures.0 c.before.before.before.before.before.if1.false)
+    (wrong_later _ _ _ (through (vars_in_range paper _) c.before.before.before.before.byte2.ensures.0 c.before.before.before.vars_in_range_lem.ensures (not-false _ c.before.before.if2.false))
+    (wrong_later _ _ _ (at_most_yes _ _ _ c.before.byte3.ensures.0 c.if3.false) wrong_none))
 
 pub head-operand-spec : {M : Type 1} → statement M
 head-operand-spec =

@@ -89,7 +89,7 @@ returns-4 c = rw c.enum-told3.given.1 refl
 
 returns-5 : tie.Need-returns-5
 unfolding command_is wrong_operand operands byte_after number_after view_at
-returns-5 c = c.prop-operand.ensures ∙ sym (rw c.before.enum-told4.given.1 refl)
+returns-5 c = c.prop_operand.ensures ∙ sym (rw c.before.enum-told4.given.1 refl)
 
 returns-6 : tie.Need-returns-6
 unfolding command_is wrong_operand operands byte_after number_after view_at

@@ -4,7 +4,7 @@ use native.Mathlib.Omega.{arith}
 use lib.ListN.{length-set}
 use borrow.Author.Rules.{rules}
 use Rattle.output.specs.Writing.{written_not}
-use Rattle.output.specs.Digits.{Stored, stored_none, stored-length, nth_in, stored_next, stored-all}
+use Rattle.output.specs.Digits.{Stored, stored_none, stored_length, nth_in, stored_next, stored_all}
 use Rattle.output.proofs.put_decimal.Statement.{statement}
 use Rattle.output.proofs.put_decimal.Tie as tie
 
@@ -41,7 +41,7 @@ add-out-2 : tie.Need-overflow-add-out-2 invariant-loop decreases-loop
 add-out-2 c = omega arith
 
 slice-write-out : tie.Need-slice-write-out invariant-loop decreases-loop
-slice-write-out c = omega (arith, nth_in c.before.loop.invariant, stored-length c.before.loop.invariant)
+slice-write-out c = omega (arith, nth_in c.before.loop.invariant, stored_length c.before.loop.invariant)
 
 add-nth : tie.Need-overflow-add-nth invariant-loop decreases-loop
 add-nth c = omega (arith, nth_in c.before.loop.invariant)
@@ -65,13 +65,13 @@ add-out-4 : tie.Need-overflow-add-out-4 invariant-loop decreases-loop
 add-out-4 c = omega arith
 
 slice-write-out-2 : tie.Need-slice-write-out-2 invariant-loop decreases-loop
-slice-write-out-2 c = omega (arith, nth_in c.before.loop.invariant, stored-length c.before.loop.invariant)
+slice-write-out-2 c = omega (arith, nth_in c.before.loop.invariant, stored_length c.before.loop.invariant)
 
 same_length : tie.Need-same-length invariant-loop decreases-loop
-same_length c = simp length-set (stored-length c.before.loop.invariant)
+same_length c = simp length-set (stored_length c.before.loop.invariant)
 
 returns-2 : tie.Need-returns-2 invariant-loop decreases-loop
-returns-2 c = stored-all c.before.loop.invariant (omega arith)
+returns-2 c = stored_all c.before.loop.invariant (omega arith)
 
 pub put-decimal-spec : {M : Type 1} → statement M
 put-decimal-spec =

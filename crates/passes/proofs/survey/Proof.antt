@@ -6,10 +6,10 @@ use mathlib.Core.Path.{◌≡◌, sym, ap, ◌∙◌, subst}
 use mathlib.Core.Logic.{⊎_elim}
 use lib.ListN.{length, length-replicate}
 use Rattle.records.specs.Records.{kept_bytes}
-use Rattle.stored_layer.specs.Stored.{stored-moves}
+use Rattle.stored_layer.specs.Stored.{stored_moves}
 use Rattle.descent.specs.Layers.{LayerDescended}
-use Rattle.passes.specs.Passes.{Begun, walk-layer, walk-next, walk-long, walk-counted, Surveying, Gathered, survey-start, survey_down, survey-next, survey-few, survey-end, gather-start, walk-one, gather-one, gather-later}
-use Rattle.passes.specs.Keeping.{Kept, kept_start, kept_down, kept_next, kept-end}
+use Rattle.passes.specs.Passes.{Begun, walk_layer, walk_next, walk_long, walk_counted, Surveying, Gathered, survey_start, survey_down, survey_next, survey_few, survey_end, gather_start, walk_one, gather_one, gather_later}
+use Rattle.passes.specs.Keeping.{Kept, kept_start, kept_down, kept_next, kept_end}
 use Rattle.passes.proofs.survey.Statement.{statement}
 use Rattle.passes.proofs.survey.Tie as tie
 
@@ -31,7 +31,7 @@ loop-holds c = (
   omega arith,
   ap length c.no-counts.ensures ∙ length-replicate {A = ℕ} 64 0,
   c.before.before.before.before.requires.1,
-  λ x. (survey-start x.stored x.walked, kept_start x.stored c.before.before.before.before.requires.1, gather-start x.stored),
+  λ x. (survey_start x.stored x.walked, kept_start x.stored c.before.before.before.before.requires.1, gather_start x.stored),
 )
 
 -- in a turn of the loop: every reading of the arguments, the layer below, and the wants of the layer above it
@@ -50,29 +50,29 @@ helpful-moves-requires : tie.Need-helpful-moves-requires invariant-loop decrease
 helpful-moves-requires c κs =
     let i = c.before in
     let x = i.before.before.before.before.before.before.requires.0 in
-    walk-one x.stored c.if1.true i.before.loop.invariant.0 (i.before.loop.invariant.3 x).0.walked
+    walk_one x.stored c.if1.true i.before.loop.invariant.0 (i.before.loop.invariant.3 x).0.walked
 
 descend-requires : tie.Need-descend-requires invariant-loop decreases-loop
 descend-requires c κs =
     let i = c.before.before in
     let x = i.before.before.before.before.before.before.requires.0 in
-    (walk-layer x.stored x.row (below i) (so_far i x).walked, i.loop-test.true)
+    (walk_layer x.stored x.row (below i) (so_far i x).walked, i.loop-test.true)
 
 -- the layer below, reached
 descended :
     (d : tie.After-descend invariant-loop decreases-loop)
     → let i = d.before.before.before in
-    (x : Reading i) → LayerDescended (walk-layer x.stored x.row (below i) (so_far i x).walked) d.descend.result d.descend.new.1.1.1.1.1.1.1.1.1.0
-descended d x = let i = d.before.before.before in d.descend.ensures (walk-layer x.stored x.row (below i) (so_far i x).walked)
+    (x : Reading i) → LayerDescended (walk_layer x.stored x.row (below i) (so_far i x).walked) d.descend.result d.descend.new.1.1.1.1.1.1.1.1.1.0
+descended d x = let i = d.before.before.before in d.descend.ensures (walk_layer x.stored x.row (below i) (so_far i x).walked)
 
 counts-long : (d : tie.After-descend invariant-loop decreases-loop) → length d.descend.new.1.1.1.1.1.1.1.1.1.0 ≡ 64
 counts-long d =
     let i = d.before.before.before in
     let x = i.before.before.before.before.before.before.requires.0 in
-    walk-long x.stored x.row (below i) (so_far i x).walked (descended d x)
+    walk_long x.stored x.row (below i) (so_far i x).walked (descended d x)
 
-few-moves : (d : tie.After-descend invariant-loop decreases-loop) → d.before.before.before.before.before.before.before.before.before.args.moves ≤ 64
-few-moves d = stored-moves d.before.before.before.before.before.before.before.before.before.requires.0.stored.memory
+few_moves : (d : tie.After-descend invariant-loop decreases-loop) → d.before.before.before.before.before.before.before.before.before.args.moves ≤ 64
+few_moves d = stored_moves d.before.before.before.before.before.before.before.before.before.requires.0.stored.memory
 
 sub-t : tie.Need-overflow-sub-t invariant-loop decreases-loop
 sub-t c = omega (arith, c.before.before.before.loop-test.true)
@@ -81,7 +81,7 @@ slice-aggregate-count-taken : tie.Need-slice-aggregate-count-taken invariant-loo
 slice-aggregate-count-taken c = sym (counts-long c.before)
 
 count-taken-requires : tie.Need-count-taken-requires invariant-loop decreases-loop
-count-taken-requires c κs = omega (arith, counts-long c.before, few-moves c.before)
+count-taken-requires c κs = omega (arith, counts-long c.before, few_moves c.before)
 
 add-records : tie.Need-overflow-add-records invariant-loop decreases-loop
 add-records c =
@@ -89,7 +89,7 @@ add-records c =
     let i = d.before.before.before in
     let x = i.before.before.before.before.before.before.requires.0 in
     let w = (so_far i x).walked in
-    omega (arith, survey-few x.stored (survey-next x.stored (below i) (so_far i x) (walk-next x.stored x.row (below i) w (descended d x)) (walk-counted x.stored x.row (below i) w (descended d x)) c.count-taken.ensures.0))
+    omega (arith, survey_few x.stored (survey_next x.stored (below i) (so_far i x) (walk_next x.stored x.row (below i) w (descended d x)) (walk_counted x.stored x.row (below i) w (descended d x)) c.count-taken.ensures.0))
 
 slice-aggregate-keep-records : tie.Need-slice-aggregate-keep-records invariant-loop decreases-loop
 slice-aggregate-keep-records c = sym (counts-long c.before.before.before.before)
@@ -97,7 +97,7 @@ slice-aggregate-keep-records c = sym (counts-long c.before.before.before.before)
 keep-records-requires : tie.Need-keep-records-requires invariant-loop decreases-loop
 keep-records-requires c κs =
     let d = c.before.before.before.before in
-    (d.before.before.before.before.loop.invariant.2, omega (arith, counts-long d, few-moves d), few-moves d, omega (arith, c.before.before.count-taken.ensures.0))
+    (d.before.before.before.before.loop.invariant.2, omega (arith, counts-long d, few_moves d), few_moves d, omega (arith, c.before.before.count-taken.ensures.0))
 
 loop-less : tie.Need-loop-smaller invariant-loop decreases-loop
 loop-less c = omega (arith, c.before.before.before.before.before.before.before.before.before.before.loop-test.true)
@@ -111,16 +111,16 @@ loop-again c =
       counts-long d,
       omega (arith, c.before.kept.given, i.before.loop.invariant.2),
       λ x.
-          let counted = walk-counted x.stored x.row (below i) (so_far i x).walked (descended d x) in (
-            survey-next x.stored (below i) (so_far i x) (walk-next x.stored x.row (below i) (so_far i x).walked (descended d x)) counted k.count-taken.ensures.0,
+          let counted = walk_counted x.stored x.row (below i) (so_far i x).walked (descended d x) in (
+            survey_next x.stored (below i) (so_far i x) (walk_next x.stored x.row (below i) (so_far i x).walked (descended d x)) counted k.count-taken.ensures.0,
             kept_next x.stored (below i) i.before.loop.invariant.2 (kept_down i.loop-test.true (i.before.loop.invariant.3 x).1) counted k.count-taken.ensures.0
                 c.before.before.keep-records.ensures,
             ⊎_elim
                 (λ w.
                 let one = (i.before.loop.invariant.3 x).0.walked in
                 subst (Gathered x.stored (i.before.loop.t - 1)) (sym w.2)
-                (gather-one x.stored w.0.taken i.before.loop.invariant.0 one (w.1.ensures (walk-one x.stored w.0.taken i.before.loop.invariant.0 one))))
-                (λ w. gather-later x.stored i.loop-test.true w.0.left)
+                (gather_one x.stored w.0.taken i.before.loop.invariant.0 one (w.1.ensures (walk_one x.stored w.0.taken i.before.loop.invariant.0 one))))
+                (λ w. gather_later x.stored i.loop-test.true w.0.left)
                 d.before.before.if1.branch,
           ),
     )
@@ -131,7 +131,7 @@ same_length c = omega (arith, c.before.loop.invariant.2, c.before.before.before.
 returns : tie.Need-returns invariant-loop decreases-loop
 returns c x =
     let l = c.before.loop in
-    (survey-end x.stored _ c.loop-test.false (l.invariant.3 x).0 (l.invariant.3 x).2, kept-end x.stored _ c.loop-test.false (l.invariant.3 x).1)
+    (survey_end x.stored _ c.loop-test.false (l.invariant.3 x).0 (l.invariant.3 x).2, kept_end x.stored _ c.loop-test.false (l.invariant.3 x).1)
 
 pub survey-spec : {M : Type 1} → statement M
 survey-spec =

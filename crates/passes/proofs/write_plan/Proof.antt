@@ -3,8 +3,8 @@
 use Prim.Native.Nat.{◌-◌, ◌≤◌, ◌<◌}
 use native.Mathlib.Omega.{arith}
 use mathlib.Core.Path.{sym}
-use Rattle.stored_layer.specs.Stored.{stored-moves}
-use Rattle.passes.specs.Passes.{walk-layer, walk-next, walk-long, walk-counted, Writable, Backwards, backwards-start, backwards_down, backwards-length, back-enough, back-room, back-next, backwards-end}
+use Rattle.stored_layer.specs.Stored.{stored_moves}
+use Rattle.passes.specs.Passes.{walk_layer, walk_next, walk_long, walk_counted, Writable, Backwards, backwards_start, backwards_down, backwards_length, back_enough, back_room, back_next, backwards_end}
 use Rattle.passes.proofs.write_plan.Statement.{statement}
 use Rattle.passes.proofs.write_plan.Tie as tie
 
@@ -22,7 +22,7 @@ mul_at : tie.Need-overflow-mul-at invariant-loop decreases-loop
 mul_at c = omega (arith, c.before.before.before.before.requires.room)
 
 loop-holds : tie.Need-loop-init invariant-loop decreases-loop
-loop-holds c = (omega arith, λ x. backwards-start x)
+loop-holds c = (omega arith, λ x. backwards_start x)
 
 descend-requires : tie.Need-descend-requires invariant-loop decreases-loop
 descend-requires c κs =
@@ -30,7 +30,7 @@ descend-requires c κs =
     let x = i.before.before.before.before.before.before.requires in
     let s = backwards_down i.loop-test.true (i.before.loop.invariant.1 x) in
     let lt : i.before.loop.t - 1 < i.before.before.before.before.before.before.args.m = omega (arith, i.loop-test.true, i.before.loop.invariant.0) in
-    (walk-layer x.begun.stored x.begun.row lt s.walked, i.loop-test.true)
+    (walk_layer x.begun.stored x.begun.row lt s.walked, i.loop-test.true)
 
 sub-t : tie.Need-overflow-sub-t invariant-loop decreases-loop
 sub-t c = omega (arith, c.before.before.loop-test.true)
@@ -41,7 +41,7 @@ slice-aggregate-count-taken c =
     let x = i.before.before.before.before.before.before.requires in
     let s = backwards_down i.loop-test.true (i.before.loop.invariant.1 x) in
     let lt : i.before.loop.t - 1 < i.before.before.before.before.before.before.args.m = omega (arith, i.loop-test.true, i.before.loop.invariant.0) in
-    sym (walk-long x.begun.stored x.begun.row lt s.walked (c.before.descend.ensures (walk-layer x.begun.stored x.begun.row lt s.walked)))
+    sym (walk_long x.begun.stored x.begun.row lt s.walked (c.before.descend.ensures (walk_layer x.begun.stored x.begun.row lt s.walked)))
 
 count-taken-requires : tie.Need-count-taken-requires invariant-loop decreases-loop
 count-taken-requires c κs =
@@ -49,10 +49,10 @@ count-taken-requires c κs =
     let x = i.before.before.before.before.before.before.requires in
     let s = backwards_down i.loop-test.true (i.before.loop.invariant.1 x) in
     let lt : i.before.loop.t - 1 < i.before.before.before.before.before.before.args.m = omega (arith, i.loop-test.true, i.before.loop.invariant.0) in
-    omega (arith, walk-long x.begun.stored x.begun.row lt s.walked (c.before.descend.ensures (walk-layer x.begun.stored x.begun.row lt s.walked)), stored-moves x.begun.stored.memory)
+    omega (arith, walk_long x.begun.stored x.begun.row lt s.walked (c.before.descend.ensures (walk_layer x.begun.stored x.begun.row lt s.walked)), stored_moves x.begun.stored.memory)
 
 mul-at-2 : tie.Need-overflow-mul-at-2 invariant-loop decreases-loop
-mul-at-2 c = omega (arith, c.count-taken.ensures.1, stored-moves c.before.before.before.before.before.before.before.before.before.before.requires.begun.stored.memory)
+mul-at-2 c = omega (arith, c.count-taken.ensures.1, stored_moves c.before.before.before.before.before.before.before.before.before.before.requires.begun.stored.memory)
 
 sub_at : tie.Need-overflow-sub-at invariant-loop decreases-loop
 sub_at c =
@@ -60,8 +60,8 @@ sub_at c =
     let x = i.before.before.before.before.before.before.requires in
     let s = backwards_down i.loop-test.true (i.before.loop.invariant.1 x) in
     let lt : i.before.loop.t - 1 < i.before.before.before.before.before.before.args.m = omega (arith, i.loop-test.true, i.before.loop.invariant.0) in
-    let e = c.before.before.descend.ensures (walk-layer x.begun.stored x.begun.row lt s.walked) in
-    back-enough x lt s (walk-next x.begun.stored x.begun.row lt s.walked e) (walk-counted x.begun.stored x.begun.row lt s.walked e) c.count-taken.ensures.0
+    let e = c.before.before.descend.ensures (walk_layer x.begun.stored x.begun.row lt s.walked) in
+    back_enough x lt s (walk_next x.begun.stored x.begun.row lt s.walked e) (walk_counted x.begun.stored x.begun.row lt s.walked e) c.count-taken.ensures.0
 
 slice-aggregate-write-records : tie.Need-slice-aggregate-write-records invariant-loop decreases-loop
 slice-aggregate-write-records c =
@@ -69,7 +69,7 @@ slice-aggregate-write-records c =
     let x = i.before.before.before.before.before.before.requires in
     let s = backwards_down i.loop-test.true (i.before.loop.invariant.1 x) in
     let lt : i.before.loop.t - 1 < i.before.before.before.before.before.before.args.m = omega (arith, i.loop-test.true, i.before.loop.invariant.0) in
-    sym (walk-long x.begun.stored x.begun.row lt s.walked (c.before.before.before.before.descend.ensures (walk-layer x.begun.stored x.begun.row lt s.walked)))
+    sym (walk_long x.begun.stored x.begun.row lt s.walked (c.before.before.before.before.descend.ensures (walk_layer x.begun.stored x.begun.row lt s.walked)))
 
 write-records-requires : tie.Need-write-records-requires invariant-loop decreases-loop
 write-records-requires c κs =
@@ -77,10 +77,10 @@ write-records-requires c κs =
     let x = i.before.before.before.before.before.before.requires in
     let s = backwards_down i.loop-test.true (i.before.loop.invariant.1 x) in
     let lt : i.before.loop.t - 1 < i.before.before.before.before.before.before.args.m = omega (arith, i.loop-test.true, i.before.loop.invariant.0) in
-    let e = c.before.before.before.before.descend.ensures (walk-layer x.begun.stored x.begun.row lt s.walked) in (
-      omega (arith, walk-long x.begun.stored x.begun.row lt s.walked e, stored-moves x.begun.stored.memory),
-      stored-moves x.begun.stored.memory,
-      back-room x lt s (walk-next x.begun.stored x.begun.row lt s.walked e) (walk-counted x.begun.stored x.begun.row lt s.walked e) c.before.before.count-taken.ensures.0,
+    let e = c.before.before.before.before.descend.ensures (walk_layer x.begun.stored x.begun.row lt s.walked) in (
+      omega (arith, walk_long x.begun.stored x.begun.row lt s.walked e, stored_moves x.begun.stored.memory),
+      stored_moves x.begun.stored.memory,
+      back_room x lt s (walk_next x.begun.stored x.begun.row lt s.walked e) (walk_counted x.begun.stored x.begun.row lt s.walked e) c.before.before.count-taken.ensures.0,
     )
 
 loop-less : tie.Need-loop-smaller invariant-loop decreases-loop
@@ -93,15 +93,15 @@ loop-again c = (
       let i = c.before.before.before.before.before.before.before.before.before in
       let s = backwards_down i.loop-test.true (i.before.loop.invariant.1 x) in
       let lt : i.before.loop.t - 1 < i.before.before.before.before.before.before.args.m = omega (arith, i.loop-test.true, i.before.loop.invariant.0) in
-      let e = c.before.before.before.before.before.before.before.descend.ensures (walk-layer x.begun.stored x.begun.row lt s.walked) in
-      back-next x lt s (walk-next x.begun.stored x.begun.row lt s.walked e) (walk-counted x.begun.stored x.begun.row lt s.walked e) c.before.before.before.before.before.count-taken.ensures.0 c.before.before.write-records.ensures,
+      let e = c.before.before.before.before.before.before.before.descend.ensures (walk_layer x.begun.stored x.begun.row lt s.walked) in
+      back_next x lt s (walk_next x.begun.stored x.begun.row lt s.walked e) (walk_counted x.begun.stored x.begun.row lt s.walked e) c.before.before.before.before.before.count-taken.ensures.0 c.before.before.write-records.ensures,
 )
 
 same_length : tie.Need-same-length invariant-loop decreases-loop
-same_length c = let x = c.before.before.before.before.before.before.requires in backwards-length x (c.before.loop.invariant.1 x)
+same_length c = let x = c.before.before.before.before.before.before.requires in backwards_length x (c.before.loop.invariant.1 x)
 
 returns : tie.Need-returns invariant-loop decreases-loop
-returns c x = backwards-end x _ c.loop-test.false (c.before.loop.invariant.1 x)
+returns c x = backwards_end x _ c.loop-test.false (c.before.loop.invariant.1 x)
 
 pub write-plan-spec : {M : Type 1} → statement M
 write-plan-spec =

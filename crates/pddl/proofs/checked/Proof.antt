@@ -3,7 +3,7 @@ use borrow.Author.Rules.{rules}
 use Rattle.state.specs.Checking.{check_accepted, check_refused}
 use Rattle.output.specs.Answers.{answered_same, answered_refused}
 use Rattle.pddl_text.specs.Printable.{few_props, few_vars}
-use Rattle.pddl.specs.Calls.{text-refused, text-written}
+use Rattle.pddl.specs.Calls.{text_refused, text_written}
 use Rattle.pddl.proofs.checked.Statement.{statement}
 use Rattle.pddl.proofs.checked.Tie as tie
 
@@ -25,12 +25,12 @@ same_length c = search rules
 returns : tie.Need-returns
 returns c =
     let s = c.before.before.before.before.before.before.before.before.before.before.before in
-    answered_same c.before.before.write.ensures (text-written s.requires s.args.state.now (check_accepted c.before.before.before.before.before.before.before.check.ensures c.before.before.before.before.before.enum_told.given.1))
+    answered_same c.before.before.write.ensures (text_written s.requires s.args.state.now (check_accepted c.before.before.before.before.before.before.before.check.ensures c.before.before.before.before.before.enum_told.given.1))
 
 returns-2 : tie.Need-returns-2
 returns-2 c =
     let s = c.before.before.before.before.before.before.before in
-    answered_refused _ (text-refused s.requires s.args.state.now (check_refused c.before.before.before.check.ensures c.before.r.given.1))
+    answered_refused _ (text_refused s.requires s.args.state.now (check_refused c.before.before.before.check.ensures c.before.r.given.1))
 
 pub checked-spec : {M : Type 1} → statement M
 checked-spec =

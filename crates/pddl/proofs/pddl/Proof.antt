@@ -3,8 +3,8 @@ use native.Mathlib.Omega.{arith}
 use borrow.Author.Rules.{rules}
 use Rattle.model.specs.Task.{written}
 use Rattle.table.specs.Names.{wanted_of}
-use Rattle.table.specs.Outlines.{head_read, head-refused}
-use Rattle.pddl.specs.Calls.{pddl-answered, pddl-refused}
+use Rattle.table.specs.Outlines.{head_read, head_refused}
+use Rattle.pddl.specs.Calls.{pddl_answered, pddl_refused}
 use Rattle.pddl.proofs.pddl.Statement.{statement}
 use Rattle.pddl.proofs.pddl.Tie as tie
 
@@ -25,13 +25,13 @@ same_length : tie.Need-same-length
 same_length c = search rules
 
 returns : tie.Need-returns
-returns c = let a = c.before.before.before.before.before.before.before.before.before.before.before.before.before.args in pddl-answered a.table.now a.state.now c.before.before.checked.ensures
+returns c = let a = c.before.before.before.before.before.before.before.before.before.before.before.before.before.args in pddl_answered a.table.now a.state.now c.before.before.checked.ensures
 
 returns-2 : tie.Need-returns-2
 unfolding wanted_of
 returns-2 c =
     let a = c.before.before.before.before.before.before.before.before.args in
-    pddl-refused a.table.now a.state.now a.out.now (head-refused written c.before.before.before.outline.ensures c.before.r.given.1)
+    pddl_refused a.table.now a.state.now a.out.now (head_refused written c.before.before.before.outline.ensures c.before.r.given.1)
 
 pub pddl-spec : {M : Type 1} → statement M
 pddl-spec =

@@ -5,19 +5,19 @@ use mathlib.Core.Path.{sym, ap, ◌∙◌}
 use borrow.Author.Rules.{rules}
 use borrow.Author.Tests.{le-ltb}
 use lib.Dec.{ltb}
-use Rattle.reader.specs.Written.{head-short}
-use Rattle.pddl_text.specs.Printable.{text-size}
+use Rattle.reader.specs.Written.{head_short}
+use Rattle.pddl_text.specs.Printable.{text_size}
 use Rattle.pddl.proofs.too_short.Statement.{statement}
 use Rattle.pddl.proofs.too_short.Tie as tie
 
 mul-if1 : tie.Need-overflow-mul-if1
-mul-if1 c = omega (arith, head-short c.before.before.before.requires.read)
+mul-if1 c = omega (arith, head_short c.before.before.before.requires.read)
 
 add-if1 : tie.Need-overflow-add-if1
-add-if1 c = omega (arith, head-short c.before.before.before.requires.read)
+add-if1 c = omega (arith, head_short c.before.before.before.requires.read)
 
 returns : tie.Need-returns
-returns c = sym (le-ltb c.before.before.before.before.args.room _ (omega (arith, text-size c.before.before.before.before.requires, c.if1.true)))
+returns c = sym (le-ltb c.before.before.before.before.args.room _ (omega (arith, text_size c.before.before.before.before.requires, c.if1.true)))
 
 slice-aggregate-put-text : tie.Need-slice-aggregate-put-text
 slice-aggregate-put-text c = search rules

@@ -1,5 +1,5 @@
 -- `write` meets its contract: 13 before a byte is written. Assumes nothing.
-use Rattle.output.specs.Answers.{answered-thirteen, answered-put}
+use Rattle.output.specs.Answers.{answered_thirteen, answered_put}
 use Rattle.pddl.proofs.write.Statement.{statement}
 use Rattle.pddl.proofs.write.Tie as tie
 
@@ -7,7 +7,7 @@ too-short-requires : tie.Need-too-short-requires
 too-short-requires c κs = c.before.before.before.before.requires
 
 returns : tie.Need-returns
-returns c = answered-thirteen c.before.too_short.ensures c.if1.true
+returns c = answered_thirteen c.before.too_short.ensures c.if1.true
 
 put-text-requires : tie.Need-put-text-requires
 put-text-requires c κs = c.before.before.before.before.before.before.before.requires
@@ -17,7 +17,7 @@ same_length c = c.before.before.put-text.ensures.kept
 
 returns-2 : tie.Need-returns-2
 returns-2 c =
-    answered-put c.before.before.before.before.before.too_short.ensures c.before.before.before.before.if1.false
+    answered_put c.before.before.before.before.before.too_short.ensures c.before.before.before.before.if1.false
     c.before.before.put-text.ensures
 
 pub write_spec : {M : Type 1} → statement M

@@ -7,7 +7,7 @@ use Rattle.model.specs.Ascii.{ascii}
 use Rattle.block.specs.Remaining.{Writable}
 use Rattle.output.specs.Writing.{written_join, written_same, written_none, room_same, room_first, room_next}
 use Rattle.pddl_sum.specs.Names.{name_text}
-use Rattle.pddl_block.specs.Items.{need-row, condition-row}
+use Rattle.pddl_block.specs.Items.{need_row, condition_row}
 use Rattle.pddl_block.proofs.Passed.{no_condition}
 use Rattle.pddl_block.proofs.put_formula.Statement.{statement}
 use Rattle.pddl_block.proofs.put_formula.Tie as tie
@@ -18,7 +18,7 @@ enum-known-item c = search rules
 put-bytes-requires : tie.Need-put-bytes-requires
 put-bytes-requires c κs =
     let s = c.before.before.before.before.before.before.before in
-    let r = need-row s.args.line.now s.args.part.now c.before.before.item.given.1 in
+    let r = need_row s.args.line.now s.args.part.now c.before.before.item.given.1 in
     omega (arith, (room_first s.args.line.now _ (room_same s.requires.1 r)).short)
 
 slice-aggregate-put-name : tie.Need-slice-aggregate-put-name
@@ -28,7 +28,7 @@ put-name-requires : tie.Need-put-name-requires
 unfolding ascii
 put-name-requires c κs =
     let s = c.before.before.before.before.before.before.before.before.before.before.before.before in
-    let r = need-row s.args.line.now s.args.part.now c.before.before.before.before.before.before.before.item.given.1 in
+    let r = need_row s.args.line.now s.args.part.now c.before.before.before.before.before.before.before.item.given.1 in
     room_next (name_text (ascii "(p") _) c.before.before.before.before.put-bytes.ensures (room_same s.requires.1 r)
 
 enum-known-item-2 : tie.Need-enum-known-item-2
@@ -37,7 +37,7 @@ enum-known-item-2 c = search rules
 put-bytes-requires-2 : tie.Need-put-bytes-requires-2
 put-bytes-requires-2 c κs =
     let s = c.before.before.before.before.before.before.before in
-    let r = condition-row s.args.line.now s.args.part.now c.before.before.item2.given.1 in
+    let r = condition_row s.args.line.now s.args.part.now c.before.before.item2.given.1 in
     omega (arith, (room_first s.args.line.now _ (room_same s.requires.1 r)).short)
 
 put-condition-requires : tie.Need-put-condition-requires
@@ -45,7 +45,7 @@ put-condition-requires c κs =
     let s = c.before.before.before.before.before.before.before.before.before.before.before in
     let e = c.before.before.before.before.before.before.item2.given.1 in
     let w = subst (Writable s.args.part.now) e s.requires.0 in
-    let r = condition-row s.args.line.now s.args.part.now e in
+    let r = condition_row s.args.line.now s.args.part.now e in
     rw (back_small c.before.before.before.before.before.before.item2.given.0.1.0 (omega (arith, w.bound)))
     (w, room_next _ c.before.before.before.put-bytes2.ensures (room_same s.requires.1 r))
 
@@ -56,7 +56,7 @@ returns : tie.Need-returns
 unfolding ascii
 returns c =
     let s = c.before.before.before.before.before.before.before.before.before.before.before.before.before.before.before in
-    let r = need-row s.args.line.now s.args.part.now c.before.before.before.before.before.before.before.before.before.before.item.given.1 in
+    let r = need_row s.args.line.now s.args.part.now c.before.before.before.before.before.before.before.before.before.before.item.given.1 in
     written_same (written_join c.before.before.before.before.before.before.before.put-bytes.ensures c.before.before.put-name.ensures) (sym r)
 
 same-length-2 : tie.Need-same-length-2
@@ -67,7 +67,7 @@ returns-2 c =
     let s = c.before.before.before.before.before.before.before.before.before.before.before.before.before.before in
     let e = c.before.before.before.before.before.before.before.before.before.item2.given.1 in
     let w = subst (Writable s.args.part.now) e s.requires.0 in
-    let r = condition-row s.args.line.now s.args.part.now e in
+    let r = condition_row s.args.line.now s.args.part.now e in
     written_same
     (written_join c.before.before.before.before.before.before.put-bytes2.ensures (rw (back_small c.before.before.before.before.before.before.before.before.before.item2.given.0.1.0 (omega (arith, w.bound))) at c.before.before.put-condition.ensures))
     (sym r)

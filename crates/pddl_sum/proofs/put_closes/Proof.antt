@@ -3,7 +3,7 @@
 use Prim.Native.Nat.{◌-◌, ◌≤◌}
 use native.Mathlib.Omega.{arith}
 use Rattle.model.specs.Ascii.{ascii}
-use Rattle.output.specs.Writing.{Writing, writing-rest, writing-behind, writing_step}
+use Rattle.output.specs.Writing.{Writing, writing_rest, writing_behind, writing_step}
 use Rattle.pddl_sum.specs.Sums.{closes, closes_start, closes_next, closes_done, length_closes}
 use Rattle.pddl_sum.proofs.put_closes.Statement.{statement}
 use Rattle.pddl_sum.proofs.put_closes.Tie as tie
@@ -18,7 +18,7 @@ loop-holds : tie.Need-loop-init invariant-loop decreases-loop
 loop-holds c = let a = c.before.args in (omega arith, closes_start a.n a.out.now a.at)
 
 put-byte-requires : tie.Need-put-byte-requires invariant-loop decreases-loop
-put-byte-requires c κs = omega (arith, writing-behind c.before.before.loop.invariant.1, c.before.before.before.before.requires.short)
+put-byte-requires c κs = omega (arith, writing_behind c.before.before.loop.invariant.1, c.before.before.before.before.requires.short)
 
 add-i : tie.Need-overflow-add-i invariant-loop decreases-loop
 add-i c = omega (arith, c.before.before.before.before.loop-test.true, length_closes c.before.before.before.before.before.before.before.args.n, c.before.before.before.before.before.before.before.requires.short)
@@ -30,7 +30,7 @@ loop-again : tie.Need-loop-preserved invariant-loop decreases-loop
 unfolding ascii
 loop-again c = (
   omega arith,
-  writing_step (writing-rest c.before.before.before.before.before.loop.invariant.1 (closes_next c.before.before.before.before.before.before.before.args.n c.before.before.before.before.before.loop.i c.before.before.before.before.loop-test.true)) c.before.before.put_byte.ensures,
+  writing_step (writing_rest c.before.before.before.before.before.loop.invariant.1 (closes_next c.before.before.before.before.before.before.before.args.n c.before.before.before.before.before.loop.i c.before.before.before.before.loop-test.true)) c.before.before.put_byte.ensures,
 )
 
 same_length : tie.Need-same-length invariant-loop decreases-loop

@@ -3,7 +3,7 @@
 use Prim.Native.Nat.{◌-◌}
 use native.Mathlib.Omega.{arith}
 use Rattle.pddl_sum.specs.Names.{name_text}
-use Rattle.pddl_sum.specs.Names.{EachWriting, each_start, each-room, each_step, each-end}
+use Rattle.pddl_sum.specs.Names.{EachWriting, each_start, each_room, each_step, each_end}
 use Rattle.pddl_sum.proofs.put_names.Statement.{statement}
 use Rattle.pddl_sum.proofs.put_names.Tie as tie
 
@@ -17,7 +17,7 @@ loop-holds : tie.Need-loop-init invariant-loop decreases-loop
 loop-holds c = let a = c.before.before.args in each_start (name_text a.word.now) a.n a.out.now a.at
 
 put-name-requires : tie.Need-put-name-requires invariant-loop decreases-loop
-put-name-requires c κs = each-room c.before.before.loop.invariant c.before.loop-test.true c.before.before.before.before.before.requires
+put-name-requires c κs = each_room c.before.before.loop.invariant c.before.loop-test.true c.before.before.before.before.before.requires
 
 add-i : tie.Need-overflow-add-i invariant-loop decreases-loop
 add-i c = omega (arith, c.before.before.before.before.loop-test.true)
@@ -32,7 +32,7 @@ same_length : tie.Need-same-length invariant-loop decreases-loop
 same_length c = c.before.loop.invariant.writing.so_far.kept
 
 returns : tie.Need-returns invariant-loop decreases-loop
-returns c = each-end c.before.loop.invariant c.loop-test.false
+returns c = each_end c.before.loop.invariant c.loop-test.false
 
 pub put-names-spec : {M : Type 1} → statement M
 put-names-spec =

@@ -9,7 +9,7 @@ use borrow.Author.Rules.{rules}
 use Rattle.integer.specs.Linear.{back}
 use Rattle.model.specs.Ascii.{ascii}
 use Rattle.model.specs.Pddl.{number_text}
-use Rattle.block.specs.Terms.{term_of, sum-term, term-variable, term-weighs}
+use Rattle.block.specs.Terms.{term_of, sum_term, term_variable, term_weighs}
 use Rattle.output.specs.Writing.{Room, written_join, room_first, room_next}
 use Rattle.pddl_sum.specs.Names.{name_text}
 use Rattle.pddl_sum.specs.Sums.{term_text}
@@ -31,10 +31,10 @@ weighed-room : (c : tie.Start) → Room c.args.at (weighed c)
 weighed-room c = room_first (weighed c) (name_text (ascii " (v") (term_of c.args.part.now c.args.term).var) (named-room c)
 
 weight-requires : tie.Need-weight-requires
-weight-requires c κs = sum-term c.before.before.requires.0.sum c.before.before.requires.0.some
+weight-requires c κs = sum_term c.before.before.requires.0.sum c.before.before.requires.0.some
 
 variable-requires : tie.Need-variable-requires
-variable-requires c κs = sum-term c.before.before.before.requires.0.sum c.before.before.before.requires.0.some
+variable-requires c κs = sum_term c.before.before.before.requires.0.sum c.before.before.before.requires.0.some
 
 slice-aggregate-put-bytes : tie.Need-slice-aggregate-put-bytes
 slice-aggregate-put-bytes c = search rules
@@ -46,10 +46,10 @@ put-bytes-requires c κs = omega (arith, (room_first (ascii "(+ (* ") (number_te
 -- the weight and the variable that are read
 weighs : (c : tie.After-variable) → to_z w64 (of_z w64 c.before.weight.result) ≡ (term_of c.before.before.before.before.args.part.now c.before.before.before.before.args.term).weight
 weighs c =
-    back c.before.weight.result c.before.weight.type-inv ∙ term-weighs c.before.before.before.before.requires.0.sum c.before.before.before.before.requires.0.some c.before.weight.ensures
+    back c.before.weight.result c.before.weight.type-inv ∙ term_weighs c.before.before.before.before.requires.0.sum c.before.before.before.before.requires.0.some c.before.weight.ensures
 
 names : (c : tie.After-variable) → c.variable.result ≡ (term_of c.before.before.before.before.args.part.now c.before.before.before.before.args.term).var
-names c = (term-variable c.before.before.before.before.requires.0.sum c.before.before.before.before.requires.0.some c.variable.ensures).0
+names c = (term_variable c.before.before.before.before.requires.0.sum c.before.before.before.before.requires.0.some c.variable.ensures).0
 
 put-number-requires : tie.Need-put-number-requires
 unfolding ascii

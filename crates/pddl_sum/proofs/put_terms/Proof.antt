@@ -4,7 +4,7 @@ use Prim.Native.Nat.{◌+◌, ◌*◌, ◌-◌, ◌≤◌}
 use native.Mathlib.Omega.{arith}
 use Rattle.block.specs.Sums.{few_terms}
 use Rattle.block.specs.Terms.{SumAt, term_of, terms_at, sum_behind}
-use Rattle.output.specs.Writing.{Writing, writing-rest, writing-room, writing_step}
+use Rattle.output.specs.Writing.{Writing, writing_rest, writing_room, writing_step}
 use Rattle.pddl_sum.specs.Sums.{term_text, term_texts, terms_start, terms_next, terms_done}
 use Rattle.pddl_sum.proofs.put_terms.Statement.{statement}
 use Rattle.pddl_sum.proofs.put_terms.Tie as tie
@@ -34,7 +34,7 @@ put-term-requires : tie.Need-put-term-requires invariant-loop decreases-loop
 put-term-requires c κs =
     let a = c.before.before.before.before.before.args in (
       record { n = a.n - c.before.before.loop.i; sum = behind c.before.before; some = omega (arith, c.before.loop-test.true) },
-      writing-room (term_text (term_of a.part.now (a.from + 4 * c.before.before.loop.i))) _ (writing-rest c.before.before.loop.invariant.1 (terms_next a.part.now a.from a.n c.before.before.loop.i c.before.loop-test.true)) c.before.before.before.before.before.requires.1,
+      writing_room (term_text (term_of a.part.now (a.from + 4 * c.before.before.loop.i))) _ (writing_rest c.before.before.loop.invariant.1 (terms_next a.part.now a.from a.n c.before.before.loop.i c.before.loop-test.true)) c.before.before.before.before.before.requires.1,
     )
 
 add-i : tie.Need-overflow-add-i invariant-loop decreases-loop
@@ -44,7 +44,7 @@ loop-less : tie.Need-loop-smaller invariant-loop decreases-loop
 loop-less c = omega arith
 
 loop-again : tie.Need-loop-preserved invariant-loop decreases-loop
-loop-again c = let a = c.before.before.before.before.before.before.before.before.args in (omega arith, writing_step (writing-rest c.before.before.before.before.before.loop.invariant.1 (terms_next a.part.now a.from a.n c.before.before.before.before.before.loop.i c.before.before.before.before.loop-test.true)) c.before.before.put-term.ensures)
+loop-again c = let a = c.before.before.before.before.before.before.before.before.args in (omega arith, writing_step (writing_rest c.before.before.before.before.before.loop.invariant.1 (terms_next a.part.now a.from a.n c.before.before.before.before.before.loop.i c.before.before.before.before.loop-test.true)) c.before.before.put-term.ensures)
 
 same_length : tie.Need-same-length invariant-loop decreases-loop
 same_length c = c.before.loop.invariant.1.so_far.kept

@@ -6,7 +6,7 @@ use borrow.Author.Rules.{rules}
 use Rattle.model.specs.Ascii.{ascii}
 use Rattle.model.specs.Listing.{decimal}
 use Rattle.output.specs.Writing.{Room, written_join, room_first, room_next}
-use Rattle.pddl_block.specs.Rows.{conditionRows, effectRows}
+use Rattle.pddl_block.specs.Rows.{condition_rows, effect_rows}
 use Rattle.pddl_text.specs.Documents.{action_row}
 use Rattle.pddl_text.proofs.put_action.Statement.{statement}
 use Rattle.pddl_text.proofs.put_action.Tie as tie
@@ -19,13 +19,13 @@ abbrev opened : tie.Start → List ℕ
 opened c = numbered c ++ ascii "\n    :parameters ()\n    :precondition (and"
 
 abbrev conditions : tie.Start → List ℕ
-conditions c = opened c ++ conditionRows (ascii "\n      ") c.requires.block
+conditions c = opened c ++ condition_rows (ascii "\n      ") c.requires.block
 
 abbrev between : tie.Start → List ℕ
 between c = conditions c ++ ascii ")\n    :effect (and"
 
 abbrev effects : tie.Start → List ℕ
-effects c = between c ++ effectRows (ascii "\n      ") c.requires.block
+effects c = between c ++ effect_rows (ascii "\n      ") c.requires.block
 
 whole_room : (c : tie.Start) → Room c.args.at (effects c ++ ascii "))")
 unfolding action_row
@@ -35,13 +35,13 @@ effects-room : (c : tie.Start) → Room c.args.at (effects c)
 effects-room c = room_first (effects c) (ascii "))") (whole_room c)
 
 between-room : (c : tie.Start) → Room c.args.at (between c)
-between-room c = room_first (between c) (effectRows (ascii "\n      ") c.requires.block) (effects-room c)
+between-room c = room_first (between c) (effect_rows (ascii "\n      ") c.requires.block) (effects-room c)
 
 conditions-room : (c : tie.Start) → Room c.args.at (conditions c)
 conditions-room c = room_first (conditions c) (ascii ")\n    :effect (and") (between-room c)
 
 opened-room : (c : tie.Start) → Room c.args.at (opened c)
-opened-room c = room_first (opened c) (conditionRows (ascii "\n      ") c.requires.block) (conditions-room c)
+opened-room c = room_first (opened c) (condition_rows (ascii "\n      ") c.requires.block) (conditions-room c)
 
 numbered-room : (c : tie.Start) → Room c.args.at (numbered c)
 numbered-room c = room_first (numbered c) (ascii "\n    :parameters ()\n    :precondition (and") (opened-room c)
@@ -77,7 +77,7 @@ put-conditions-requires c κs =
     record {
       block = s.requires.block;
       remaining = s.requires.remaining;
-      room = room_next (conditionRows (ascii "\n      ") s.requires.block) w (conditions-room s);
+      room = room_next (condition_rows (ascii "\n      ") s.requires.block) w (conditions-room s);
     }
 
 slice-aggregate-put-bytes-3 : tie.Need-slice-aggregate-put-bytes-3
@@ -103,7 +103,7 @@ put-effects-requires c κs =
     record {
       block = s.requires.block;
       remaining = s.requires.remaining;
-      room = room_next (effectRows (ascii "\n      ") s.requires.block) (written_join v c.before.before.before.before.put-bytes3.ensures) (effects-room s);
+      room = room_next (effect_rows (ascii "\n      ") s.requires.block) (written_join v c.before.before.before.before.put-bytes3.ensures) (effects-room s);
     }
 
 slice-aggregate-put-bytes-4 : tie.Need-slice-aggregate-put-bytes-4

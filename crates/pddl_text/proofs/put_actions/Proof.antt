@@ -4,8 +4,8 @@ use Prim.Native.Nat.{◌-◌}
 use native.Mathlib.Omega.{arith}
 use Rattle.model.specs.Move.{move_at}
 use Rattle.block.specs.Remaining.{Remaining}
-use Rattle.reader.specs.Written.{read_task, move-remaining, block_in, few-moves}
-use Rattle.pddl_sum.specs.Names.{EachWriting, each_start, each-room, each_step, each-end}
+use Rattle.reader.specs.Written.{read_task, move_remaining, block_in, few_moves}
+use Rattle.pddl_sum.specs.Names.{EachWriting, each_start, each_room, each_step, each_end}
 use Rattle.pddl_text.specs.Documents.{action_at}
 use Rattle.pddl_text.proofs.put_actions.Statement.{statement}
 use Rattle.pddl_text.proofs.put_actions.Tie as tie
@@ -19,7 +19,7 @@ decreases-loop table marks moves out₀ at to₀ b₀ out to b = moves - b
 -- the move's part holds its items
 remains : (c : tie.After-part invariant-loop decreases-loop) → Remaining c.part.result.now 1 (move_at (read_task c.before.before.before.before.before.before.args.table.now) c.before.before.loop.b)
 unfolding move_at
-remains c = move-remaining c.before.before.before.before.before.before.requires.0 c.before.before.loop.b c.before.loop-test.true c.part.ensures.0
+remains c = move_remaining c.before.before.before.before.before.before.requires.0 c.before.before.loop.b c.before.loop-test.true c.part.ensures.0
 
 loop-holds : tie.Need-loop-init invariant-loop decreases-loop
 loop-holds c = let a = c.before.before.before.args in each_start (action_at (read_task a.table.now)) a.moves a.out.now a.at
@@ -33,11 +33,11 @@ put-action-requires c κs =
     record {
       block = move_at (read_task c.before.before.before.before.before.before.before.args.table.now) c.before.before.before.loop.b;
       remaining = remains c.before;
-      room = each-room c.before.before.before.loop.invariant c.before.before.loop-test.true c.before.before.before.before.before.before.before.requires.1;
+      room = each_room c.before.before.before.loop.invariant c.before.before.loop-test.true c.before.before.before.before.before.before.before.requires.1;
     }
 
 add-b : tie.Need-overflow-add-b invariant-loop decreases-loop
-add-b c = omega (arith, few-moves c.before.before.before.before.before.before.before.before.before.before.requires.0, c.before.before.before.before.before.loop-test.true)
+add-b c = omega (arith, few_moves c.before.before.before.before.before.before.before.before.before.before.requires.0, c.before.before.before.before.before.loop-test.true)
 
 loop-less : tie.Need-loop-smaller invariant-loop decreases-loop
 loop-less c = omega arith
@@ -50,7 +50,7 @@ same_length : tie.Need-same-length invariant-loop decreases-loop
 same_length c = c.before.loop.invariant.writing.so_far.kept
 
 returns : tie.Need-returns invariant-loop decreases-loop
-returns c = each-end c.before.loop.invariant c.loop-test.false
+returns c = each_end c.before.loop.invariant c.loop-test.false
 
 pub put-actions-spec : {M : Type 1} → statement M
 put-actions-spec =

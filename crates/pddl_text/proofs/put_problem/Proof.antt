@@ -6,7 +6,7 @@ use borrow.Author.Rules.{rules}
 use Rattle.model.specs.Ascii.{ascii}
 use Rattle.model.specs.StateTable.{state_of}
 use Rattle.output.specs.Writing.{Room, written_join, room_first, room_next}
-use Rattle.pddl_block.specs.Rows.{conditionRows}
+use Rattle.pddl_block.specs.Rows.{condition_rows}
 use Rattle.pddl_sum.specs.Names.{each}
 use Rattle.pddl_text.specs.Documents.{truth_row, value_row, problem_pieces}
 use Rattle.pddl_text.proofs.put_problem.Statement.{statement}
@@ -20,7 +20,7 @@ abbrev values : tie.Start → List ℕ
 values c = each (value_row (state_of c.args.props c.args.state.now)) 0 c.args.vars
 
 abbrev goal : tie.Start → List ℕ
-goal c = conditionRows (ascii "\n    ") c.requires.block
+goal c = condition_rows (ascii "\n    ") c.requires.block
 
 abbrev to-truths : tie.Start → List ℕ
 to-truths c = ascii "(define (problem start)\n  (:domain campaign)\n  (:init" ++ truths c

@@ -3,7 +3,7 @@ use mathlib.Core.Path.{sym}
 use borrow.Author.Rules.{rules}
 use Rattle.model.specs.Ascii.{ascii}
 use Rattle.output.specs.Writing.{written_same, written_none, room_same}
-use Rattle.pddl_text.specs.Documents.{true-row, false-row}
+use Rattle.pddl_text.specs.Documents.{true_row, false_row}
 use Rattle.pddl_text.proofs.put_truth.Statement.{statement}
 use Rattle.pddl_text.proofs.put_truth.Tie as tie
 
@@ -18,7 +18,7 @@ unfolding ascii
 put-name-requires c κs =
     let s = c.before.before.before.before.before.before in
     let a = s.args in
-    room_same s.requires.1 (true-row a.props a.state.now a.p c.before.before.if1.true)
+    room_same s.requires.1 (true_row a.props a.state.now a.p c.before.before.if1.true)
 
 same_length : tie.Need-same-length
 same_length c = search rules
@@ -27,12 +27,12 @@ returns : tie.Need-returns
 unfolding ascii
 returns c =
     let a = c.before.before.before.before.before.before.before.before.before.args in
-    written_same c.before.before.put-name.ensures (sym (true-row a.props a.state.now a.p c.before.before.before.before.before.if1.true))
+    written_same c.before.before.put-name.ensures (sym (true_row a.props a.state.now a.p c.before.before.before.before.before.if1.true))
 
 returns-2 : tie.Need-returns-2
 returns-2 c =
     let a = c.before.before.before.before.args in
-    written_same (written_none a.out.now a.at) (sym (false-row a.props a.state.now a.p c.if1.false))
+    written_same (written_none a.out.now a.at) (sym (false_row a.props a.state.now a.p c.if1.false))
 
 pub put-truth-spec : {M : Type 1} → statement M
 put-truth-spec =

@@ -4,7 +4,7 @@ use Prim.Native.Nat.{◌-◌}
 use native.Mathlib.Omega.{arith}
 use Rattle.model.specs.StateTable.{state_of}
 use Rattle.pddl_text.specs.Documents.{truth_row}
-use Rattle.pddl_sum.specs.Names.{EachWriting, each_start, each-room, each_step, each-end}
+use Rattle.pddl_sum.specs.Names.{EachWriting, each_start, each_room, each_step, each_end}
 use Rattle.pddl_text.proofs.put_truths.Statement.{statement}
 use Rattle.pddl_text.proofs.put_truths.Tie as tie
 
@@ -19,7 +19,7 @@ loop-holds c = let a = c.before.before.args in each_start (truth_row (state_of a
 
 put-truth-requires : tie.Need-put-truth-requires invariant-loop decreases-loop
 put-truth-requires c κs =
-    (omega (arith, c.before.loop-test.true, c.before.before.before.before.before.requires.0), each-room c.before.before.loop.invariant c.before.loop-test.true c.before.before.before.before.before.requires.1)
+    (omega (arith, c.before.loop-test.true, c.before.before.before.before.before.requires.0), each_room c.before.before.loop.invariant c.before.loop-test.true c.before.before.before.before.before.requires.1)
 
 add-p : tie.Need-overflow-add-p invariant-loop decreases-loop
 add-p c = omega (arith, c.before.before.before.before.loop-test.true)
@@ -34,7 +34,7 @@ same_length : tie.Need-same-length invariant-loop decreases-loop
 same_length c = c.before.loop.invariant.writing.so_far.kept
 
 returns : tie.Need-returns invariant-loop decreases-loop
-returns c = each-end c.before.loop.invariant c.loop-test.false
+returns c = each_end c.before.loop.invariant c.loop-test.false
 
 pub put-truths-spec : {M : Type 1} → statement M
 put-truths-spec =

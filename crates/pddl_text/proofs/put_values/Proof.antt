@@ -4,7 +4,7 @@ use Prim.Native.Nat.{◌-◌}
 use native.Mathlib.Omega.{arith}
 use Rattle.model.specs.StateTable.{state_of}
 use Rattle.pddl_text.specs.Documents.{value_row}
-use Rattle.pddl_sum.specs.Names.{EachWriting, each_start, each-room, each_step, each-end}
+use Rattle.pddl_sum.specs.Names.{EachWriting, each_start, each_room, each_step, each_end}
 use Rattle.pddl_text.proofs.put_values.Statement.{statement}
 use Rattle.pddl_text.proofs.put_values.Tie as tie
 
@@ -22,7 +22,7 @@ put-value-requires c κs =
     let p = c.before.before.before.before.before.requires in (
       omega (arith, c.before.loop-test.true, p.0),
       omega (arith, c.before.loop-test.true, p.1),
-      each-room c.before.before.loop.invariant c.before.loop-test.true p.2,
+      each_room c.before.before.loop.invariant c.before.loop-test.true p.2,
     )
 
 add-v : tie.Need-overflow-add-v invariant-loop decreases-loop
@@ -38,7 +38,7 @@ same_length : tie.Need-same-length invariant-loop decreases-loop
 same_length c = c.before.loop.invariant.writing.so_far.kept
 
 returns : tie.Need-returns invariant-loop decreases-loop
-returns c = each-end c.before.loop.invariant c.loop-test.false
+returns c = each_end c.before.loop.invariant c.loop-test.false
 
 pub put-values-spec : {M : Type 1} → statement M
 put-values-spec =

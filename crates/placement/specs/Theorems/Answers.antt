@@ -14,7 +14,7 @@ use Rattle.placement.specs.declared.PlaceAnswer.{PlaceAnswer}
 use Rattle.placement.specs.declared.PlaceAnswer.TheVariants as place
 use Rattle.placement.specs.Day.{DayLimits, minute_at, pieces, first_duration, windows_of, durations_of}
 use Rattle.placement.specs.Placing.{Placed, placed, stuck, start_bytes, starts_of, end_minute, checked, day_placed, placing, answered, place_answer, place_out}
-use Rattle.placement.specs.Theorems.Best.{Best, best, RightFrom, place-right, FirstWithout, stops_first}
+use Rattle.placement.specs.Theorems.Best.{Best, best, RightFrom, place_right, FirstWithout, stops_first}
 use Rattle.placement.specs.Theorems.Checks.{WindowOk, WindowsOk, windows_cases, DurationOk, DurationsOk, durations_cases}
 use Rattle.placement.specs.Theorems.Starts.{length_starts, start_at, windows_shut, starts_by}
 
@@ -65,14 +65,14 @@ module _ (L : DayLimits) (ws ds old : List ℕ) (four_bytes : L.last_minute < 25
       let most = starts_by L.last_minute (windows_of ws) 0 (durations_of ds) ys (windows_shut day.windows) b.placement i h in
       omega arith
 
-  starts-right :
+  starts_right :
       DayOk L ws ds
       → (ys : List ℕ) (end : ℕ)
       → end ≡ end_minute (day_placed ws ds)
       → Best (windows_of ws) (durations_of ds) ys end
       → OutputRight (fitted (length old) (writes (start_bytes ys)))
   unfolding fitted output_after answered overwrite
-  starts-right day ys end same b =
+  starts_right day ys end same b =
       go (ltb (length old) n) (ltb→lt (length old) n) (λ f. nltb→le (length old) n (not_T (ltb (length old) n) f))
     where
       n : ℕ
@@ -95,20 +95,20 @@ module _ (L : DayLimits) (ws ds old : List ℕ) (four_bytes : L.last_minute < 25
             behind = drop-append_seam (start_bytes ys) (drop n old);
           }
 
-  day-right : DayOk L ws ds → OutputRight (fitted (length old) (starts_of (day_placed ws ds)))
+  day_right : DayOk L ws ds → OutputRight (fitted (length old) (starts_of (day_placed ws ds)))
   unfolding day_placed starts_of end_minute fitted output_after answered
-  day-right day = go (day_placed ws ds) refl (place-right 0 (windows_of ws) day.windows.rising 0 (durations_of ds))
+  day_right day = go (day_placed ws ds) refl (place_right 0 (windows_of ws) day.windows.rising 0 (durations_of ds))
     where
       go : (r : Placed) → day_placed ws ds ≡ r → RightFrom (windows_of ws) 0 (durations_of ds) r → OutputRight (fitted (length old) (starts_of (day_placed ws ds)))
       go (placed ys end) e right =
-          rw (ap starts_of e) (starts-right day ys end (sym (ap end_minute e)) (best (windows_of ws) (durations_of ds) ys end right))
+          rw (ap starts_of e) (starts_right day ys end (sym (ap end_minute e)) (best (windows_of ws) (durations_of ds) ys end right))
       go (stuck i) e right = rw (ap starts_of e) (without day (stops_first (windows_of ws) (durations_of ds) i right), refl)
 
-  pub answer-right : PlaceRight L ws ds old (place_out L ws ds old) (place_answer L ws ds old)
+  pub answer_right : PlaceRight L ws ds old (place_out L ws ds old) (place_answer L ws ds old)
   unfolding place_answer place_out placing checked fitted output_after answered
-  answer-right =
+  answer_right =
       windows_cases L ws (λ (o : Option ℕ). OutputRight (fitted (length old) (checked o (first_duration L ds) (starts_of (day_placed ws ds)))))
       (λ i h wrong before. (window h wrong before, refl))
       (λ windows. durations_cases L ds (λ (o : Option ℕ). OutputRight (fitted (length old) (checked none o (starts_of (day_placed ws ds)))))
       (λ i h wrong before. (duration windows h wrong before, refl))
-      (λ durations. day-right (record { windows = windows; durations = durations })))
+      (λ durations. day_right (record { windows = windows; durations = durations })))

@@ -30,41 +30,41 @@ RightFrom ws t ds (stuck i) = StopsFrom ws t ds i
 
 -- an entry at its earliest start, before others that are right from its end on
 module _ (ws : List Window) (t d y : ℕ) (ds : List ℕ) (early : Earliest ws t d y) where
-  behind-right : (r : Placed) → RightFrom ws (y + d) ds r → RightFrom ws t (d ∷ ds) (behind_entry y r)
+  behind_right : (r : Placed) → RightFrom ws (y + d) ds r → RightFrom ws t (d ∷ ds) (behind_entry y r)
   unfolding behind_entry end_from
-  behind-right (placed ys end) right =
+  behind_right (placed ys end) right =
       record {
         placement = entry early.late early.inside right.placement;
         ends = right.ends;
-        first = λ u zs h p. none-earlier u zs h p;
+        first = λ u zs h p. none_earlier u zs h p;
       }
     where
-      none-earlier : (u : ℕ) (zs : List ℕ) → t ≤ u → PlacementFrom ws u (d ∷ ds) zs → NoneEarlier (y ∷ ys) zs
-      none-earlier u (z ∷ zs) h (entry k i p) =
+      none_earlier : (u : ℕ) (zs : List ℕ) → t ≤ u → PlacementFrom ws u (d ∷ ds) zs → NoneEarlier (y ∷ ys) zs
+      none_earlier u (z ∷ zs) h (entry k i p) =
           let low : y ≤ z = early.least z (omega arith) i in
           both_left low (right.first (z + d) zs (omega arith) p)
-  behind-right (stuck i) right =
+  behind_right (stuck i) right =
       record {
         within = omega (arith, right.within);
         before = (y ∷ right.before.0, entry early.late early.inside right.before.1);
-        never = λ u zs h p. none-fits u zs h p;
+        never = λ u zs h p. none_fits u zs h p;
       }
     where
-      none-fits : (u : ℕ) (zs : List ℕ) → t ≤ u → PlacementFrom ws u (d ∷ take (suc i) ds) zs → ⊥
-      none-fits u (z ∷ zs) h (entry k at p) =
+      none_fits : (u : ℕ) (zs : List ℕ) → t ≤ u → PlacementFrom ws u (d ∷ take (suc i) ds) zs → ⊥
+      none_fits u (z ∷ zs) h (entry k at p) =
           let low : y ≤ z = early.least z (omega arith) at in
           right.never (z + d) zs (omega arith) p
 
 module _ (m : ℕ) (ws : List Window) (up : Rising m ws) where
-  pub place-right : (t : ℕ) (ds : List ℕ) → RightFrom ws t ds (place_from ws t ds)
+  pub place_right : (t : ℕ) (ds : List ℕ) → RightFrom ws t ds (place_from ws t ds)
   unfolding place_from place_next end_from
-  place-right t [] = record { placement = nothing; ends = refl; first = λ u zs h p. empty zs p }
+  place_right t [] = record { placement = nothing; ends = refl; first = λ u zs h p. empty zs p }
     where
       empty : {u : ℕ} (zs : List ℕ) → PlacementFrom ws u [] zs → NoneEarlier [] zs
       empty [] nothing = none_left
-  place-right t (d ∷ ds) =
+  place_right t (d ∷ ds) =
       earliest_cases (λ (o : Option ℕ). RightFrom ws t (d ∷ ds) (place_next d (λ end. place_from ws end ds) o)) m ws t d up
-      (λ y early. behind-right ws t d y ds early (place_from ws (y + d) ds) (place-right (y + d) ds))
+      (λ y early. behind_right ws t d y ds early (place_from ws (y + d) ds) (place_right (y + d) ds))
       (λ full.
       record {
         within = omega arith;
@@ -161,8 +161,8 @@ pub stuck_exactly :
     → Rising m ws
     → ((i : ℕ) × (place_from ws 0 ds ≡ stuck i)) ↔ NoPlacement ws ds
 stuck_exactly m ws ds up = (
-  λ s. (stops_first ws ds s.0 (subst (RightFrom ws 0 ds) s.1 (place-right m ws up 0 ds))).whole,
-  λ without. go without (place_from ws 0 ds) (place-right m ws up 0 ds) refl,
+  λ s. (stops_first ws ds s.0 (subst (RightFrom ws 0 ds) s.1 (place_right m ws up 0 ds))).whole,
+  λ without. go without (place_from ws 0 ds) (place_right m ws up 0 ds) refl,
 )
   where
     go : NoPlacement ws ds → (r : Placed) → RightFrom ws 0 ds r → place_from ws 0 ds ≡ r → (i : ℕ) × (place_from ws 0 ds ≡ stuck i)

@@ -11,31 +11,31 @@ use Rattle.std.proofs.Math.Dec.{not_T, leb→le, ltb→lt, eqb→eq, nleb→lt, 
 use Rattle.model.specs.Lists.{first_from, tabulate}
 use Rattle.model.specs.Theorems.Reading.WellFormed.{All}
 use Rattle.model.specs.Theorems.Laws.Booleans.{T-cases, T-stable, T-equal, or_left, or_right, or_cases, true_t}
-use Rattle.model.specs.Theorems.Laws.Searching.{firstFrom-cases}
+use Rattle.model.specs.Theorems.Laws.Searching.{first_from_cases}
 use Rattle.placement.specs.Day.{DayLimits, window_at, duration_at, pieces, overlaps, wrong_window, wrong_duration, first_window, first_duration, windows_of, durations_of}
 use Rattle.placement.specs.Theorems.Earliest.{Rising}
 
 -- ---- pieces of a list of bytes
 
 module _ (size n : ℕ) (some_size : 0 < size) where
-  pub piece-begins : (i : ℕ) → i < pieces size n → size * i < n
+  pub piece_begins : (i : ℕ) → i < pieces size n → size * i < n
   unfolding pieces
-  piece-begins i h =
+  piece_begins i h =
       let k : suc i * size ≤ n + (size - 1) = (le-div_iff_mul-le {k = size} {x = suc i} {y = n + (size - 1)} some_size).0 h in
       omega (arith, k, mul_comm (suc i) size, mul-suc size i)
 
-  pub begins-piece : (i : ℕ) → size * i < n → i < pieces size n
+  pub begins_piece : (i : ℕ) → size * i < n → i < pieces size n
   unfolding pieces
-  begins-piece i h = (le-div_iff_mul-le {k = size} {x = suc i} {y = n + (size - 1)} some_size).1 (omega (arith, mul_comm (suc i) size, mul-suc size i))
+  begins_piece i h = (le-div_iff_mul-le {k = size} {x = suc i} {y = n + (size - 1)} some_size).1 (omega (arith, mul_comm (suc i) size, mul-suc size i))
 
   pub pieces_end : (i : ℕ) → n ≤ size * i → pieces size n ≤ i
   pieces_end i h =
-      T-cases (ltb i (pieces size n)) (λ t. absurd (let k = piece-begins i (ltb→lt i (pieces size n) t) in omega arith))
+      T-cases (ltb i (pieces size n)) (λ t. absurd (let k = piece_begins i (ltb→lt i (pieces size n) t) in omega arith))
       (λ f. nltb→le i (pieces size n) (not_T (ltb i (pieces size n)) f))
 
-  pub pieces-most : size * pieces size n ≤ n + (size - 1)
+  pub pieces_most : size * pieces size n ≤ n + (size - 1)
   unfolding pieces
-  pieces-most =
+  pieces_most =
       let k : pieces size n * size ≤ n + (size - 1) = (le-div_iff_mul-le {k = size} {x = pieces size n} {y = n + (size - 1)} some_size).0 (omega arith) in
       omega (arith, k, mul_comm (pieces size n) size)
 
@@ -45,7 +45,7 @@ module _ (size n : ℕ) (some_size : 0 < size) where
     where
       most : (q : ℕ) → pieces size n ≡ q → n ≤ size * q
       most q e =
-          T-cases (ltb (size * q) n) (λ h. let k = begins-piece q (ltb→lt (size * q) n h) in omega arith)
+          T-cases (ltb (size * q) n) (λ h. let k = begins_piece q (ltb→lt (size * q) n h) in omega arith)
           (λ h. nltb→le (size * q) n (not_T (ltb (size * q) n) h))
 
       go : (q : ℕ) → pieces size n ≡ q → n ≡ size * pieces size n
@@ -71,7 +71,7 @@ first_cases :
     → (((i : ℕ) → i < n → Ok i) → P none)
     → P (first_from wrong 0 n)
 first_cases Ok wrong right ok n P found all =
-    firstFrom-cases wrong P 0 n
+    first_from_cases wrong P 0 n
     (λ i low high t before. found i (omega arith) (λ k. ok i k t) (λ j h. right j (before j (omega arith) h)))
     (λ never. all (λ i h. right i (never i (omega arith) (omega arith))))
 
@@ -102,10 +102,10 @@ module _ (L : DayLimits) (ws : List ℕ) where
       subst (λ (k : ℕ). (window_at ws k).shutting ≤ (window_at ws (suc i)).opening) same
       (nltb→le (window_at ws (suc i)).opening (window_at ws i).shutting (not_T (overlaps ws (suc i)) free))
 
-  no-overlap : (i : ℕ) → ((j : ℕ) → i ≡ suc j → (window_at ws j).shutting ≤ (window_at ws i).opening) → T (overlaps ws i) → ⊥
+  no_overlap : (i : ℕ) → ((j : ℕ) → i ≡ suc j → (window_at ws j).shutting ≤ (window_at ws i).opening) → T (overlaps ws i) → ⊥
   unfolding overlaps
-  no-overlap zero behind t = t
-  no-overlap (suc i) behind t =
+  no_overlap zero behind t = t
+  no_overlap (suc i) behind t =
       let k = ltb→lt (window_at ws (suc i)).opening (window_at ws i).shutting t in let h = behind i refl in omega arith
 
   module _ (i : ℕ) where
@@ -121,9 +121,9 @@ module _ (L : DayLimits) (ws : List ℕ) where
     late : Bool
     late = ltb L.last_minute (window_at ws i).shutting
 
-    pub right-window : (T (wrong_window L ws i) → ⊥) → WindowOk L ws i
+    pub right_window : (T (wrong_window L ws i) → ⊥) → WindowOk L ws i
     unfolding wrong_window beyond cut unordered late
-    right-window right =
+    right_window right =
         let r1 = no_left (beyond || cut || unordered || late) (overlaps ws i) right in
         let r2 = no_left (beyond || cut || unordered) late r1 in
         let r3 = no_left (beyond || cut) unordered r2 in
@@ -135,16 +135,16 @@ module _ (L : DayLimits) (ws : List ℕ) where
           behind = λ j e. apart i j e (no_right (beyond || cut || unordered || late) (overlaps ws i) right);
         }
 
-    pub wrong-window : WindowOk L ws i → T (wrong_window L ws i) → ⊥
+    pub wrong_window_lem : WindowOk L ws i → T (wrong_window L ws i) → ⊥
     unfolding wrong_window beyond cut unordered late
-    wrong-window ok t =
+    wrong_window_lem ok t =
         or_cases (beyond || cut || unordered || late) (overlaps ws i) t
         (λ t1. or_cases (beyond || cut || unordered) late t1
         (λ t2. or_cases (beyond || cut) unordered t2
         (λ t3. or_cases beyond cut t3 (λ h. let k = leb→le L.windows i h in omega (arith, ok.number)) (λ h. let k = ltb→lt (length ws) (8 * i + 8) h in omega (arith, ok.whole)))
         (λ h. let k = leb→le (window_at ws i).shutting (window_at ws i).opening h in omega (arith, ok.later)))
         (λ h. let k = ltb→lt L.last_minute (window_at ws i).shutting h in omega (arith, ok.in_range)))
-        (λ h. no-overlap i ok.behind h)
+        (λ h. no_overlap i ok.behind h)
 
 -- all of them are, and rise
 pub record WindowsOk (L : DayLimits) (ws : List ℕ) : Type 0 where
@@ -187,7 +187,7 @@ pub windows_cases :
     → P (first_window L ws)
 unfolding first_window
 windows_cases L ws P found right =
-    first_cases (WindowOk L ws) (wrong_window L ws) (right-window L ws) (wrong-window L ws) (pieces 8 (length ws)) P found (λ each. right (windows_ok L ws each))
+    first_cases (WindowOk L ws) (wrong_window L ws) (right_window L ws) (wrong_window_lem L ws) (pieces 8 (length ws)) P found (λ each. right (windows_ok L ws each))
 
 -- ---- durations
 
@@ -207,23 +207,23 @@ module _ (L : DayLimits) (ds : List ℕ) (i : ℕ) where
   too_long : Bool
   too_long = ltb L.longest (duration_at ds i)
 
-  pub right-duration : (T (wrong_duration L ds i) → ⊥) → DurationOk L ds i
+  pub right_duration : (T (wrong_duration L ds i) → ⊥) → DurationOk L ds i
   unfolding wrong_duration short none_at_all too_long
-  right-duration right =
+  right_duration right =
       let r1 = no_left (short || none_at_all) too_long right in
       record {
         whole = nltb→le (length ds) (4 * i + 4) (not_T short (no_left short none_at_all r1));
-        positive = some-minutes (duration_at ds i) (λ e. no_right short none_at_all r1 (true_t (eq-eqb (duration_at ds i) 0 e)));
+        positive = some_minutes (duration_at ds i) (λ e. no_right short none_at_all r1 (true_t (eq-eqb (duration_at ds i) 0 e)));
         in_range = nltb→le L.longest (duration_at ds i) (not_T too_long (no_right (short || none_at_all) too_long right));
       }
     where
-      some-minutes : (n : ℕ) → (n ≡ 0 → ⊥) → 0 < n
-      some-minutes zero f = absurd (f refl)
-      some-minutes (suc n) f = omega arith
+      some_minutes : (n : ℕ) → (n ≡ 0 → ⊥) → 0 < n
+      some_minutes zero f = absurd (f refl)
+      some_minutes (suc n) f = omega arith
 
-  pub wrong-duration : DurationOk L ds i → T (wrong_duration L ds i) → ⊥
+  pub wrong_duration_holds : DurationOk L ds i → T (wrong_duration L ds i) → ⊥
   unfolding wrong_duration short none_at_all too_long
-  wrong-duration ok t =
+  wrong_duration_holds ok t =
       or_cases (short || none_at_all) too_long t
       (λ t1. or_cases short none_at_all t1 (λ h. let k = ltb→lt (length ds) (4 * i + 4) h in omega (arith, ok.whole))
       (λ h. let k = eqb→eq (duration_at ds i) 0 h in omega (arith, ok.positive)))
@@ -241,7 +241,7 @@ pub durations_cases :
     → P (first_duration L ds)
 unfolding first_duration
 durations_cases L ds P found right =
-    first_cases (DurationOk L ds) (wrong_duration L ds) (right-duration L ds) (wrong-duration L ds) (pieces 4 (length ds)) P found
+    first_cases (DurationOk L ds) (wrong_duration L ds) (right_duration L ds) (wrong_duration_holds L ds) (pieces 4 (length ds)) P found
     (λ each. right (record { each = each; exact = pieces_whole 4 (length ds) (omega arith) (λ i h. (each i h).whole) }))
 
 -- every entry takes some time

@@ -20,19 +20,19 @@ not_le a b f = lib.Dec.nleb→lt a b (lib.Dec.not_T (leb a b) f)
 -- ---- the start in one window: the larger of t and the opening
 
 module _ (t : ℕ) (w : Window) where
-  pub start-least : (t ≤ start_in t w) × (w.opening ≤ start_in t w)
+  pub start_least : (t ≤ start_in t w) × (w.opening ≤ start_in t w)
   unfolding start_in
-  start-least =
+  start_least =
       cond_cases (λ (y : ℕ). (t ≤ y) × (w.opening ≤ y)) (leb t w.opening) w.opening t
       (λ h. (leb→le t w.opening h, omega arith))
       (λ h. let k = not_le t w.opening h in (omega arith, omega arith))
 
-  pub start-most : {z : ℕ} → t ≤ z → w.opening ≤ z → start_in t w ≤ z
+  pub start_most : {z : ℕ} → t ≤ z → w.opening ≤ z → start_in t w ≤ z
   unfolding start_in
-  start-most {z} h k = cond_cases (λ (y : ℕ). y ≤ z) (leb t w.opening) w.opening t (λ c. k) (λ c. h)
+  start_most {z} h k = cond_cases (λ (y : ℕ). y ≤ z) (leb t w.opening) w.opening t (λ c. k) (λ c. h)
 
-  pub start-open : w.opening ≤ t → start_in t w ≡ t
-  start-open h = let low = start-least.0 in let high = start-most {z = t} (omega arith) h in omega arith
+  pub start_open : w.opening ≤ t → start_in t w ≡ t
+  start_open h = let low = start_least.0 in let high = start_most {z = t} (omega arith) h in omega arith
 
 -- ---- in all windows
 
@@ -68,12 +68,12 @@ earliest_cases P m (w ∷ ws) t d up found missing =
     (earliest_cases P w.shutting ws t d up.2)
   where
     behind : {z : ℕ} → w.shutting < start_in t w + d → t ≤ z → Inside z (z + d) (w ∷ ws) → Inside z (z + d) ws
-    behind {z} full h (here from to) = absurd (let k = start-most t w h from in omega arith)
+    behind {z} full h (here from to) = absurd (let k = start_most t w h from in omega arith)
     behind {z} full h (later at) = at
 
-    least-here : start_in t w + d ≤ w.shutting → (z : ℕ) → t ≤ z → Inside z (z + d) (w ∷ ws) → start_in t w ≤ z
-    least-here room z h (here from to) = start-most t w h from
-    least-here room z h (later at) = let k = inside_after w.shutting ws up.2 at in omega arith
+    least_here : start_in t w + d ≤ w.shutting → (z : ℕ) → t ≤ z → Inside z (z + d) (w ∷ ws) → start_in t w ≤ z
+    least_here room z h (here from to) = start_most t w h from
+    least_here room z h (later at) = let k = inside_after w.shutting ws up.2 at in omega arith
 
     go :
         (b : Bool)
@@ -83,7 +83,7 @@ earliest_cases P m (w ∷ ws) t d up found missing =
         → P (elim b [ true ↦ some (start_in t w) | false ↦ earliest ws t d ])
     go true fits full rest =
         found (start_in t w)
-        (record { late = (start-least t w).0; inside = here (start-least t w).1 (fits tt); least = least-here (fits tt) })
+        (record { late = (start_least t w).0; inside = here (start_least t w).1 (fits tt); least = least_here (fits tt) })
     go false fits full rest =
         let over = full (λ x. x) in
         rest

@@ -10,7 +10,7 @@ use Rattle.model.specs.Calls.{block_part, block_start, block_refusal, refusal_nu
 use Rattle.table.specs.Names.{wanted_of}
 use Rattle.table.specs.Answer.{Outlined}
 use Rattle.reader.specs.Parts.{LiesAt}
-use Rattle.reader.specs.Handed.{Handed, part-refused, part-beyond, part_in, part-found}
+use Rattle.reader.specs.Handed.{Handed, part_refused, part_beyond, part_in, part_found}
 use borrow.Author.Rules.{rules}
 use Rattle.reader.proofs.block_at.Statement.{statement}
 use Rattle.reader.proofs.block_at.Tie as tie
@@ -55,16 +55,16 @@ part-result-end-2 : tie.Need-slice-bounds-result-end-2
 part-result-end-2 c = search rules
 
 returns : tie.Need-returns
-returns c = handed _ _ c.before.before.before.before.before.before.before.before.args.b (part-beyond c.before.before.before.before.before.before.before.before.args.b (outlined c.before.before.before.before.before) _ _ _ _ c.before.before.before.answer2.given.1 (omega arith) refl) (record { memory = refl; offset = omega arith })
+returns c = handed _ _ c.before.before.before.before.before.before.before.before.args.b (part_beyond c.before.before.before.before.before.before.before.before.args.b (outlined c.before.before.before.before.before) _ _ _ _ c.before.before.before.answer2.given.1 (omega arith) refl) (record { memory = refl; offset = omega arith })
 
 marked-requires : tie.Need-marked-requires
 marked-requires c κs = part_in _ (outlined c.before.before.before.before.before) _ _ _ _ c.before.before.before.answer2.given.1 (omega arith)
 
 returns-2 : tie.Need-returns-2
-returns-2 c = handed _ _ c.before.before.before.before.before.before.before.args.b (part-refused c.before.before.before.before.before.before.before.args.b (outlined c.before.before.before.before) _ c.before.before.answer.given.1 refl) (record { memory = refl; offset = omega arith })
+returns-2 c = handed _ _ c.before.before.before.before.before.before.before.args.b (part_refused c.before.before.before.before.before.before.before.args.b (outlined c.before.before.before.before) _ c.before.before.answer.given.1 refl) (record { memory = refl; offset = omega arith })
 
 returns-3 : tie.Need-returns-3
-returns-3 c = handed _ _ c.before.before.before.before.before.before.before.before.before.args.b (part-found c.before.before.before.before.before.before.before.before.before.args.b (outlined c.before.before.before.before.before.before) _ _ _ _ c.before.before.before.before.answer2.given.1 (omega arith) c.marked.ensures.0) c.marked.ensures.1
+returns-3 c = handed _ _ c.before.before.before.before.before.before.before.before.before.args.b (part_found c.before.before.before.before.before.before.before.before.before.args.b (outlined c.before.before.before.before.before.before) _ _ _ _ c.before.before.before.before.answer2.given.1 (omega arith) c.marked.ensures.0) c.marked.ensures.1
 
 pub block-at-spec : {M : Type 1} → statement M
 block-at-spec =

@@ -3,7 +3,7 @@
 use Prim.Native.Nat.{◌-◌}
 use native.Mathlib.Omega.{arith}
 use mathlib.Core.Bool.{false}
-use Rattle.real_move.specs.Values.{Copying, copying-start, copying-step}
+use Rattle.real_move.specs.Values.{Copying, copying_start, copying_step}
 use Rattle.real_move.proofs.keep_truths.Statement.{statement}
 use Rattle.real_move.proofs.keep_truths.Tie as tie
 
@@ -14,7 +14,7 @@ abbrev decreases-loop : tie.decreases-loop
 decreases-loop had₀ has props p₀ had p = props - p
 
 loop-holds : tie.Need-loop-init invariant-loop decreases-loop
-loop-holds c = copying-start false _ _ _
+loop-holds c = copying_start false _ _ _
 
 shared-slice-read-had : tie.Need-shared-slice-read-had invariant-loop decreases-loop
 shared-slice-read-had c = omega arith
@@ -29,7 +29,7 @@ loop-less : tie.Need-loop-smaller invariant-loop decreases-loop
 loop-less c = omega arith
 
 loop-again : tie.Need-loop-preserved invariant-loop decreases-loop
-loop-again c = copying-step false _ _ c.before.before.loop.invariant c.before.loop-test.true (slice-write-had c)
+loop-again c = copying_step false _ _ c.before.before.loop.invariant c.before.loop-test.true (slice-write-had c)
 
 same_length : tie.Need-same-length invariant-loop decreases-loop
 same_length c = c.before.loop.invariant.kept

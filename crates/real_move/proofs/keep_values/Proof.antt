@@ -12,7 +12,7 @@ use Rattle.model.specs.Limits.{paper}
 use Rattle.model.specs.Lists.{all_below}
 use Rattle.model.specs.StateTable.{value_in_range}
 use Rattle.model.specs.Theorems.Laws.Booleans.{clash}
-use Rattle.real_move.specs.Values.{all_in_range, all-next, all-fails, Copying, copying-start, copying-step}
+use Rattle.real_move.specs.Values.{all_in_range, all_next, all_fails, Copying, copying_start, copying_step}
 use Rattle.real_move.proofs.keep_values.Statement.{statement}
 use Rattle.real_move.proofs.keep_values.Tie as tie
 
@@ -24,7 +24,7 @@ decreases-loop values₀ next vars v₀ values v = vars - v
 
 loop-holds : tie.Need-loop-init invariant-loop decreases-loop
 unfolding all_in_range all_below
-loop-holds c = (copying-start (pos 0) _ _ _, refl)
+loop-holds c = (copying_start (pos 0) _ _ _, refl)
 
 shared-slice-copy-out-x : tie.Need-shared-slice-copy-out-x invariant-loop decreases-loop
 shared-slice-copy-out-x c = omega arith
@@ -49,7 +49,7 @@ returns c =
     record {
       test =
           sym
-          (all-fails (λ v. value_in_range paper (get_or a.next.now v (pos 0))) a.vars c.before.before.before.before.loop.v c.before.before.before.loop-test.true
+          (all_fails (λ v. value_in_range paper (get_or a.next.now v (pos 0))) a.vars c.before.before.before.before.loop.v c.before.before.before.loop-test.true
           (sym (told c.before) ∙ not-true c.before.in_range_lem.result c.if1.true));
       kept = λ e. clash cc;
     }
@@ -69,8 +69,8 @@ loop-less c = omega arith
 loop-again : tie.Need-loop-preserved invariant-loop decreases-loop
 unfolding all_in_range
 loop-again c = (
-  rw (back _ c.before.before.x.given) (copying-step (pos 0) _ _ c.before.before.before.before.loop.invariant.0 c.before.before.before.loop-test.true (slice-set-from-x c)),
-  all-next (λ v. value_in_range paper (get_or c.before.before.before.before.before.args.next.now v (pos 0))) c.before.before.before.before.loop.v c.before.before.before.before.loop.invariant.1
+  rw (back _ c.before.before.x.given) (copying_step (pos 0) _ _ c.before.before.before.before.loop.invariant.0 c.before.before.before.loop-test.true (slice-set-from-x c)),
+  all_next (λ v. value_in_range paper (get_or c.before.before.before.before.before.args.next.now v (pos 0))) c.before.before.before.before.loop.v c.before.before.before.before.loop.invariant.1
       (sym (told c.before) ∙ not-false c.before.in_range_lem.result c.if1.false),
 )
 
@@ -80,9 +80,9 @@ same-length-2 c = c.before.loop.invariant.0.kept
 returns-2 : tie.Need-returns-2 invariant-loop decreases-loop
 returns-2 c =
     let v = c.before.loop in
-    let at-end : c.before.loop.v ≡ c.before.before.args.vars = omega (arith, v.invariant.0.within) in
+    let at_end_lem : c.before.loop.v ≡ c.before.before.args.vars = omega (arith, v.invariant.0.within) in
     record {
-      test = sym (rw at-end at v.invariant.1);
+      test = sym (rw at_end_lem at v.invariant.1);
       kept = λ e u h. v.invariant.0.same u (omega arith);
     }
 

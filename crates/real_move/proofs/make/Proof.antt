@@ -1,15 +1,15 @@
 -- `make` meets its contract: its conditions and its run, then the range of the values, then the truths. Assumes nothing.
 use native.Mathlib.Omega.{arith}
 use borrow.Author.Tests.{not-true, not-false}
-use Rattle.real_move.specs.Moving.{move-triable, moved-refused, moved-beyond, moved_made}
+use Rattle.real_move.specs.Moving.{move_triable, moved_refused, moved_beyond, moved_made}
 use Rattle.real_move.proofs.make.Statement.{statement}
 use Rattle.real_move.proofs.make.Tie as tie
 
 run-requires : tie.Need-run-requires
-run-requires c κs = move-triable c.before.before.before.before.before.before.before.requires
+run-requires c κs = move_triable c.before.before.before.before.before.before.before.requires
 
 returns : tie.Need-returns
-returns c = moved-refused c.before.run.ensures (not-true _ c.if1.true)
+returns c = moved_refused c.before.run.ensures (not-true _ c.if1.true)
 
 keep-values-requires : tie.Need-keep-values-requires
 keep-values-requires c κs =
@@ -17,7 +17,7 @@ keep-values-requires c κs =
     (w.old.long_values, omega (arith, w.new.long_values, c.before.before.before.before.run.auto.1.1.1.1.0))
 
 returns-2 : tie.Need-returns-2
-returns-2 c = moved-beyond c.before.before.before.before.before.before.run.ensures (not-false _ c.before.before.before.before.before.if1.false) c.before.keep-values.ensures (not-true _ c.if2.true)
+returns-2 c = moved_beyond c.before.before.before.before.before.before.run.ensures (not-false _ c.before.before.before.before.before.if1.false) c.before.keep-values.ensures (not-true _ c.if2.true)
 
 keep-truths-requires : tie.Need-keep-truths-requires
 keep-truths-requires c κs =

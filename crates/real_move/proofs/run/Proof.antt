@@ -11,7 +11,7 @@ use Rattle.model.specs.Lists.{all}
 use Rattle.model.specs.Move.{applicable}
 use Rattle.model.specs.Theorems.Laws.Booleans.{clash}
 use Rattle.block.specs.Items.{Next, next_ahead}
-use Rattle.block.specs.Blocks.{Walk, walk_start, walk-next, walk-stop, walk_done}
+use Rattle.block.specs.Blocks.{Walk, walk_start, walk_next, walk_stop, walk_done}
 use Rattle.block.specs.Streams.{Addable, item_by, sum_item, Over, Asked, Judged, Verdict}
 use Rattle.real_move.specs.Walking.{Going, going_start, going_end, Takable}
 use Rattle.real_move.proofs.run.Statement.{statement}
@@ -78,7 +78,7 @@ returns : tie.Need-returns invariant-loop decreases-loop
 unfolding applicable
 returns c =
     record {
-      test = record { is = walk-stop (Over _ _) Asked c.before.before.before.before.before.loop.invariant.0 (item-next c.before.before.before) ((verdict c.before).0 c.if1.true) };
+      test = record { is = walk_stop (Over _ _) Asked c.before.before.before.before.before.loop.invariant.0 (item-next c.before.before.before) ((verdict c.before).0 c.if1.true) };
       ran = λ e. clash cc;
     }
 
@@ -95,7 +95,7 @@ loop-again : tie.Need-loop-preserved invariant-loop decreases-loop
 loop-again c =
     let s = c.before.before.before.before.before.before.before.before.before in
     let t = (rw (same s) at c.before.before.before.take_in.ensures).is s.before.loop-test.true s.sum-at.ensures _ _ s.before.before.loop.invariant.1 s.before.before.before.before.before.before.requires.runnable in (
-      rw t.0 (walk-next (Over _ _) Asked s.before.before.loop.invariant.0 s.before.loop-test.true (item-next s) ((verdict c.before.before.before.before.before.before.before).1 c.before.before.before.before.before.before.if1.false)),
+      rw t.0 (walk_next (Over _ _) Asked s.before.before.loop.invariant.0 s.before.loop-test.true (item-next s) ((verdict c.before.before.before.before.before.before.before).1 c.before.before.before.before.before.before.if1.false)),
       t.1,
     )
 

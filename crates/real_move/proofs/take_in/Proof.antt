@@ -12,25 +12,25 @@ use Rattle.integer.specs.BigEndian.{signed}
 use Rattle.integer.specs.Linear.{back, back_small}
 use Rattle.model.specs.Limits.{largest_value}
 use Rattle.block.specs.Items.{Next}
-use Rattle.block.specs.Streams.{item-add, item-delete, item-effect}
+use Rattle.block.specs.Streams.{item_add, item_delete, item_effect}
 use Rattle.block.specs.declared.ItemAt.TheVariants.{Add, Delete, Effect as EffectAt}
-use Rattle.real_move.specs.Walking.{taken_item, taken-room, taken-add, taken-delete, taken-effect, taken-condition, taken-need, going-add-room, going-delete-room, going-base, going-effect-room, going-value-room, going-value-size}
+use Rattle.real_move.specs.Walking.{taken_item, taken_room, taken_add, taken_delete, taken_effect, taken_condition, taken_need, going_add_room, going_delete_room, going_base, going_effect_room, going_value_room, going_value_size}
 use Rattle.real_move.proofs.take_in.Statement.{statement}
 use Rattle.real_move.proofs.take_in.Tie as tie
 
 mul_at : tie.Need-overflow-mul-at
-mul_at c = omega (arith, taken-room c.before.before.requires)
+mul_at c = omega (arith, taken_room c.before.before.requires)
 
 add_at : tie.Need-overflow-add-at
-add_at c = omega (arith, taken-room c.before.before.requires)
+add_at c = omega (arith, taken_room c.before.before.requires)
 
 shared-slice-read-match : tie.Need-shared-slice-read-match
-shared-slice-read-match c = taken-room c.before.before.before.requires
+shared-slice-read-match c = taken_room c.before.before.before.requires
 
 -- ---- a proposition is added
 
 added : (c : tie.At-match-keys1) → let a = c.before.before.before.before.args in let at = a.from + 4 * a.n in Next a.part.now a.from (Add (get_or a.part.now (at + 1) 0) (at + 2))
-added c = taken_item c.before.before.before.before.requires (item-add _ _ _ c.match.keys1)
+added c = taken_item c.before.before.before.before.requires (item_add _ _ _ c.match.keys1)
 
 add-has : tie.Need-overflow-add-has
 add-has c = omega (arith, (added c).moves)
@@ -42,12 +42,12 @@ cast-has : tie.Need-overflow-cast-has
 cast-has c = omega (arith, c.shared-slice-known3.given (c.before.before.before.before.before.args.from + 4 * c.before.before.before.before.before.args.n + 1))
 
 slice-write-has : tie.Need-slice-write-has
-slice-write-has c = going-add-room c.before.before.before.before.before.requires.going c.before.before.before.before.before.requires.runnable (added c.before)
+slice-write-has c = going_add_room c.before.before.before.before.before.requires.going c.before.before.before.before.before.requires.runnable (added c.before)
 
 -- ---- or deleted
 
 deleted : (c : tie.At-match-keys2) → let a = c.before.before.before.before.args in let at = a.from + 4 * a.n in Next a.part.now a.from (Delete (get_or a.part.now (at + 1) 0) (at + 2))
-deleted c = taken_item c.before.before.before.before.requires (item-delete _ _ _ c.match.keys2)
+deleted c = taken_item c.before.before.before.before.requires (item_delete _ _ _ c.match.keys2)
 
 add-has-2 : tie.Need-overflow-add-has-2
 add-has-2 c = omega (arith, (deleted c).moves)
@@ -59,7 +59,7 @@ cast-has-2 : tie.Need-overflow-cast-has-2
 cast-has-2 c = omega (arith, c.shared-slice-known4.given (c.before.before.before.before.before.args.from + 4 * c.before.before.before.before.before.args.n + 1))
 
 slice-write-has-2 : tie.Need-slice-write-has-2
-slice-write-has-2 c = going-delete-room c.before.before.before.before.before.requires.going c.before.before.before.before.before.requires.runnable (deleted c.before)
+slice-write-has-2 c = going_delete_room c.before.before.before.before.before.requires.going c.before.before.before.before.before.requires.runnable (deleted c.before)
 
 -- ---- an effect
 
@@ -68,17 +68,17 @@ changes :
     → let a = c.before.before.before.before.args in
     let at = a.from + 4 * a.n in
     Next a.part.now a.from (EffectAt (get_or a.part.now (at + 1) 0) (get_or a.part.now (at + 2) 0) (signed (take 4 (drop (at + 3) a.part.now))) a.from a.n (at + 7))
-changes c = taken_item c.before.before.before.before.requires (item-effect _ _ _ c.match.keys3)
+changes c = taken_item c.before.before.before.before.requires (item_effect _ _ _ c.match.keys3)
 
 -- what the variable was
 abbrev old : tie.At-match-keys3 → ℤ
 old c = get_or c.before.before.before.before.args.values.now (get_or c.before.before.before.before.args.part.now (c.before.before.before.before.args.from + 4 * c.before.before.before.before.args.n + 2) 0) (pos 0)
 
-old-size : (c : tie.At-match-keys3) → nat_abs (old c) ≤ largest_value
-old-size c = going-value-size c.before.before.before.before.requires.going c.before.before.before.before.requires.runnable (changes c)
+old_size : (c : tie.At-match-keys3) → nat_abs (old c) ≤ largest_value
+old_size c = going_value_size c.before.before.before.before.requires.going c.before.before.before.before.requires.runnable (changes c)
 
 old-back : (c : tie.At-match-keys3) → to_z w64 (of_z w64 (old c)) ≡ old c
-old-back c = back_small (old c) (omega (arith, old-size c))
+old-back c = back_small (old c) (omega (arith, old_size c))
 
 add-var : tie.Need-overflow-add-var
 add-var c = omega (arith, (changes c).moves)
@@ -97,7 +97,7 @@ i32-at-requires c κs = omega (arith, (changes c.before).moves)
 
 -- the constant is small
 base : (c : tie.After-i32-at) → nat_abs c.i32-at.result ≤ 1_000_000
-base c = rw c.i32-at.ensures.0 (going-base c.before.before.before.before.before.before.requires.going c.before.before.before.before.before.before.requires.runnable (changes c.before.before))
+base c = rw c.i32-at.ensures.0 (going_base c.before.before.before.before.before.before.requires.going c.before.before.before.before.before.before.requires.runnable (changes c.before.before))
 
 add-requires : tie.Need-add-requires
 add-requires c κs =
@@ -118,17 +118,17 @@ shared-slice-read-changed : tie.Need-shared-slice-read-changed
 shared-slice-read-changed c = omega (arith, (changes c.before.before.before.before).moves)
 
 shared-slice-copy-out-changed : tie.Need-shared-slice-copy-out-changed
-shared-slice-copy-out-changed c = going-value-room c.before.before.before.before.before.before.before.before.requires.going c.before.before.before.before.before.before.before.before.requires.runnable (changes c.before.before.before.before)
+shared-slice-copy-out-changed c = going_value_room c.before.before.before.before.before.before.before.before.requires.going c.before.before.before.before.before.before.before.before.requires.runnable (changes c.before.before.before.before)
 
 mul-changed : tie.Need-overflow-mul-changed
 mul-changed c = omega (arith, shared-slice-copy-out-changed c)
 
 changed-requires : tie.Need-changed-requires
 changed-requires c κs =
-    rw (old-back c.before.before.before.before.before, back c.before.before.add.result c.before.before.add.type-inv) (old-size c.before.before.before.before.before, (sum-and-base c.before.before).1)
+    rw (old-back c.before.before.before.before.before, back c.before.before.add.result c.before.before.add.type-inv) (old_size c.before.before.before.before.before, (sum-and-base c.before.before).1)
 
 slice-set-from-next : tie.Need-slice-set-from-next
-slice-set-from-next c = going-effect-room c.before.before.before.before.before.before.before.before.before.before.requires.going c.before.before.before.before.before.before.before.before.before.before.requires.runnable (changes c.before.before.before.before.before.before)
+slice-set-from-next c = going_effect_room c.before.before.before.before.before.before.before.before.before.before.requires.going c.before.before.before.before.before.before.before.before.before.before.requires.runnable (changes c.before.before.before.before.before.before)
 
 mul-t34 : tie.Need-overflow-mul-t34
 mul-t34 c = omega (arith, slice-set-from-next c)
@@ -137,13 +137,13 @@ same_length : tie.Need-same-length
 same_length c = search rules
 
 returns : tie.Need-returns
-returns c = taken-add _ _ c.before.match.keys1 refl
+returns c = taken_add _ _ c.before.match.keys1 refl
 
 same-length-2 : tie.Need-same-length-2
 same-length-2 c = search rules
 
 returns-2 : tie.Need-returns-2
-returns-2 c = taken-delete _ _ c.before.match.keys2 refl
+returns-2 c = taken_delete _ _ c.before.match.keys2 refl
 
 same-length-3 : tie.Need-same-length-3
 same-length-3 c = search rules
@@ -151,16 +151,16 @@ same-length-3 c = search rules
 returns-3 : tie.Need-returns-3
 returns-3 c =
     rw (back c.changed.result c.changed.type-inv)
-    (taken-effect _ _ c.before.before.before.before.before.before.match.keys3 refl refl c.before.before.before.before.i32-at.ensures.0 (sum-and-base c.before.before.before).0 (sum-and-base c.before.before.before).1
+    (taken_effect _ _ c.before.before.before.before.before.before.match.keys3 refl refl c.before.before.before.before.i32-at.ensures.0 (sum-and-base c.before.before.before).0 (sum-and-base c.before.before.before).1
     (rw (old-back c.before.before.before.before.before.before, back c.before.before.before.add.result c.before.before.before.add.type-inv) at c.changed.ensures))
 
 returns-4 : tie.Need-returns-4
-returns-4 c = taken-condition _ _ c.match.keys4
+returns-4 c = taken_condition _ _ c.match.keys4
 
 returns-5 : tie.Need-returns-5
 returns-5 c =
     let r = c.match.rest in
-    taken-need _ _ r.0.0.0.1 r.0.0.1 r.0.1 r.1
+    taken_need _ _ r.0.0.0.1 r.0.0.1 r.0.1 r.1
 
 -- ---- the offset behind
 
@@ -174,10 +174,10 @@ add-result-3 : tie.Need-overflow-add-result-3
 add-result-3 c = omega (arith, (changes c.before.before.before.before.before.before).moves)
 
 add-result-4 : tie.Need-overflow-add-result-4
-add-result-4 c = omega (arith, taken-room c.before.before.before.before.requires)
+add-result-4 c = omega (arith, taken_room c.before.before.before.before.requires)
 
 add-result-5 : tie.Need-overflow-add-result-5
-add-result-5 c = omega (arith, taken-room c.before.before.before.before.requires)
+add-result-5 c = omega (arith, taken_room c.before.before.before.before.requires)
 
 pub take-in-spec : {M : Type 1} → statement M
 take-in-spec =

@@ -2,7 +2,7 @@
 -- left. Assumes nothing.
 use Prim.Native.Nat.{◌-◌, ◌≤◌}
 use native.Mathlib.Omega.{arith}
-use Rattle.records.specs.Records.{count_at, Counting, counting_start, counting-skip, counting-take, counting-end}
+use Rattle.records.specs.Records.{count_at, Counting, counting_start, counting_skip, counting_take, counting_end}
 use Rattle.records.proofs.count_taken.Statement.{statement}
 use Rattle.records.proofs.count_taken.Tie as tie
 
@@ -29,7 +29,7 @@ loop-less c = omega arith
 
 loop-again : tie.Need-loop-preserved invariant-loop decreases-loop
 unfolding count_at
-loop-again c = (omega arith, counting-skip _ c.before.before.loop-test.true c.if1.true c.before.before.before.loop.invariant.1)
+loop-again c = (omega arith, counting_skip _ c.before.before.loop-test.true c.if1.true c.before.before.before.loop.invariant.1)
 
 add-n : tie.Need-overflow-add-n invariant-loop decreases-loop
 add-n c = omega arith
@@ -39,10 +39,10 @@ loop-less-2 c = omega arith
 
 loop-again-2 : tie.Need-loop-preserved-2 invariant-loop decreases-loop
 unfolding count_at
-loop-again-2 c = (omega arith, counting-take _ c.before.before.loop-test.true c.if1.false c.before.before.before.loop.invariant.1)
+loop-again-2 c = (omega arith, counting_take _ c.before.before.loop-test.true c.if1.false c.before.before.before.loop.invariant.1)
 
 returns : tie.Need-returns invariant-loop decreases-loop
-returns c = (counting-end _ c.loop-test.false c.before.loop.invariant.1, omega (arith, c.before.loop.invariant.1.few))
+returns c = (counting_end _ c.loop-test.false c.before.loop.invariant.1, omega (arith, c.before.loop.invariant.1.few))
 
 pub count-taken-spec : {M : Type 1} → statement M
 count-taken-spec =

@@ -2,27 +2,27 @@
 use native.Mathlib.Omega.{arith}
 use mathlib.Core.Path.{refl}
 use borrow.Author.Rules.{rules}
-use Rattle.model.specs.Theorems.Sizes.Plans.{records-most}
-use Rattle.stored_layer.specs.Stored.{stored-vars, stored-room, stored-entries, stored-start}
-use Rattle.relaxed_plan.specs.Answer.{extracted-short, extracted-written}
-use Rattle.passes.specs.Passes.{walk-goal, walk-begun}
-use Rattle.passes.specs.Keeping.{kept-copied}
+use Rattle.model.specs.Theorems.Sizes.Plans.{records_most}
+use Rattle.stored_layer.specs.Stored.{stored_vars, stored_room, stored_entries, stored_start}
+use Rattle.relaxed_plan.specs.Answer.{extracted_short, extracted_written}
+use Rattle.passes.specs.Passes.{walk_goal, walk_begun}
+use Rattle.passes.specs.Keeping.{kept_copied}
 use Rattle.relaxed_plan.proofs.extract.Statement.{statement}
 use Rattle.relaxed_plan.proofs.extract.Tie as tie
 
 add-read-row : tie.Need-overflow-add-read-row
-add-read-row c = omega (arith, stored-entries c.before.before.requires.memory)
+add-read-row c = omega (arith, stored_entries c.before.before.requires.memory)
 
 read-row-requires : tie.Need-read-row-requires
 read-row-requires c κs =
     let x = c.before.before.before.requires in
-    (omega (arith, stored-room x.memory {t = 0} (omega arith)), stored-vars x.memory, refl)
+    (omega (arith, stored_room x.memory {t = 0} (omega arith)), stored_vars x.memory, refl)
 
 slice-aggregate-want-goal : tie.Need-slice-aggregate-want-goal
 slice-aggregate-want-goal c = search rules
 
 want-goal-requires : tie.Need-want-goal-requires
-want-goal-requires c κs = let x = c.before.before.before.before.before.before.requires in walk-goal x (stored-start x.memory c.before.before.read-row.ensures)
+want-goal-requires c κs = let x = c.before.before.before.before.before.before.requires in walk_goal x (stored_start x.memory c.before.before.read-row.ensures)
 
 slice-aggregate-survey : tie.Need-slice-aggregate-survey
 slice-aggregate-survey c = search rules
@@ -34,25 +34,25 @@ survey-requires : tie.Need-survey-requires
 survey-requires c κs =
     let g = c.before.before.before in
     let x = g.before.before.before.before.before.before.before.requires in
-    let row = stored-start x.memory g.before.before.before.read-row.ensures in
-    (walk-begun x row (g.want-goal.ensures (walk-goal x row)), refl)
+    let row = stored_start x.memory g.before.before.before.read-row.ensures in
+    (walk_begun x row (g.want-goal.ensures (walk_goal x row)), refl)
 
 mul-if1 : tie.Need-overflow-mul-if1
 mul-if1 c =
     let g = c.before.before.before.before.before in
     let a = g.before.before.before.before.before.before.before in
     let x = a.requires in
-    let row = stored-start x.memory g.before.before.before.read-row.ensures in
-    omega (arith, (c.before.survey.ensures (walk-begun x row (g.want-goal.ensures (walk-goal x row)))).0.total, records-most x.memory.ok x.start a.args.m x.memory.bounded)
+    let row = stored_start x.memory g.before.before.before.read-row.ensures in
+    omega (arith, (c.before.survey.ensures (walk_begun x row (g.want-goal.ensures (walk_goal x row)))).0.total, records_most x.memory.ok x.start a.args.m x.memory.bounded)
 
 returns : tie.Need-returns
 returns c x =
     let s = c.before.before in
     let g = s.before.before.before.before in
     let a = g.before.before.before.before.before.before.before.args in
-    let row = stored-start x.memory g.before.before.before.read-row.ensures in
-    let k = (s.survey.ensures (walk-begun x row (g.want-goal.ensures (walk-goal x row)))).0 in
-    extracted-short x.task x.start a.m a.out.now k.total k.helpful c.if1.true
+    let row = stored_start x.memory g.before.before.before.read-row.ensures in
+    let k = (s.survey.ensures (walk_begun x row (g.want-goal.ensures (walk_goal x row)))).0 in
+    extracted_short x.task x.start a.m a.out.now k.total k.helpful c.if1.true
 
 mul-copy : tie.Need-overflow-mul-copy
 mul-copy c = search rules
@@ -81,8 +81,8 @@ write-plan-requires c κs =
     let s = e.before.before in
     let g = s.before.before.before.before in
     let x = g.before.before.before.before.before.before.before.requires in
-    let row = stored-start x.memory g.before.before.before.read-row.ensures in
-    let b = walk-begun x row (g.want-goal.ensures (walk-goal x row)) in
+    let row = stored_start x.memory g.before.before.before.read-row.ensures in
+    let b = walk_begun x row (g.want-goal.ensures (walk_goal x row)) in
     record { begun = b; total = (s.survey.ensures b).0.total; room = e.if1.false }
 
 same_length : tie.Need-same-length
@@ -95,10 +95,10 @@ returns-2 c x =
     let s = e.before.before in
     let g = s.before.before.before.before in
     let a = g.before.before.before.before.before.before.before.args in
-    let row = stored-start x.memory g.before.before.before.read-row.ensures in
-    let k = s.survey.ensures (walk-begun x row (g.want-goal.ensures (walk-goal x row))) in
-    extracted-written x.task x.start a.m a.out.now k.0.total k.0.helpful e.if1.false
-    (kept-copied x a.out.now f.if2.true k.0.total e.if1.false k.1 c.before.before.copy.ensures)
+    let row = stored_start x.memory g.before.before.before.read-row.ensures in
+    let k = s.survey.ensures (walk_begun x row (g.want-goal.ensures (walk_goal x row))) in
+    extracted_written x.task x.start a.m a.out.now k.0.total k.0.helpful e.if1.false
+    (kept_copied x a.out.now f.if2.true k.0.total e.if1.false k.1 c.before.before.copy.ensures)
 
 same-length-2 : tie.Need-same-length-2
 same-length-2 c = search rules
@@ -110,10 +110,10 @@ returns-3 c x =
     let s = e.before.before in
     let g = s.before.before.before.before in
     let a = g.before.before.before.before.before.before.before.args in
-    let row = stored-start x.memory g.before.before.before.read-row.ensures in
-    let b = walk-begun x row (g.want-goal.ensures (walk-goal x row)) in
+    let row = stored_start x.memory g.before.before.before.read-row.ensures in
+    let b = walk_begun x row (g.want-goal.ensures (walk_goal x row)) in
     let k = (s.survey.ensures b).0 in
-    extracted-written x.task x.start a.m a.out.now k.total k.helpful e.if1.false
+    extracted_written x.task x.start a.m a.out.now k.total k.helpful e.if1.false
     (w.write-plan.ensures (record { begun = b; total = k.total; room = e.if1.false }))
 
 pub extract-spec : {M : Type 1} → statement M

@@ -2,7 +2,7 @@
 use mathlib.Core.Path.{subst}
 use Rattle.layers.specs.Building.{IsBuilt}
 use Rattle.layers.specs.Preparing.{ReadyIn, IsPrepared, ready_buildable}
-use Rattle.relaxed_plan.specs.Answer.{built-stored, planned_refused, planned-exhausted, planned-stopped, planned-reached, planned_within}
+use Rattle.relaxed_plan.specs.Answer.{built_stored, planned_refused, planned_exhausted, planned_stopped, planned_reached, planned_within}
 use borrow.Author.Rules.{rules}
 use Rattle.relaxed_plan.proofs.plan.Statement.{statement}
 use Rattle.relaxed_plan.proofs.plan.Tie as tie
@@ -37,7 +37,7 @@ extract-requires c κs =
     let a = m.before.before.before.before.before.before.before.args in
     let r = accepted-both m in
     let b = subst (IsBuilt r.task _ a.layers.now _) c.before.before.before.before.layer.given.1 (c.before.before.before.before.before.before.before.build.ensures.is r.task r.outlined r.counts) in
-    built-stored r b
+    built_stored r b
 
 enum-known-last : tie.Need-enum-known-last
 enum-known-last c = search rules
@@ -64,7 +64,7 @@ returns-2 c =
     let a = m.before.before.before.before.before.before.before.args in
     let r = accepted-both m in
     let b = subst (IsBuilt r.task _ a.layers.now _) c.before.before.before.before.before.before.before.layer.given.1 (c.before.before.before.before.before.before.before.before.before.before.build.ensures.is r.task r.outlined r.counts) in
-    let d = planned-reached a.out.now r b (c.before.before.extract.ensures (built-stored r b)) in
+    let d = planned_reached a.out.now r b (c.before.before.extract.ensures (built_stored r b)) in
     (d.answers, d.leaves, d.writes_is, planned_within d)
 
 same-length-3 : tie.Need-same-length-3
@@ -76,7 +76,7 @@ returns-3 c =
     let a = m.before.before.before.before.before.before.before.args in
     let r = accepted-both m in
     let b = subst (IsBuilt r.task _ a.layers.now _) c.before.last.given.1 (c.before.before.before.before.build.ensures.is r.task r.outlined r.counts) in
-    let d = planned-exhausted a.table.now a.state.now a.layers.now c.before.before.before.before.build.new.1.1.1.1.1.1.0 a.out.now r.is b in
+    let d = planned_exhausted a.table.now a.state.now a.layers.now c.before.before.before.before.build.new.1.1.1.1.1.1.0 a.out.now r.is b in
     (d.answers, d.leaves, d.writes_is, planned_within d)
 
 same-length-4 : tie.Need-same-length-4
@@ -88,7 +88,7 @@ returns-4 c =
     let a = m.before.before.before.before.before.before.before.args in
     let r = accepted-both m in
     let b = subst (IsBuilt r.task _ a.layers.now _) c.before.number.given.1 (c.before.before.before.before.build.ensures.is r.task r.outlined r.counts) in
-    let d = planned-stopped a.table.now a.state.now a.layers.now c.before.before.before.before.build.new.1.1.1.1.1.1.0 a.out.now r.is b in
+    let d = planned_stopped a.table.now a.state.now a.layers.now c.before.before.before.before.build.new.1.1.1.1.1.1.0 a.out.now r.is b in
     (d.answers, d.leaves, d.writes_is, planned_within d)
 
 pub plan-spec : {M : Type 1} → statement M

@@ -1,7 +1,7 @@
 -- `listing_text` meets its contract, one case for each kind of answer. Assumes nothing.
 use native.Mathlib.Omega.{arith}
 use Rattle.report.specs.Lines.{plan_room}
-use Rattle.report.specs.Answer.{plan-listable, records-short, printed-plan, printed-no-plan, printed-refusal}
+use Rattle.report.specs.Answer.{plan_listable, records_short, printed_plan, printed_no_plan, printed_refusal}
 use borrow.Author.Rules.{rules}
 use Rattle.report.proofs.listing_text.Statement.{statement}
 use Rattle.report.proofs.listing_text.Tie as tie
@@ -16,7 +16,7 @@ put-records-requires : tie.Need-put-records-requires
 put-records-requires c κs =
     let s = c.before.before.before.before.before.before.before.before.before.before in
     let given = c.before.before.before.before.before.before.answer.given in
-    (plan-listable s.requires given.1, records-short s.requires given.1 c.before.before.before.put-plan.ensures (plan_room given.0.1.1.0 given.0.1.0 (omega arith) (omega arith)))
+    (plan_listable s.requires given.1, records_short s.requires given.1 c.before.before.before.put-plan.ensures (plan_room given.0.1.1.0 given.0.1.0 (omega arith) (omega arith)))
 
 enum-known-answer-2 : tie.Need-enum-known-answer-2
 enum-known-answer-2 c = search rules
@@ -37,7 +37,7 @@ returns : tie.Need-returns
 returns c =
     let s = c.before.before.before.before.before.before.before.before.before.before.before.before.before in
     let given = c.before.before.before.before.before.before.before.before.before.answer.given in
-    printed-plan s.requires given.1 (plan_room given.0.1.1.0 given.0.1.0 (omega arith) (omega arith))
+    printed_plan s.requires given.1 (plan_room given.0.1.1.0 given.0.1.0 (omega arith) (omega arith))
     c.before.before.before.before.before.before.put-plan.ensures c.before.before.put-records.ensures
 
 same-length-2 : tie.Need-same-length-2
@@ -46,7 +46,7 @@ same-length-2 c = search rules
 returns-2 : tie.Need-returns-2
 returns-2 c rs l =
     let s = c.before.before.before.before.before.before.before.before.before in
-    printed-no-plan s.requires c.before.before.before.before.before.answer2.given.1 (omega arith) c.before.before.put-no-plan.ensures rs
+    printed_no_plan s.requires c.before.before.before.before.before.answer2.given.1 (omega arith) c.before.before.put-no-plan.ensures rs
 
 same-length-3 : tie.Need-same-length-3
 same-length-3 c = search rules
@@ -54,7 +54,7 @@ same-length-3 c = search rules
 returns-3 : tie.Need-returns-3
 returns-3 c rs l =
     let s = c.before.before.before.before.before.before.before.before.before in
-    printed-refusal s.requires c.before.before.before.before.before.answer3.given.1 (omega arith) (omega arith) c.before.before.put-refusal.ensures rs
+    printed_refusal s.requires c.before.before.before.before.before.answer3.given.1 (omega arith) (omega arith) c.before.before.put-refusal.ensures rs
 
 pub listing-text-spec : {M : Type 1} → statement M
 listing-text-spec =

@@ -2,7 +2,7 @@
 use native.Mathlib.Omega.{arith}
 use Rattle.model.specs.Listing.{newline}
 use Rattle.output.specs.Writing.{written_join}
-use Rattle.report.specs.Lines.{line_text, length-line}
+use Rattle.report.specs.Lines.{line_text, length_line}
 use borrow.Author.Rules.{rules}
 use Rattle.report.proofs.put_line.Statement.{statement}
 use Rattle.report.proofs.put_line.Tie as tie
@@ -10,12 +10,12 @@ use Rattle.report.proofs.put_line.Tie as tie
 put-bytes-requires : tie.Need-put-bytes-requires
 put-bytes-requires c κs =
     let s = c.before.before.before in
-    omega (arith, length-line s.args.word.now s.args.n)
+    omega (arith, length_line s.args.word.now s.args.n)
 
 put-decimal-requires : tie.Need-put-decimal-requires
 put-decimal-requires c κs =
     let s = c.before.before.before.before.before.before.before in
-    omega (arith, length-line s.args.word.now s.args.n, s.requires, c.before.before.before.put-bytes.ensures.behind)
+    omega (arith, length_line s.args.word.now s.args.n, s.requires, c.before.before.before.put-bytes.ensures.behind)
 
 slice-aggregate-put-bytes : tie.Need-slice-aggregate-put-bytes
 slice-aggregate-put-bytes c = search rules
@@ -25,7 +25,7 @@ put-bytes-requires-2 c κs =
     let s = c.before.before.before.before.before.before.before.before.before.before.before.before in
     omega (
       arith,
-      length-line s.args.word.now s.args.n,
+      length_line s.args.word.now s.args.n,
       s.requires,
       c.before.before.before.before.put-decimal.ensures.behind,
       c.before.before.before.before.before.before.before.before.put-bytes.ensures.behind,

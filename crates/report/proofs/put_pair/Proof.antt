@@ -1,7 +1,7 @@
 -- `put_pair` meets its contract: three steps, one behind the other. Assumes nothing.
 use native.Mathlib.Omega.{arith}
 use Rattle.output.specs.Writing.{written_join}
-use Rattle.report.specs.Lines.{length-pair, pair_line}
+use Rattle.report.specs.Lines.{length_pair, pair_line}
 use borrow.Author.Rules.{rules}
 use Rattle.report.proofs.put_pair.Statement.{statement}
 use Rattle.report.proofs.put_pair.Tie as tie
@@ -9,14 +9,14 @@ use Rattle.report.proofs.put_pair.Tie as tie
 put-bytes-requires : tie.Need-put-bytes-requires
 put-bytes-requires c κs =
     let s = c.before.before.before.before in
-    omega (arith, length-pair s.args.first.now s.args.a s.args.second.now s.args.b)
+    omega (arith, length_pair s.args.first.now s.args.a s.args.second.now s.args.b)
 
 put-decimal-requires : tie.Need-put-decimal-requires
 put-decimal-requires c κs =
     let s = c.before.before.before.before.before.before.before.before in
     omega (
       arith,
-      length-pair s.args.first.now s.args.a s.args.second.now s.args.b,
+      length_pair s.args.first.now s.args.a s.args.second.now s.args.b,
       s.requires,
       c.before.before.before.put-bytes.ensures.behind,
     )
@@ -26,7 +26,7 @@ put-line-requires c κs =
     let s = c.before.before.before.before.before.before.before.before.before.before.before.before in
     omega (
       arith,
-      length-pair s.args.first.now s.args.a s.args.second.now s.args.b,
+      length_pair s.args.first.now s.args.a s.args.second.now s.args.b,
       s.requires,
       c.before.before.before.put-decimal.ensures.behind,
       c.before.before.before.before.before.before.before.put-bytes.ensures.behind,

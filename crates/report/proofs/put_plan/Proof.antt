@@ -1,7 +1,7 @@
 -- `put_plan` meets its contract: one line. Assumes nothing.
 use native.Mathlib.Omega.{arith}
 use Rattle.model.specs.Listing.{plan_word, layers_word}
-use Rattle.report.specs.Lines.{plan_line, pair-room}
+use Rattle.report.specs.Lines.{plan_line, pair_room}
 use borrow.Author.Rules.{rules}
 use Rattle.report.proofs.put_plan.Statement.{statement}
 use Rattle.report.proofs.put_plan.Tie as tie
@@ -16,7 +16,7 @@ put-pair-requires : tie.Need-put-pair-requires
 unfolding plan_word layers_word
 put-pair-requires c κs =
     let a = c.before.before.before.before.args in
-    omega (arith, pair-room plan_word a.records layers_word a.layers (omega arith) (omega arith))
+    omega (arith, pair_room plan_word a.records layers_word a.layers (omega arith) (omega arith))
 
 same_length : tie.Need-same-length
 same_length c = search rules

@@ -5,7 +5,7 @@ use native.Mathlib.Omega.{arith}
 use borrow.Author.Rules.{rules}
 use mathlib.Core.List.{List}
 use Rattle.model.specs.Plan.{Record}
-use Rattle.report.specs.Records.{Planned, planned_long, Listed, listed_none, next_room, listed_next, listed-all}
+use Rattle.report.specs.Records.{Planned, planned_long, Listed, listed_none, next_room, listed_next, listed_all}
 use Rattle.report.proofs.put_records.Statement.{statement}
 use Rattle.report.proofs.put_records.Tie as tie
 
@@ -59,7 +59,7 @@ same_length : tie.Need-same-length invariant-loop decreases-loop
 same_length c = let q = c.before.before.before.before.requires.0 in (c.before.loop.invariant q.records q.planned).writing.so_far.kept
 
 returns : tie.Need-returns invariant-loop decreases-loop
-returns c rs p = listed-all (c.before.loop.invariant rs p) (omega (arith, p.many))
+returns c rs p = listed_all (c.before.loop.invariant rs p) (omega (arith, p.many))
 
 pub put-records-spec : {M : Type 1} → statement M
 put-records-spec =

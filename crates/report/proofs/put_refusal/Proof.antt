@@ -1,7 +1,7 @@
 -- `put_refusal` meets its contract: one line. Assumes nothing.
 use native.Mathlib.Omega.{arith}
 use Rattle.model.specs.Listing.{refusal_word, place_word, refusal_text}
-use Rattle.report.specs.Lines.{pair_text, pair-room}
+use Rattle.report.specs.Lines.{pair_text, pair_room}
 use borrow.Author.Rules.{rules}
 use Rattle.report.proofs.put_refusal.Statement.{statement}
 use Rattle.report.proofs.put_refusal.Tie as tie
@@ -16,7 +16,7 @@ put-pair-requires : tie.Need-put-pair-requires
 unfolding refusal_word place_word
 put-pair-requires c κs =
     let a = c.before.before.before.before.args in
-    omega (arith, pair-room refusal_word a.number place_word a.place (omega arith) (omega arith))
+    omega (arith, pair_room refusal_word a.number place_word a.place (omega arith) (omega arith))
 
 same_length : tie.Need-same-length
 same_length c = search rules

@@ -6,7 +6,7 @@ use mathlib.Core.List.{[]}
 use lib.ListN.{get_or}
 use Rattle.block.specs.Items.{Left, readable}
 use Rattle.block.specs.Parts.{ranges_of}
-use Rattle.rewrite.specs.Stored.{stored_form, stored_task, Counting, counting_start, counting-step, counting-end, few-moves, kept-most, move_in, block_in}
+use Rattle.rewrite.specs.Stored.{stored_form, stored_task, Counting, counting_start, counting_step, counting_end, few_moves, kept_most, move_in, block_in}
 use Rattle.rewrite.proofs.count_moves.Statement.{statement}
 use Rattle.rewrite.proofs.count_moves.Tie as tie
 
@@ -23,7 +23,7 @@ counted c = move_in c.before.before.before.before.before.requires c.before.befor
 -- one move more
 next : (c : tie.After-count-kept invariant-loop decreases-loop) → Counting (stored_task c.before.before.before.before.before.before.args.table.now).moves (c.before.before.before.loop.b + 1) (c.before.before.before.loop.auto + c.count_kept.result)
 next c =
-    counting-step c.before.before.before.loop.invariant (omega (arith, c.before.before.loop-test.true, c.before.before.before.before.before.before.requires.count))
+    counting_step c.before.before.before.loop.invariant (omega (arith, c.before.before.loop-test.true, c.before.before.before.before.before.before.requires.count))
     (c.count_kept.ensures.is _ _ (counted c.before))
 
 loop-holds : tie.Need-loop-init invariant-loop decreases-loop
@@ -36,10 +36,10 @@ count-kept-requires : tie.Need-count-kept-requires invariant-loop decreases-loop
 count-kept-requires c κs = readable (counted c)
 
 add_kept : tie.Need-overflow-add-kept invariant-loop decreases-loop
-add_kept c = omega (arith, kept-most c.before.before.before.before.before.before.requires, (next c).same)
+add_kept c = omega (arith, kept_most c.before.before.before.before.before.before.requires, (next c).same)
 
 add-b : tie.Need-overflow-add-b invariant-loop decreases-loop
-add-b c = omega (arith, few-moves c.before.before.before.before.before.before.requires)
+add-b c = omega (arith, few_moves c.before.before.before.before.before.before.requires)
 
 loop-less : tie.Need-loop-smaller invariant-loop decreases-loop
 loop-less c = omega arith
@@ -48,7 +48,7 @@ loop-again : tie.Need-loop-preserved invariant-loop decreases-loop
 loop-again c = next c
 
 returns : tie.Need-returns invariant-loop decreases-loop
-returns c = counting-end c.before.loop.invariant (omega (arith, c.loop-test.false, c.before.before.before.before.requires.count))
+returns c = counting_end c.before.loop.invariant (omega (arith, c.loop-test.false, c.before.before.before.before.requires.count))
 
 pub count-moves-spec : {M : Type 1} → statement M
 count-moves-spec =

@@ -12,7 +12,7 @@ use lib.ListN.{length}
 use Rattle.model.specs.Lists.{any}
 use Rattle.model.specs.Task.{Block, changes, active}
 use Rattle.block.specs.Items.{Ranges, readable, next_ahead}
-use Rattle.block.specs.Blocks.{Walk, Passing, walk_start, walk-next, walk-stop, next_is, any-true, any_false}
+use Rattle.block.specs.Blocks.{Walk, Passing, walk_start, walk_next, walk_stop, next_is, any_true, any_false}
 use Rattle.block.specs.declared.ItemAt.{ItemAt}
 use Rattle.block.specs.declared.ItemAt.TheVariants.{Need, Add, Delete, Condition as ConditionAt, Effect as EffectAt, End}
 use Rattle.block.specs.contracts.ItemAt.{the_type}
@@ -50,8 +50,8 @@ returns c =
     record {
       is =
           λ k b l.
-          walk-stop Over changing c.before.before.before.loop.invariant (next_is c.before.before.next.ensures c.enum_told.given.1)
-          (λ k s w h. any-true changes (unfold changes in refl)) k b tt l tt;
+          walk_stop Over changing c.before.before.before.loop.invariant (next_is c.before.before.next.ensures c.enum_told.given.1)
+          (λ k s w h. any_true changes (unfold changes in refl)) k b tt l tt;
     }
 
 enum-told-2 : tie.Need-enum-told-2 invariant-loop decreases-loop
@@ -63,8 +63,8 @@ returns-2 c =
     record {
       is =
           λ k b l.
-          walk-stop Over changing c.before.before.before.loop.invariant (next_is c.before.before.next.ensures c.enum-told2.given.1)
-          (λ k s w h. any-true changes (unfold changes in refl)) k b tt l tt;
+          walk_stop Over changing c.before.before.before.loop.invariant (next_is c.before.before.next.ensures c.enum-told2.given.1)
+          (λ k s w h. any_true changes (unfold changes in refl)) k b tt l tt;
     }
 
 enum-told-3 : tie.Need-enum-told-3 invariant-loop decreases-loop
@@ -76,8 +76,8 @@ returns-3 c =
     record {
       is =
           λ k b l.
-          walk-stop Over changing c.before.before.before.loop.invariant (next_is c.before.before.next.ensures c.enum-told3.given.1)
-          (λ k s e w v h. any-true changes (unfold changes in refl)) k b tt l tt;
+          walk_stop Over changing c.before.before.before.loop.invariant (next_is c.before.before.next.ensures c.enum-told3.given.1)
+          (λ k s e w v h. any_true changes (unfold changes in refl)) k b tt l tt;
     }
 
 enum-told-4 : tie.Need-enum-told-4 invariant-loop decreases-loop
@@ -89,7 +89,7 @@ returns-4 c =
     record {
       is =
           λ k b l.
-          walk-stop Over changing c.before.before.before.loop.invariant (next_is c.before.before.next.ensures c.enum-told4.given.1)
+          walk_stop Over changing c.before.before.before.loop.invariant (next_is c.before.before.next.ensures c.enum-told4.given.1)
           (λ s. refl) k b tt l tt;
     }
 
@@ -118,7 +118,7 @@ loop-again : tie.Need-loop-preserved invariant-loop decreases-loop
 loop-again c =
     let n = c.before.before in
     subst (Walk _ Over changing) (sym c.behind.ensures)
-    (walk-next Over changing n.before.loop.invariant (inside c) n.next.ensures (no_change _ n.next.result c.before.match.keys5))
+    (walk_next Over changing n.before.loop.invariant (inside c) n.next.ensures (no_change _ n.next.result c.before.match.keys5))
 
 pub is-active-spec : {M : Type 1} → statement M
 is-active-spec =

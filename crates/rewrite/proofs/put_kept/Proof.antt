@@ -2,7 +2,7 @@
 use native.Mathlib.Omega.{arith}
 use borrow.Author.Rules.{rules}
 use borrow.Author.Tests.{not-true, not-false}
-use Rattle.rewrite.specs.Active.{kept-not, kept_whole}
+use Rattle.rewrite.specs.Active.{kept_not, kept_whole}
 use Rattle.rewrite.proofs.put_kept.Statement.{statement}
 use Rattle.rewrite.proofs.put_kept.Tie as tie
 
@@ -10,7 +10,7 @@ is-active-requires : tie.Need-is-active-requires
 is-active-requires c κs = search rules
 
 returns : tie.Need-returns
-returns c = kept-not c.before.is-active.ensures _ _ (not-true _ c.if1.true)
+returns c = kept_not c.before.is-active.ensures _ _ (not-true _ c.if1.true)
 
 put-bytes-requires : tie.Need-put-bytes-requires
 put-bytes-requires c κs = omega arith

@@ -3,7 +3,7 @@
 use Prim.Native.Nat.{◌-◌}
 use native.Mathlib.Omega.{arith}
 use Rattle.block.specs.Items.{readable}
-use Rattle.rewrite.specs.Stored.{stored_task, MovesWriting, moves_start, moves-short, moves-step, moves-end, few-moves, short, part_short, table-size, move_in, move-bytes, block_in}
+use Rattle.rewrite.specs.Stored.{stored_task, MovesWriting, moves_start, moves_short, moves_step, moves_end, few_moves, short, part_short, table_size, move_in, move_bytes, block_in}
 use Rattle.rewrite.proofs.put_moves.Statement.{statement}
 use Rattle.rewrite.proofs.put_moves.Tie as tie
 
@@ -24,10 +24,10 @@ put-kept-requires c κs =
     let l = c.before.before in
     let h = c.before.before.before.before.before.before.before.requires.0 in
     let n = l.before.loop.b in
-    (readable (move_in h n l.loop-test.true c.before.part.ensures.0), omega (arith, moves-short l.before.loop.invariant, table-size h, short h, part_short h n (omega arith) c.before.part.ensures.0))
+    (readable (move_in h n l.loop-test.true c.before.part.ensures.0), omega (arith, moves_short l.before.loop.invariant, table_size h, short h, part_short h n (omega arith) c.before.part.ensures.0))
 
 add-b : tie.Need-overflow-add-b invariant-loop decreases-loop
-add-b c = omega (arith, few-moves c.before.before.before.before.before.before.before.before.before.before.requires.0)
+add-b c = omega (arith, few_moves c.before.before.before.before.before.before.before.before.before.before.requires.0)
 
 loop-less : tie.Need-loop-smaller invariant-loop decreases-loop
 loop-less c = omega arith
@@ -38,14 +38,14 @@ loop-again c =
     let l = c.before.before.before.before.before in
     let n = l.before.loop.b in
     let e = c.before.before.before.before.part.ensures.0 in
-    moves-step l.before.loop.invariant (omega (arith, l.loop-test.true, h.count))
-    (c.before.before.put-kept.ensures.is _ _ (move_in h n l.loop-test.true e) (move-bytes h n l.loop-test.true e))
+    moves_step l.before.loop.invariant (omega (arith, l.loop-test.true, h.count))
+    (c.before.before.put-kept.ensures.is _ _ (move_in h n l.loop-test.true e) (move_bytes h n l.loop-test.true e))
 
 same_length : tie.Need-same-length invariant-loop decreases-loop
 same_length c = c.before.loop.invariant.writing.so_far.kept
 
 returns : tie.Need-returns invariant-loop decreases-loop
-returns c = moves-end c.before.loop.invariant (omega (arith, c.loop-test.false, c.before.before.before.before.before.requires.0.count))
+returns c = moves_end c.before.loop.invariant (omega (arith, c.loop-test.false, c.before.before.before.before.before.requires.0.count))
 
 pub put-moves-spec : {M : Type 1} → statement M
 put-moves-spec =

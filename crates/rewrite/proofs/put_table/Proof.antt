@@ -4,22 +4,22 @@ use native.Mathlib.Omega.{arith}
 use borrow.Author.Rules.{rules}
 use Rattle.model.specs.Command.{code_of}
 use Rattle.model.specs.Theorems.Rewriting.Accepted.{kept_bytes}
-use Rattle.rewrite.specs.Stored.{stored_task, whole_written, few-moves, kept-most, short, part_short, table-size, block_in}
+use Rattle.rewrite.specs.Stored.{stored_task, whole_written, few_moves, kept_most, short, part_short, table_size, block_in}
 use Rattle.rewrite.proofs.put_table.Statement.{statement}
 use Rattle.rewrite.proofs.put_table.Tie as tie
 
 put-head-requires : tie.Need-put-head-requires
-put-head-requires c κs = let s = c.before.before.before.before in (omega (arith, table-size s.requires.0), omega (arith, kept-most s.requires.0, few-moves s.requires.0, s.requires.1))
+put-head-requires c κs = let s = c.before.before.before.before in (omega (arith, table_size s.requires.0), omega (arith, kept_most s.requires.0, few_moves s.requires.0, s.requires.1))
 
 put-moves-requires : tie.Need-put-moves-requires
 put-moves-requires c κs = search rules
 
 -- where the goal begins
-at-goal : (c : tie.After-put-moves) → c.put-moves.result ≤ 64_004
-at-goal c =
+at_goal : (c : tie.After-put-moves) → c.put-moves.result ≤ 64_004
+at_goal c =
     let s = c.before.before.before.before.before.before.before.before.before in
     let k = stored_task s.args.table.now in
-    omega (arith, c.before.before.before.before.put-head.ensures.behind, c.put-moves.ensures.behind, kept_bytes k.moves, table-size s.requires.0, short s.requires.0)
+    omega (arith, c.before.before.before.before.put-head.ensures.behind, c.put-moves.ensures.behind, kept_bytes k.moves, table_size s.requires.0, short s.requires.0)
 
 part-requires : tie.Need-part-requires
 part-requires c κs = let s = c.before.before.before.before.before.before.before.before.before.before.before.before in block_in s.requires.0 s.args.moves (omega arith)
@@ -27,13 +27,13 @@ part-requires c κs = let s = c.before.before.before.before.before.before.before
 put-bytes-requires : tie.Need-put-bytes-requires
 put-bytes-requires c κs =
     let s = c.before.before.before.before.before.before.before.before.before.before.before.before.before in
-    let goal = at-goal c.before.before.before.before in
+    let goal = at_goal c.before.before.before.before in
     omega (arith, goal, part_short s.requires.0 s.args.moves (omega arith) c.part.ensures.0)
 
 put-byte-requires : tie.Need-put-byte-requires
 put-byte-requires c κs =
     let s = c.before.before.before.before.before.before.before.before.before.before.before.before.before.before.before.before.before in
-    let goal = at-goal c.before.before.before.before.before.before.before.before in
+    let goal = at_goal c.before.before.before.before.before.before.before.before in
     omega (arith, goal, c.before.before.before.put-bytes.ensures.behind, part_short s.requires.0 s.args.moves (omega arith) c.before.before.before.before.part.ensures.0)
 
 same_length : tie.Need-same-length

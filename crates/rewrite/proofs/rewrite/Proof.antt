@@ -9,8 +9,8 @@ use Rattle.model.specs.Theorems.Rewriting.Accepted.{rewrite_right}
 use Rattle.table.specs.Names.{wanted_of}
 use Rattle.table.specs.Answer.{answer_refused}
 use Rattle.table.specs.Outlines.{stored_read}
-use Rattle.rewrite.specs.Stored.{read-stored}
-use Rattle.rewrite.specs.Answers.{rewrite-written, rewrite_refused}
+use Rattle.rewrite.specs.Stored.{read_stored}
+use Rattle.rewrite.specs.Answers.{rewrite_written, rewrite_refused}
 use Rattle.rewrite.proofs.rewrite.Statement.{statement}
 use Rattle.rewrite.proofs.rewrite.Tie as tie
 
@@ -22,7 +22,7 @@ enum-known-moves c = search rules
 
 write-requires : tie.Need-write-requires
 unfolding wanted_of
-write-requires c κs = read-stored (stored_read c.before.before.before.before.before.outline.ensures c.before.before.before.moves.given.1 (record { each = λ i. omega (arith, c.before.before.before.before.before.before.before.before.shared-slice-known.given i) }))
+write-requires c κs = read_stored (stored_read c.before.before.before.before.before.outline.ensures c.before.before.before.moves.given.1 (record { each = λ i. omega (arith, c.before.before.before.before.before.before.before.before.shared-slice-known.given i) }))
 
 enum-known-r : tie.Need-enum-known-r
 enum-known-r c = search rules
@@ -35,7 +35,7 @@ unfolding wanted_of
 returns c =
     let h = stored_read c.before.before.before.before.before.before.before.before.outline.ensures c.before.before.before.before.before.before.moves.given.1 (record { each = λ i. omega (arith, c.before.before.before.before.before.before.before.before.before.before.before.shared-slice-known.given i) }) in
     let a = c.before.before.before.before.before.before.before.before.before.before.before.before.args in
-    let w = rewrite-written h c.before.before.write.ensures in
+    let w = rewrite_written h c.before.before.write.ensures in
     (w.0, w.1, rewrite_right paper paper_small a.table.now (record { each = λ i. omega (arith, c.before.before.before.before.before.before.before.before.before.before.before.shared-slice-known.given i) }) (length a.out.now))
 
 returns-2 : tie.Need-returns-2

@@ -1,5 +1,5 @@
 -- `admit` meets its contract. Assumes nothing.
-use Rattle.rig.specs.Admission.{not-beyond-admits, beyond-refused, table_refused}
+use Rattle.rig.specs.Admission.{not_beyond_admits, beyond_refused, table_refused}
 use borrow.Author.Rules.{rules}
 use Rattle.rig.proofs.admit.Statement.{statement}
 use Rattle.rig.proofs.admit.Tie as tie
@@ -8,7 +8,7 @@ beyond-requires : tie.Need-beyond-requires
 beyond-requires c κs = search rules
 
 returns : tie.Need-returns
-returns c = not-beyond-admits _ _ _ c.before.beyond.ensures c.if1.true
+returns c = not_beyond_admits _ _ _ c.before.beyond.ensures c.if1.true
 
 outline-requires : tie.Need-outline-requires
 outline-requires c κs = search rules
@@ -20,7 +20,7 @@ enum-known-r : tie.Need-enum-known-r
 enum-known-r c = search rules
 
 returns-2 : tie.Need-returns-2
-returns-2 c = beyond-refused _ _ _ c.before.before.before.before.before.beyond.ensures c.before.before.before.before.if1.false c.before.before.outline.ensures c.enum_told.given.1
+returns-2 c = beyond_refused _ _ _ c.before.before.before.before.before.beyond.ensures c.before.before.before.before.if1.false c.before.before.outline.ensures c.enum_told.given.1
 
 returns-3 : tie.Need-returns-3
 returns-3 c = table_refused _ _ _ c.before.before.before.outline.ensures c.before.r.given.1

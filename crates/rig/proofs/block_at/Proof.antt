@@ -2,7 +2,7 @@
 use native.Mathlib.Omega.{arith}
 use mathlib.Core.Path.{refl}
 use Rattle.model.specs.Limits.{paper}
-use Rattle.ceiling.specs.Theorems.Calls.{same-reading, turned-reading}
+use Rattle.ceiling.specs.Theorems.Calls.{same_reading, turned_reading}
 use Rattle.table.specs.Names.{wanted_of}
 use Rattle.ceiling.specs.Heads.{ceiling_of}
 use Rattle.rig.specs.Admission.{admitted, turned}
@@ -34,11 +34,11 @@ part-result-end c = search rules
 
 returns : tie.Need-returns
 unfolding wanted_of
-returns c = same_block _ _ _ _ _ _ (same-reading (ceiling_of c.before.before.before.before.before.before.before.args.c) paper _ (admitted _ _ _ c.before.before.before.before.before.admit.ensures c.before.before.before.enum_told.given.1)) c.block_at.ensures
+returns c = same_block _ _ _ _ _ _ (same_reading (ceiling_of c.before.before.before.before.before.before.before.args.c) paper _ (admitted _ _ _ c.before.before.before.before.before.admit.ensures c.before.before.before.enum_told.given.1)) c.block_at.ensures
 
 returns-2 : tie.Need-returns-2
 unfolding wanted_of
-returns-2 c = no_block _ _ _ _ _ _ _ (turned-reading (ceiling_of c.before.before.before.before.before.before.args.c) paper _ _ (turned _ _ _ c.before.before.before.before.admit.ensures c.before.before.r.given.1)) refl refl refl (record { memory = refl; offset = omega arith })
+returns-2 c = no_block _ _ _ _ _ _ _ (turned_reading (ceiling_of c.before.before.before.before.before.before.args.c) paper _ _ (turned _ _ _ c.before.before.before.before.admit.ensures c.before.before.r.given.1)) refl refl refl (record { memory = refl; offset = omega arith })
 
 pub block-at-spec : {M : Type 1} → statement M
 block-at-spec =

@@ -2,13 +2,13 @@
 use mathlib.Core.Path.{sym}
 use lib.Seq.{length-take-le}
 use Rattle.model.specs.Limits.{paper}
-use Rattle.ceiling.specs.Theorems.Calls.{turned-planning}
+use Rattle.ceiling.specs.Theorems.Calls.{turned_planning}
 use Rattle.model.specs.Theorems.Campaigns.Demand3.{decide_layers}
 use Rattle.table.specs.Names.{wanted_of}
 use Rattle.ceiling.specs.Heads.{ceiling_of}
 use Rattle.ceiling.specs.Numbers.{split}
 use Rattle.rig.specs.Admission.{admitted, turned}
-use Rattle.rig.specs.Planning.{decide-answers, decide-leaves}
+use Rattle.rig.specs.Planning.{decide_answers, decide_leaves}
 use borrow.Author.Rules.{rules}
 use Rattle.rig.proofs.decide.Statement.{statement}
 use Rattle.rig.proofs.decide.Tie as tie
@@ -43,12 +43,12 @@ returns c =
     let a = c.before.before.before.before.before.before.before.before.before.args in
     let s = split a.c a.layers.now c.before.before.before.used.ensures in
     let h = admitted _ _ _ c.before.before.before.before.before.before.admit.ensures c.before.before.before.before.enum_told.given.1 in
-    (decide-answers a.c _ _ _ s h c.before.decide.ensures.0, decide-leaves a.c _ _ _ s h c.before.decide.ensures.1, c.before.decide.ensures.2)
+    (decide_answers a.c _ _ _ s h c.before.decide.ensures.0, decide_leaves a.c _ _ _ s h c.before.decide.ensures.1, c.before.decide.ensures.2)
 
 returns-2 : tie.Need-returns-2
 unfolding wanted_of decide_layers
 returns-2 c =
-    let back = turned-planning (ceiling_of c.before.before.before.before.before.before.args.c) paper _ _ (turned _ _ _ c.before.before.before.admit.ensures c.before.r.given.1) _ _ in
+    let back = turned_planning (ceiling_of c.before.before.before.before.before.before.args.c) paper _ _ (turned _ _ _ c.before.before.before.admit.ensures c.before.r.given.1) _ _ in
     (sym back.decides, sym back.leaves, tt)
 
 pub decide-spec : {M : Type 1} → statement M

@@ -2,13 +2,13 @@
 use mathlib.Core.Path.{sym}
 use lib.Seq.{length-take-le}
 use Rattle.model.specs.Limits.{paper}
-use Rattle.ceiling.specs.Theorems.Calls.{turned-planning}
+use Rattle.ceiling.specs.Theorems.Calls.{turned_planning}
 use Rattle.model.specs.Theorems.Campaigns.Demand3.{plan_layers}
 use Rattle.table.specs.Names.{wanted_of}
 use Rattle.ceiling.specs.Heads.{ceiling_of}
 use Rattle.ceiling.specs.Numbers.{split}
 use Rattle.rig.specs.Admission.{admitted, turned}
-use Rattle.rig.specs.Planning.{plan-answers, plan-leaves, plan-writes}
+use Rattle.rig.specs.Planning.{plan_answers, plan_leaves_lem, plan_writes}
 use borrow.Author.Rules.{rules}
 use Rattle.rig.proofs.plan.Statement.{statement}
 use Rattle.rig.proofs.plan.Tie as tie
@@ -47,13 +47,13 @@ returns c =
     let s = split a.c a.layers.now c.before.before.before.before.before.before.used.ensures in
     let h = admitted _ _ _ c.before.before.before.before.before.before.before.before.before.admit.ensures c.before.before.before.before.before.before.before.enum_told.given.1 in
     let e = c.before.before.before.plan.ensures in
-    (plan-answers a.c _ _ _ s h _ e.0, plan-leaves a.c _ _ _ s h e.1, plan-writes a.c _ _ _ s h _ e.2, e.3)
+    (plan_answers a.c _ _ _ s h _ e.0, plan_leaves_lem a.c _ _ _ s h e.1, plan_writes a.c _ _ _ s h _ e.2, e.3)
 
 returns-2 : tie.Need-returns-2
 unfolding wanted_of plan_layers
 returns-2 c =
-    let back = turned-planning (ceiling_of c.before.before.before.before.before.before.before.args.c) paper _ _ (turned _ _ _ c.before.before.before.admit.ensures c.before.r.given.1) _ _ in
-    (sym (back.plans _), sym back.planLeaves, sym (back.writes _), tt)
+    let back = turned_planning (ceiling_of c.before.before.before.before.before.before.before.args.c) paper _ _ (turned _ _ _ c.before.before.before.admit.ensures c.before.r.given.1) _ _ in
+    (sym (back.plans _), sym back.plan_leaves, sym (back.writes _), tt)
 
 pub plan-spec : {M : Type 1} → statement M
 plan-spec =

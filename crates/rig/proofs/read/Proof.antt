@@ -1,7 +1,7 @@
 -- `read` meets its contract. Assumes nothing.
 use mathlib.Core.Path.{sym, ◌∙◌}
 use Rattle.model.specs.Limits.{paper}
-use Rattle.ceiling.specs.Theorems.Calls.{same-reading, turned-reading}
+use Rattle.ceiling.specs.Theorems.Calls.{same_reading, turned_reading}
 use Rattle.table.specs.Names.{wanted_of}
 use Rattle.ceiling.specs.Heads.{ceiling_of}
 use Rattle.rig.specs.Admission.{admitted, turned}
@@ -23,11 +23,11 @@ enum-known-r c = search rules
 
 returns : tie.Need-returns
 unfolding wanted_of
-returns c = c.read.ensures ∙ sym (same-reading (ceiling_of c.before.before.before.before.before.args.c) paper _ (admitted _ _ _ c.before.before.before.admit.ensures c.before.enum_told.given.1)).answer
+returns c = c.read.ensures ∙ sym (same_reading (ceiling_of c.before.before.before.before.before.args.c) paper _ (admitted _ _ _ c.before.before.before.admit.ensures c.before.enum_told.given.1)).answer
 
 returns-2 : tie.Need-returns-2
 unfolding wanted_of
-returns-2 c = sym (turned-reading (ceiling_of c.before.before.before.before.before.args.c) paper _ _ (turned _ _ _ c.before.before.before.admit.ensures c.before.r.given.1)).answer
+returns-2 c = sym (turned_reading (ceiling_of c.before.before.before.before.before.args.c) paper _ _ (turned _ _ _ c.before.before.before.admit.ensures c.before.r.given.1)).answer
 
 pub read_spec : {M : Type 1} → statement M
 read_spec =

@@ -4,7 +4,7 @@ use lib.Seq.{length-take-le}
 use Rattle.table.specs.Names.{wanted_of}
 use Rattle.ceiling.specs.Numbers.{split}
 use Rattle.rig.specs.Admission.{admitted, turned}
-use Rattle.rig.specs.Campaign.{done-admitted, done-turned}
+use Rattle.rig.specs.Campaign.{done_admitted, done_turned}
 use borrow.Author.Rules.{rules}
 use Rattle.rig.proofs.rig_campaign.Statement.{statement}
 use Rattle.rig.proofs.rig_campaign.Tie as tie
@@ -45,11 +45,11 @@ returns c =
     let a = c.before.before.before.before.before.before.before.before.before.before.before.before.before.before.before.before.before.args in
     let s = split a.c a.layers.now c.before.before.before.before.before.before.before.before.before.used.ensures in
     let h = admitted _ _ _ c.before.before.before.before.before.before.before.before.before.before.before.before.admit.ensures c.before.before.before.before.before.before.before.before.before.before.enum_told.given.1 in
-    done-admitted _ _ _ _ _ _ s h c.before.before.before.before.before.campaign.ensures
+    done_admitted _ _ _ _ _ _ s h c.before.before.before.before.before.campaign.ensures
 
 returns-2 : tie.Need-returns-2
 unfolding wanted_of
-returns-2 c = done-turned _ _ _ _ _ _ _ (turned _ _ _ c.before.before.before.admit.ensures c.before.r.given.1)
+returns-2 c = done_turned _ _ _ _ _ _ _ (turned _ _ _ c.before.before.before.admit.ensures c.before.r.given.1)
 
 pub rig-campaign-spec : {M : Type 1} → statement M
 rig-campaign-spec =

@@ -11,49 +11,49 @@ use Rattle.model.specs.Task.{Form, Task}
 use Rattle.model.specs.Move.{State, applicable, real, move_at}
 use Rattle.model.specs.StateTable.{state_of, state_refusal, state_bytes}
 use Rattle.model.specs.Theorems.Reading.WellFormed.{BlockOk, TaskOk}
-use Rattle.model.specs.Theorems.Reading.Agreeing.{AgreeBelow, agree_sym, agree-applicable, agree-real, agree-solves}
+use Rattle.model.specs.Theorems.Reading.Agreeing.{AgreeBelow, agree_sym, agree_applicable, agree_real, agree_solves}
 use Rattle.model.specs.Theorems.Layers.NextLayer.{move_ok}
-use Rattle.state.specs.RoundTrip.{truths-back, values-back, bytes-accepted}
+use Rattle.state.specs.RoundTrip.{truths_back, values_back, bytes_accepted}
 use Rattle.schedule.specs.declared.Fault.{Fault}
 use Rattle.schedule.specs.declared.Fault.TheVariants as fault
 use Rattle.schedule.specs.Run.{state_after, ValuesInRange, InRange, SolvesInRange}
 use Rattle.schedule.specs.Check.{fault_of}
-use Rattle.schedule.specs.Theorems.Moves.{MoveRight, fault-right, fault-is}
+use Rattle.schedule.specs.Theorems.Moves.{MoveRight, fault_right, fault_is}
 
 -- on a task's propositions and variables
 abbrev pub Agree : Task → State → State → Type 0
 Agree k s t = AgreeBelow k.props k.vars s t
 
 module _ {L : Limits} {f : Form} {k : Task} (ok : TaskOk L f k) where
-  pub agree-range : {s t : State} → Agree k s t → ValuesInRange L k s → ValuesInRange L k t
-  agree-range a r v h = subst (λ (z : ℤ). nat_abs z ≤ L.constant) (a.val v h) (r v h)
+  pub agree_range : {s t : State} → Agree k s t → ValuesInRange L k s → ValuesInRange L k t
+  agree_range a r v h = subst (λ (z : ℤ). nat_abs z ≤ L.constant) (a.val v h) (r v h)
 
   module _ {s t : State} (a : Agree k s t) (b : ℕ) (known : b < length k.moves) where
-    block-ok : BlockOk L f k.props k.vars (move_at k b)
+    block_ok : BlockOk L f k.props k.vars (move_at k b)
     unfolding move_at
-    block-ok = move_ok ok b known
+    block_ok = move_ok ok b known
 
-    pub agree-moved : Agree k (real (move_at k b) s) (real (move_at k b) t)
-    agree-moved = agree-real L f a (move_at k b) block-ok
+    pub agree_moved : Agree k (real (move_at k b) s) (real (move_at k b) t)
+    agree_moved = agree_real L f a (move_at k b) block_ok
 
-    pub agree-allowed : applicable s (move_at k b) ≡ applicable t (move_at k b)
-    agree-allowed = agree-applicable L f a (move_at k b) block-ok
+    pub agree_allowed : applicable s (move_at k b) ≡ applicable t (move_at k b)
+    agree_allowed = agree_applicable L f a (move_at k b) block_ok
 
   -- the same fault, or none
   module _ {s t : State} (a : Agree k s t) (b : ℕ) where
-    right-agrees : (o : Option Fault) → MoveRight L k s b o → MoveRight L k t b o
-    right-agrees none m =
+    right_agrees : (o : Option Fault) → MoveRight L k s b o → MoveRight L k t b o
+    right_agrees none m =
         record {
           known = m.known;
-          allowed = subst T (agree-allowed a b m.known) m.allowed;
-          range = agree-range (agree-moved a b m.known) m.range;
+          allowed = subst T (agree_allowed a b m.known) m.allowed;
+          range = agree_range (agree_moved a b m.known) m.range;
         }
-    right-agrees (some fault.Missing) m = m
-    right-agrees (some fault.NotAllowed) m = (m.0, λ x. m.1 (subst T (sym (agree-allowed a b m.0)) x))
-    right-agrees (some fault.OutOfRange) m =
-        let to = agree-moved a b m.0 in (
+    right_agrees (some fault.Missing) m = m
+    right_agrees (some fault.NotAllowed) m = (m.0, λ x. m.1 (subst T (sym (agree_allowed a b m.0)) x))
+    right_agrees (some fault.OutOfRange) m =
+        let to = agree_moved a b m.0 in (
           m.0,
-          subst T (agree-allowed a b m.0) m.1,
+          subst T (agree_allowed a b m.0) m.1,
           record {
             var = m.2.var;
             known = m.2.known;
@@ -61,24 +61,24 @@ module _ {L : Limits} {f : Form} {k : Task} (ok : TaskOk L f k) where
           },
         )
 
-    pub agree-fault : fault_of L k s b ≡ fault_of L k t b
-    agree-fault = sym (fault-is L k t b (fault_of L k s b) (right-agrees (fault_of L k s b) (fault-right L k s b)))
+    pub agree_fault : fault_of L k s b ≡ fault_of L k t b
+    agree_fault = sym (fault_is L k t b (fault_of L k s b) (right_agrees (fault_of L k s b) (fault_right L k s b)))
 
   -- the same lists pass
-  passes-agree : (bs : List ℕ) {s t : State} → Agree k s t → SolvesInRange L k s bs → SolvesInRange L k t bs
+  passes_agree : (bs : List ℕ) {s t : State} → Agree k s t → SolvesInRange L k s bs → SolvesInRange L k t bs
   unfolding state_after
-  passes-agree [] a h =
-      record { solves = (agree-solves ok [] a).0 h.solves; range = λ i l. rw (take-nil {A = ℕ} i) (agree-range a (h.range 0 (omega arith))) }
-  passes-agree (b ∷ bs) {s} {t} a h =
-      let later = passes-agree bs (agree-moved a b h.solves.0) (record { solves = h.solves.2; range = λ i l. h.range (suc i) (omega arith) }) in
-      record { solves = (agree-solves ok (b ∷ bs) a).0 h.solves; range = ranges later.range }
+  passes_agree [] a h =
+      record { solves = (agree_solves ok [] a).0 h.solves; range = λ i l. rw (take-nil {A = ℕ} i) (agree_range a (h.range 0 (omega arith))) }
+  passes_agree (b ∷ bs) {s} {t} a h =
+      let later = passes_agree bs (agree_moved a b h.solves.0) (record { solves = h.solves.2; range = λ i l. h.range (suc i) (omega arith) }) in
+      record { solves = (agree_solves ok (b ∷ bs) a).0 h.solves; range = ranges later.range }
     where
       ranges : InRange L k (real (move_at k b) t) bs → InRange L k t (b ∷ bs)
-      ranges r zero l = agree-range a (h.range 0 (omega arith))
+      ranges r zero l = agree_range a (h.range 0 (omega arith))
       ranges r (suc i) l = r i (omega arith)
 
-  pub agree-passes : (bs : List ℕ) {s t : State} → Agree k s t → SolvesInRange L k s bs ↔ SolvesInRange L k t bs
-  agree-passes bs a = (passes-agree bs a, passes-agree bs (agree_sym a))
+  pub agree_passes : (bs : List ℕ) {s t : State} → Agree k s t → SolvesInRange L k s bs ↔ SolvesInRange L k t bs
+  agree_passes bs a = (passes_agree bs a, passes_agree bs (agree_sym a))
 
 -- ---- a state in range and its bytes
 
@@ -86,10 +86,10 @@ module _ (k : Task) (s : State) (small : ValuesInRange paper k s) where
   abbrev written : List ℕ
   written = state_bytes k.props k.vars s
 
-  pub bytes-agree : Agree k (state_of k.props written) s
+  pub bytes_agree : Agree k (state_of k.props written) s
   unfolding paper
-  bytes-agree = record { has = truths-back k.props k.vars s; val = λ v h. values-back k.props k.vars s v h (small v h) }
+  bytes_agree = record { has = truths_back k.props k.vars s; val = λ v h. values_back k.props k.vars s v h (small v h) }
 
-  pub bytes-right : state_refusal paper k.props k.vars written ≡ none
+  pub bytes_right : state_refusal paper k.props k.vars written ≡ none
   unfolding paper
-  bytes-right = bytes-accepted k.props k.vars s small
+  bytes_right = bytes_accepted k.props k.vars s small

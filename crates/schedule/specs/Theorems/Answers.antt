@@ -22,8 +22,8 @@ use Rattle.schedule.specs.declared.CheckAnswer.{CheckAnswer}
 use Rattle.schedule.specs.declared.CheckAnswer.TheVariants as check
 use Rattle.schedule.specs.Run.{state_after, ValuesInRange, SolvesInRange}
 use Rattle.schedule.specs.Check.{Checked, passes, fails, unmet, check_from, Reply, yes_with, other, reply_of, check_state, check_table, fitted_reply, checking, reply_answer, reply_out, check_answer, check_out}
-use Rattle.schedule.specs.Theorems.Lists.{FirstFault, Unmet, ListRight, check-right, passed-solves}
-use Rattle.schedule.specs.Theorems.Exactly.{fails-first}
+use Rattle.schedule.specs.Theorems.Lists.{FirstFault, Unmet, ListRight, check_right, passed_solves}
+use Rattle.schedule.specs.Theorems.Exactly.{fails_first}
 
 -- the written table w is read from the bytes, and the state is accepted
 pub record Given (L : Limits) (t bs : List ℕ) (w : Table) : Type 0 where
@@ -67,8 +67,8 @@ module _ (L : Limits) (t bs ms old new : List ℕ) where
 
   -- why the call turns back: the table's refusal, the state's, or "too short a buffer for it is 13, last"
   pub data Back : Refusal → Type 0 where
-    of-table : {r : Refusal} → reading L (only written) t ≡ refused r → Back r
-    of-state : {r : Refusal} {w : Table} → reading L (only written) t ≡ accepted w → state_refusal L w.task.props w.task.vars bs ≡ some r → Back r
+    of_table : {r : Refusal} → reading L (only written) t ≡ refused r → Back r
+    of_state : {r : Refusal} {w : Table} → reading L (only written) t ≡ accepted w → state_refusal L w.task.props w.task.vars bs ≡ some r → Back r
     short :
         {w : Table}
         → Given L t bs w
@@ -88,7 +88,7 @@ module _ (L : Limits) (t bs ms old : List ℕ) where
   abbrev ReplyRight : Reply → Type 0
   ReplyRight p = CheckRight L t bs ms old (reply_out p old) (reply_answer p)
 
-  yes-right :
+  yes_right :
       {w : Table}
       → Given L t bs w
       → SolvesInRange L w.task (start_of w bs) ms
@@ -96,7 +96,7 @@ module _ (L : Limits) (t bs ms old : List ℕ) where
       → e ≡ state_after w.task (start_of w bs) ms
       → ReplyRight (fitted_reply (length old) (yes_with (state_bytes w.task.props w.task.vars e)))
   unfolding fitted_reply on_output fitted reply_out reply_answer
-  yes-right {w} g solved e is =
+  yes_right {w} g solved e is =
       go (ltb (length old) n) (ltb→lt (length old) n) (λ f. nltb→le (length old) n (not_T (ltb (length old) n) f))
     where
       end : List ℕ
@@ -133,13 +133,13 @@ module _ (L : Limits) (t bs ms old : List ℕ) where
       → ReplyRight (fitted_reply (length old) (reply_of w.task c))
   unfolding reply_of fitted_reply reply_out reply_answer
   list_right {w} g (passes e) p =
-      yes-right g (passed-solves L w.task (start_of w bs) ms (given_range g) p.made p.goal) e p.end
-  list_right {w} g (fails i f) p = record { table = w; given = g; first = fails-first L w.task (start_of w bs) ms p; kept = refl }
+      yes_right g (passed_solves L w.task (start_of w bs) ms (given_range g) p.made p.goal) e p.end
+  list_right {w} g (fails i f) p = record { table = w; given = g; first = fails_first L w.task (start_of w bs) ms p; kept = refl }
   list_right {w} g unmet p = record { table = w; given = g; unmet = p; kept = refl }
 
-  pub answer-right : CheckRight L t bs ms old (check_out L t bs ms old) (check_answer L t bs ms old)
+  pub answer_right : CheckRight L t bs ms old (check_out L t bs ms old) (check_answer L t bs ms old)
   unfolding check_out check_answer checking check_table check_state fitted_reply reply_out reply_answer
-  answer-right = by-table (reading L (only written) t) refl
+  answer_right = by_table (reading L (only written) t) refl
     where
       by_state :
           {w : Table}
@@ -147,10 +147,10 @@ module _ (L : Limits) (t bs ms old : List ℕ) where
           → (o : Option Refusal)
           → state_refusal L w.task.props w.task.vars bs ≡ o
           → ReplyRight (fitted_reply (length old) (check_state L w.task bs ms o))
-      by_state e (some r) f = (of-state e f, refl)
+      by_state e (some r) f = (of_state e f, refl)
       by_state {w} e none f =
-          list_right (record { table = e; state = f }) (check_from L w.task 0 (start_of w bs) ms) (check-right L w.task 0 (start_of w bs) ms)
+          list_right (record { table = e; state = f }) (check_from L w.task 0 (start_of w bs) ms) (check_right L w.task 0 (start_of w bs) ms)
 
-      by-table : (v : Verdict) → reading L (only written) t ≡ v → ReplyRight (fitted_reply (length old) (check_table L v bs ms))
-      by-table (refused r) e = (of-table e, refl)
-      by-table (accepted w) e = by_state e (state_refusal L w.task.props w.task.vars bs) refl
+      by_table : (v : Verdict) → reading L (only written) t ≡ v → ReplyRight (fitted_reply (length old) (check_table L v bs ms))
+      by_table (refused r) e = (of_table e, refl)
+      by_table (accepted w) e = by_state e (state_refusal L w.task.props w.task.vars bs) refl

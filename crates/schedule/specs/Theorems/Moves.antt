@@ -11,7 +11,7 @@ use Rattle.model.specs.Move.{State, applicable, real, move_at}
 use Rattle.model.specs.StateTable.{value_in_range, state_of, state_bytes}
 use Rattle.model.specs.Calls.{Output, writes, turns, result_of, moved, step_with_state}
 use Rattle.model.specs.Theorems.Laws.Booleans.{true_t}
-use Rattle.model.specs.Theorems.Laws.Searching.{allBelow-at, at-allBelow, allBelow-fails}
+use Rattle.model.specs.Theorems.Laws.Searching.{all_below_at, at_all_below, all_below_fails}
 use Rattle.schedule.specs.declared.Fault.{Fault}
 use Rattle.schedule.specs.declared.Fault.TheVariants as fault
 use Rattle.schedule.specs.Run.{ValuesInRange, CanMove}
@@ -24,18 +24,18 @@ pub record Beyond (L : Limits) (k : Task) (s : State) : Type 0 where
   pub beyond : L.constant < nat_abs (s.val var)
 
 module _ (L : Limits) (k : Task) (s : State) where
-  pub all-range : T (all_below (λ v. value_in_range L (s.val v)) k.vars) → ValuesInRange L k s
+  pub all_range : T (all_below (λ v. value_in_range L (s.val v)) k.vars) → ValuesInRange L k s
   unfolding value_in_range
-  all-range t v h = leb→le (nat_abs (s.val v)) L.constant (allBelow-at (λ v. value_in_range L (s.val v)) k.vars t v h)
+  all_range t v h = leb→le (nat_abs (s.val v)) L.constant (all_below_at (λ v. value_in_range L (s.val v)) k.vars t v h)
 
   pub range_all : ValuesInRange L k s → T (all_below (λ v. value_in_range L (s.val v)) k.vars)
   unfolding value_in_range
-  range_all r = at-allBelow (λ v. value_in_range L (s.val v)) k.vars (λ v h. true_t (le-leb (nat_abs (s.val v)) L.constant (r v h)))
+  range_all r = at_all_below (λ v. value_in_range L (s.val v)) k.vars (λ v h. true_t (le-leb (nat_abs (s.val v)) L.constant (r v h)))
 
-  not-all-beyond : (T (all_below (λ v. value_in_range L (s.val v)) k.vars) → ⊥) → Beyond L k s
+  not_all_beyond : (T (all_below (λ v. value_in_range L (s.val v)) k.vars) → ⊥) → Beyond L k s
   unfolding value_in_range
-  not-all-beyond f =
-      allBelow-fails (λ v. value_in_range L (s.val v)) k.vars f
+  not_all_beyond f =
+      all_below_fails (λ v. value_in_range L (s.val v)) k.vars f
       (λ v h wrong. record { var = v; known = h; beyond = nleb→lt (nat_abs (s.val v)) L.constant (not_T (leb (nat_abs (s.val v)) L.constant) wrong) })
 
 -- what each fault says of move b in state s
@@ -46,40 +46,40 @@ module _ (L : Limits) (k : Task) (s : State) (b : ℕ) where
   MoveRight (some fault.NotAllowed) = (b < length k.moves) × (T (applicable s (move_at k b)) → ⊥)
   MoveRight (some fault.OutOfRange) = (b < length k.moves) × T (applicable s (move_at k b)) × Beyond L k (real (move_at k b) s)
 
-  pub fault-right : MoveRight (fault_of L k s b)
+  pub fault_right : MoveRight (fault_of L k s b)
   unfolding fault_of block_fault range_fault
-  fault-right = by-known (ltb b (length k.moves)) (ltb→lt b (length k.moves)) (λ f. nltb→le b (length k.moves) (not_T (ltb b (length k.moves)) f))
+  fault_right = by_known (ltb b (length k.moves)) (ltb→lt b (length k.moves)) (λ f. nltb→le b (length k.moves) (not_T (ltb b (length k.moves)) f))
     where
       to : State
       to = real (move_at k b) s
 
-      by-range :
+      by_range :
           b < length k.moves
           → T (applicable s (move_at k b))
           → (t : Bool)
           → (T t → ValuesInRange L k to)
           → ((T t → ⊥) → Beyond L k to)
           → MoveRight (elim t [ true ↦ none | false ↦ some fault.OutOfRange ])
-      by-range known allowed true all one = record { known = known; allowed = allowed; range = all tt }
-      by-range known allowed false all one = (known, allowed, one (λ x. x))
+      by_range known allowed true all one = record { known = known; allowed = allowed; range = all tt }
+      by_range known allowed false all one = (known, allowed, one (λ x. x))
 
-      by-conditions :
+      by_conditions :
           b < length k.moves
           → (t : Bool)
           → (T t → T (applicable s (move_at k b)))
           → ((T t → ⊥) → T (applicable s (move_at k b)) → ⊥)
           → MoveRight (elim t [ true ↦ range_fault L k.vars to | false ↦ some fault.NotAllowed ])
-      by-conditions known true hold fail =
-          by-range known (hold tt) (all_below (λ v. value_in_range L (to.val v)) k.vars) (all-range L k to) (not-all-beyond L k to)
-      by-conditions known false hold fail = (known, fail (λ x. x))
+      by_conditions known true hold fail =
+          by_range known (hold tt) (all_below (λ v. value_in_range L (to.val v)) k.vars) (all_range L k to) (not_all_beyond L k to)
+      by_conditions known false hold fail = (known, fail (λ x. x))
 
-      by-known :
+      by_known :
           (t : Bool)
           → (T t → b < length k.moves)
           → ((T t → ⊥) → length k.moves ≤ b)
           → MoveRight (elim t [ true ↦ elim (applicable s (move_at k b)) [ true ↦ range_fault L k.vars to | false ↦ some fault.NotAllowed ] | false ↦ some fault.Missing ])
-      by-known true less more = by-conditions (less tt) (applicable s (move_at k b)) (λ x. x) (λ f. f)
-      by-known false less more = more (λ x. x)
+      by_known true less more = by_conditions (less tt) (applicable s (move_at k b)) (λ x. x) (λ f. f)
+      by_known false less more = more (λ x. x)
 
   -- the four exclude one another
   only_one : (o q : Option Fault) → MoveRight o → MoveRight q → o ≡ q
@@ -101,8 +101,8 @@ module _ (L : Limits) (k : Task) (s : State) (b : ℕ) where
   only_one (some fault.OutOfRange) (some fault.OutOfRange) h g = refl
 
   -- so what is so of the move gives its fault, or none
-  pub fault-is : (o : Option Fault) → MoveRight o → fault_of L k s b ≡ o
-  fault-is o h = only_one (fault_of L k s b) o fault-right h
+  pub fault_is : (o : Option Fault) → MoveRight o → fault_of L k s b ≡ o
+  fault_is o h = only_one (fault_of L k s b) o fault_right h
 
 -- step's answer, from the fault and the bytes of the state after the move
 unfoldable pub step_output : Option Fault → List ℕ → Output

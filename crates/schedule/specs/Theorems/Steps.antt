@@ -21,9 +21,9 @@ use Rattle.schedule.specs.declared.Fault.{Fault}
 use Rattle.schedule.specs.Run.{state_after, ValuesInRange}
 use Rattle.schedule.specs.Check.{fault_number}
 use Rattle.schedule.specs.Theorems.Moves.{step_output, step_fault}
-use Rattle.schedule.specs.Theorems.Lists.{faultAt, Made, FirstFault, can}
+use Rattle.schedule.specs.Theorems.Lists.{fault_at, Made, FirstFault, can}
 use Rattle.schedule.specs.Theorems.Answers.{Given, start_of, given_range}
-use Rattle.schedule.specs.Theorems.Agreeing.{agree-fault, agree-moved, bytes-agree, bytes-right}
+use Rattle.schedule.specs.Theorems.Agreeing.{agree_fault, agree_moved, bytes_agree, bytes_right}
 
 -- ---- the states of a run
 
@@ -35,7 +35,7 @@ module _ (L : Limits) (k : Task) where
       → n ≤ length bs
       → Made L k s bs n
       → ValuesInRange L k (state_after k s (take n bs))
-  unfolding state_after faultAt
+  unfolding state_after fault_at
   made_range s bs zero start l made = start
   made_range s [] (suc n) start l made = absurd (not-suc-le-zero l)
   made_range s (b ∷ bs) (suc n) start l made =
@@ -55,54 +55,54 @@ module _ {t bs : List ℕ} {w : Table} (g : Given paper t bs w) (ms : List ℕ) 
   k = w.task
 
   -- the state after the first i entries, and its bytes
-  abbrev pub stateAt : ℕ → State
-  stateAt i = state_after k (start_of w bs) (take i ms)
+  abbrev pub state_at : ℕ → State
+  state_at i = state_after k (start_of w bs) (take i ms)
 
   abbrev pub bytes_at : ℕ → List ℕ
-  bytes_at i = state_bytes k.props k.vars (stateAt i)
+  bytes_at i = state_bytes k.props k.vars (state_at i)
 
   ok : TaskOk paper written k
   ok = reading_task paper written t g.table
 
   module _ (i : ℕ) (inside : i < length ms) (before : Made paper k (start_of w bs) ms i) where
-    small : ValuesInRange paper k (stateAt i)
+    small : ValuesInRange paper k (state_at i)
     small = made_range paper k (start_of w bs) ms i (given_range g) (omega arith) before
 
-    step_is : step_of paper (reading paper (only written) t) (bytes_at i) (get_or ms i 0) ≡ step_output (faultAt paper k (start_of w bs) ms i) (state_bytes k.props k.vars (real (move_at k (get_or ms i 0)) (state_of k.props (bytes_at i))))
-    unfolding step_of faultAt
+    step_is : step_of paper (reading paper (only written) t) (bytes_at i) (get_or ms i 0) ≡ step_output (fault_at paper k (start_of w bs) ms i) (state_bytes k.props k.vars (real (move_at k (get_or ms i 0)) (state_of k.props (bytes_at i))))
+    unfolding step_of fault_at
     step_is =
         let b = get_or ms i 0 in
         let after = state_bytes k.props k.vars (real (move_at k b) (state_of k.props (bytes_at i))) in
         ap (λ (v : Verdict). step_of paper v (bytes_at i) b) g.table
-        ∙ ap (step_with_state paper k (bytes_at i) b) (bytes-right k (stateAt i) small)
+        ∙ ap (step_with_state paper k (bytes_at i) b) (bytes_right k (state_at i) small)
         ∙ step_fault paper k (bytes_at i) b
-        ∙ ap (λ (o : Option Fault). step_output o after) (agree-fault ok (bytes-agree k (stateAt i) small) b)
+        ∙ ap (λ (o : Option Fault). step_output o after) (agree_fault ok (bytes_agree k (state_at i) small) b)
 
     -- at an entry that cannot be made, step turns back with the fault's number
-    pub step-refuses : (f : Fault) → faultAt paper k (start_of w bs) ms i ≡ some f → (out : List ℕ) → step_answer paper t (bytes_at i) (get_or ms i 0) out ≡ write.Refused (record { number = fault_number f; place = 0 })
+    pub step_refuses : (f : Fault) → fault_at paper k (start_of w bs) ms i ≡ some f → (out : List ℕ) → step_answer paper t (bytes_at i) (get_or ms i 0) out ≡ write.Refused (record { number = fault_number f; place = 0 })
     unfolding step_answer stepped fitted write_answer step_output
-    step-refuses f e out =
+    step_refuses f e out =
         let after = state_bytes k.props k.vars (real (move_at k (get_or ms i 0)) (state_of k.props (bytes_at i))) in
         rw (step_is ∙ ap (λ (o : Option Fault). step_output o after) e) refl
 
     -- at one that can, it leads to the bytes of the next state
-    pub step-leads :
-        faultAt paper k (start_of w bs) ms i ≡ none
+    pub step_leads :
+        fault_at paper k (start_of w bs) ms i ≡ none
         → (out : List ℕ)
         → (step_answer paper t (bytes_at i) (get_or ms i 0) out ≡ write_answer (fitted (length out) (writes (bytes_at (suc i)))))
         × (step_out paper t (bytes_at i) (get_or ms i 0) out ≡ output_after (fitted (length out) (writes (bytes_at (suc i)))) out)
-    unfolding step_answer step_out stepped step_output faultAt
-    step-leads e out = (rw step_next refl, rw step_next refl)
+    unfolding step_answer step_out stepped step_output fault_at
+    step_leads e out = (rw step_next refl, rw step_next refl)
       where
         b : ℕ
         b = get_or ms i 0
 
         known : b < length k.moves
-        known = (can paper k (stateAt i) b e).known
+        known = (can paper k (state_at i) b e).known
 
         same : state_bytes k.props k.vars (real (move_at k b) (state_of k.props (bytes_at i))) ≡ bytes_at (suc i)
         same =
-            agree_bytes (agree-moved ok (bytes-agree k (stateAt i) small) b known)
+            agree_bytes (agree_moved ok (bytes_agree k (state_at i) small) b known)
             ∙ ap (state_bytes k.props k.vars) (sym (state_next k (start_of w bs) ms i inside))
 
         step_next : step_of paper (reading paper (only written) t) (bytes_at i) b ≡ writes (bytes_at (suc i))
@@ -110,4 +110,4 @@ module _ {t bs : List ℕ} {w : Table} (g : Given paper t bs w) (ms : List ℕ) 
 
   -- "the first index whose move is missing, not allowed or out of range": step's refusal in the state before it
   pub first_step : {i : ℕ} {f : Fault} → FirstFault paper k (start_of w bs) ms i f → (out : List ℕ) → step_answer paper t (bytes_at i) (get_or ms i 0) out ≡ write.Refused (record { number = fault_number f; place = 0 })
-  first_step {i} {f} h out = step-refuses i h.inside h.before f h.fault out
+  first_step {i} {f} h out = step_refuses i h.inside h.before f h.fault out

@@ -2,7 +2,7 @@
 use native.Mathlib.Omega.{arith}
 use mathlib.Core.Path.{sym, ap, ◌∙◌}
 use borrow.Author.Rules.{rules}
-use Rattle.state.specs.Checking.{check_of, values_refusal, length-refused, length-right, truths_refused, truths_accepted}
+use Rattle.state.specs.Checking.{check_of, values_refusal, length_refused, length_right, truths_refused, truths_accepted}
 use Rattle.state.proofs.check.Statement.{statement}
 use Rattle.state.proofs.check.Tie as tie
 
@@ -16,7 +16,7 @@ returns : tie.Need-returns
 unfolding check_of
 returns c =
     let a = c.before.before.args in
-    sym (length-refused a.props a.vars a.state.now (λ e. omega arith))
+    sym (length_refused a.props a.vars a.state.now (λ e. omega arith))
 
 check-truths-requires : tie.Need-check-truths-requires
 check-truths-requires c κs = omega arith
@@ -38,7 +38,7 @@ returns-2 c =
     c.check-values.ensures
     ∙ truths_accepted a.props a.state.now (values_refusal a.props a.vars a.state.now)
     (sym (ap check_of e) ∙ c.before.before.before.check-truths.ensures)
-    ∙ sym (length-right a.props a.vars a.state.now (omega arith))
+    ∙ sym (length_right a.props a.vars a.state.now (omega arith))
 
 returns-3 : tie.Need-returns-3
 unfolding check_of
@@ -47,7 +47,7 @@ returns-3 c =
     let e = c.before.r.given.1 in
     truths_refused a.props a.state.now (values_refusal a.props a.vars a.state.now) c.before.r.given.0.0
     (sym (ap check_of e) ∙ c.before.before.before.check-truths.ensures)
-    ∙ sym (length-right a.props a.vars a.state.now (omega arith))
+    ∙ sym (length_right a.props a.vars a.state.now (omega arith))
 
 pub check-spec : {M : Type 1} → statement M
 check-spec =

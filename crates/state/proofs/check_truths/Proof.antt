@@ -3,8 +3,8 @@
 use Prim.Native.Nat.{◌-◌}
 use native.Mathlib.Omega.{arith}
 use mathlib.Core.Option.{none}
-use Rattle.model.specs.Theorems.Laws.Searching.{Searched, searched_start, searched-next, searched-found, searched-all}
-use Rattle.state.specs.Checking.{check_of, wrong_truth, truth-wrong, truth-right, truths-found, truths-none}
+use Rattle.model.specs.Theorems.Laws.Searching.{Searched, searched_start, searched_next, searched_found, searched_all}
+use Rattle.state.specs.Checking.{check_of, wrong_truth, truth_wrong, truth_right, truths_found, truths_none}
 use Rattle.state.proofs.check_truths.Statement.{statement}
 use Rattle.state.proofs.check_truths.Tie as tie
 
@@ -25,8 +25,8 @@ unfolding check_of
 returns c =
     let l = c.before.before.before.loop in
     let a = c.before.before.before.before.args in
-    truths-found a.props a.state.now none
-    (searched-found l.invariant (omega arith) (truth-wrong a.state.now l.p c.if1.true))
+    truths_found a.props a.state.now none
+    (searched_found l.invariant (omega arith) (truth_wrong a.state.now l.p c.if1.true))
 
 add-p : tie.Need-overflow-add-p invariant-loop decreases-loop
 add-p c = omega arith
@@ -38,13 +38,13 @@ loop-again : tie.Need-loop-preserved invariant-loop decreases-loop
 loop-again c =
     let l = c.before.before.before.loop in
     let a = c.before.before.before.before.args in
-    searched-next l.invariant (omega arith) (truth-right a.state.now l.p c.if1.false)
+    searched_next l.invariant (omega arith) (truth_right a.state.now l.p c.if1.false)
 
 returns-2 : tie.Need-returns-2 invariant-loop decreases-loop
 unfolding check_of
 returns-2 c =
     let a = c.before.before.args in
-    truths-none a.props a.state.now none (searched-all c.before.loop.invariant (omega arith))
+    truths_none a.props a.state.now none (searched_all c.before.loop.invariant (omega arith))
 
 pub check-truths-spec : {M : Type 1} → statement M
 check-truths-spec =

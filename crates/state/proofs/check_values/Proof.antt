@@ -7,8 +7,8 @@ use mathlib.Core.Bool.{not}
 use Rattle.integer.specs.Linear.{back}
 use Rattle.model.specs.Limits.{paper}
 use Rattle.model.specs.StateTable.{value_in_range}
-use Rattle.model.specs.Theorems.Laws.Searching.{Searched, searched_start, searched-next, searched-found, searched-all}
-use Rattle.state.specs.Checking.{check_of, wrong_value, value-flag, values-found, values-none}
+use Rattle.model.specs.Theorems.Laws.Searching.{Searched, searched_start, searched_next, searched_found, searched_all}
+use Rattle.state.specs.Checking.{check_of, wrong_value, value_flag, values_found, values_none}
 use Rattle.state.specs.Loading.{value_read}
 use Rattle.state.proofs.check_values.Statement.{statement}
 use Rattle.state.proofs.check_values.Tie as tie
@@ -43,7 +43,7 @@ flag c =
     let l = c.before.before.before.loop in
     let a = c.before.before.before.before.before.args in
     let z = c.before.i32-at.result in
-    value-flag a.props a.state.now l.v c.in_range_lem.result
+    value_flag a.props a.state.now l.v c.in_range_lem.result
     ((rw (back z c.before.i32-at.type-inv) at c.in_range_lem.ensures)
     ∙ ap (value_in_range paper) (c.before.i32-at.ensures.0 ∙ value_read a.props a.state.now l.v))
 
@@ -55,20 +55,20 @@ loop-less c = omega arith
 
 loop-again : tie.Need-loop-preserved invariant-loop decreases-loop
 loop-again c =
-    searched-next c.before.before.before.before.loop.invariant (omega arith) (flag c.before ∙ ap not c.if1.true)
+    searched_next c.before.before.before.before.loop.invariant (omega arith) (flag c.before ∙ ap not c.if1.true)
 
 returns : tie.Need-returns invariant-loop decreases-loop
 unfolding check_of
 returns c =
     let a = c.before.before.before.before.before.before.args in
-    values-found a.props a.state.now a.vars
-    (searched-found c.before.before.before.before.loop.invariant (omega arith) (flag c.before ∙ ap not c.if1.false))
+    values_found a.props a.state.now a.vars
+    (searched_found c.before.before.before.before.loop.invariant (omega arith) (flag c.before ∙ ap not c.if1.false))
 
 returns-2 : tie.Need-returns-2 invariant-loop decreases-loop
 unfolding check_of
 returns-2 c =
     let a = c.before.before.before.args in
-    values-none a.props a.state.now a.vars (searched-all c.before.loop.invariant (omega arith))
+    values_none a.props a.state.now a.vars (searched_all c.before.loop.invariant (omega arith))
 
 pub check-values-spec : {M : Type 1} → statement M
 check-values-spec =

@@ -8,7 +8,7 @@ use lib.ListN.{length-set}
 use Rattle.integer.specs.Linear.{back}
 use Rattle.model.specs.NormalForm.{normal_state}
 use Rattle.model.specs.StateTable.{state_of}
-use Rattle.state.specs.Loading.{Written, written_start, written_length_lem, written-end, value_read, signed_step}
+use Rattle.state.specs.Loading.{Written, written_start, written_length_lem, written_end, value_read, signed_step}
 use Rattle.state.proofs.load_signed.Statement.{statement}
 use Rattle.state.proofs.load_signed.Tie as tie
 
@@ -79,7 +79,7 @@ same_length : tie.Need-same-length invariant-loop decreases-loop
 same_length c = written_length_lem c.before.before.before.requires.1 c.before.loop.invariant
 
 returns : tie.Need-returns invariant-loop decreases-loop
-returns c = written-end c.before.loop.invariant (omega arith)
+returns c = written_end c.before.loop.invariant (omega arith)
 
 pub load-signed-spec : {M : Type 1} → statement M
 load-signed-spec =

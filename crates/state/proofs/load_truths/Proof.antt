@@ -4,7 +4,7 @@ use Prim.Native.Nat.{◌-◌}
 use native.Mathlib.Omega.{arith}
 use mathlib.Core.Path.{refl}
 use Rattle.model.specs.StateTable.{state_of}
-use Rattle.state.specs.Loading.{Written, written_start, written_length_lem, written_step, written-end}
+use Rattle.state.specs.Loading.{Written, written_start, written_length_lem, written_step, written_end}
 use Rattle.state.proofs.load_truths.Statement.{statement}
 use Rattle.state.proofs.load_truths.Tie as tie
 
@@ -38,7 +38,7 @@ same_length : tie.Need-same-length invariant-loop decreases-loop
 same_length c = written_length_lem c.before.before.requires.1 c.before.loop.invariant
 
 returns : tie.Need-returns invariant-loop decreases-loop
-returns c = written-end c.before.loop.invariant (omega arith)
+returns c = written_end c.before.loop.invariant (omega arith)
 
 pub load-truths-spec : {M : Type 1} → statement M
 load-truths-spec =

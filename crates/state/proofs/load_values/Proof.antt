@@ -5,7 +5,7 @@ use native.Mathlib.Omega.{arith}
 use mathlib.Core.Path.{◌∙◌}
 use Rattle.integer.specs.Linear.{back}
 use Rattle.model.specs.StateTable.{state_value}
-use Rattle.state.specs.Loading.{Written, written_start, written_length_lem, written_step, written-end, value_read}
+use Rattle.state.specs.Loading.{Written, written_start, written_length_lem, written_step, written_end, value_read}
 use Rattle.state.proofs.load_values.Statement.{statement}
 use Rattle.state.proofs.load_values.Tie as tie
 
@@ -52,7 +52,7 @@ same_length : tie.Need-same-length invariant-loop decreases-loop
 same_length c = written_length_lem c.before.before.before.requires.1 c.before.loop.invariant
 
 returns : tie.Need-returns invariant-loop decreases-loop
-returns c = written-end c.before.loop.invariant (omega arith)
+returns c = written_end c.before.loop.invariant (omega arith)
 
 pub load-values-spec : {M : Type 1} → statement M
 load-values-spec =

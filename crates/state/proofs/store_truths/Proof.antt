@@ -5,7 +5,7 @@ use native.Mathlib.Omega.{arith}
 use mathlib.Core.Bool.{false}
 use lib.ListN.{get_or}
 use Rattle.model.specs.StateTable.{truth_byte}
-use Rattle.state.specs.Loading.{Written, written_start, written_length_lem, written_step, written-end}
+use Rattle.state.specs.Loading.{Written, written_start, written_length_lem, written_step, written_end}
 use Rattle.state.specs.Storing.{state_in, truth_bytes}
 use Rattle.state.proofs.store_truths.Statement.{statement}
 use Rattle.state.proofs.store_truths.Tie as tie
@@ -45,7 +45,7 @@ same_length c = written_length_lem c.before.before.before.before.requires.0 c.be
 
 returns : tie.Need-returns invariant-loop decreases-loop
 unfolding state_in truth_bytes
-returns c = written-end c.before.loop.invariant (omega arith)
+returns c = written_end c.before.loop.invariant (omega arith)
 
 pub store-truths-spec : {M : Type 1} → statement M
 store-truths-spec =

@@ -5,7 +5,7 @@ use native.Mathlib.Omega.{arith}
 use lib.IntN.{pos}
 use lib.ListN.{length, get_or}
 use Rattle.integer.specs.Linear.{back}
-use Rattle.state.specs.Storing.{state_in, ValuesStored, values-start, values_length, values-step, values-end}
+use Rattle.state.specs.Storing.{state_in, ValuesStored, values_start, values_length, values_step, values_end}
 use Rattle.state.proofs.store_values.Statement.{statement}
 use Rattle.state.proofs.store_values.Tie as tie
 
@@ -16,7 +16,7 @@ abbrev decreases-loop : tie.decreases-loop
 decreases-loop out₀ values props vars v₀ out v = vars - v
 
 loop-holds : tie.Need-loop-init invariant-loop decreases-loop
-loop-holds c = values-start _ _ _ _
+loop-holds c = values_start _ _ _ _
 
 mul-put-i32 : tie.Need-overflow-mul-put-i32 invariant-loop decreases-loop
 mul-put-i32 c = omega arith
@@ -48,7 +48,7 @@ loop-again : tie.Need-loop-preserved invariant-loop decreases-loop
 loop-again c =
     let s = c.before.before.before.before.before.before.before.before in
     let l = c.before.before.before.before.before.before.loop in
-    values-step _ _ _ _ s.requires.room l.invariant (omega arith)
+    values_step _ _ _ _ s.requires.room l.invariant (omega arith)
     (back (get_or s.args.values.now l.v (pos 0)) c.before.before.before.put-i32-arg2.given)
     c.before.before.put-i32.ensures
 
@@ -57,7 +57,7 @@ same_length c = values_length _ _ _ _ c.before.before.before.requires.room c.bef
 
 returns : tie.Need-returns invariant-loop decreases-loop
 unfolding state_in
-returns c = values-end _ _ _ _ c.before.loop.invariant (omega arith)
+returns c = values_end _ _ _ _ c.before.loop.invariant (omega arith)
 
 pub store-values-spec : {M : Type 1} → statement M
 store-values-spec =

@@ -6,7 +6,7 @@ use mathlib.Core.Path.{ap₂, ◌∙◌}
 use lib.IntN.{pos}
 use lib.ListN.{get_or}
 use Rattle.integer.specs.Linear.{back}
-use Rattle.stored_layer.specs.View.{low_by, low_at, Filled, filled_none, filled-step, filled-end}
+use Rattle.stored_layer.specs.View.{low_by, low_at, Filled, filled_none, filled_step, filled_end}
 use Rattle.stored_layer.proofs.low_row.Statement.{statement}
 use Rattle.stored_layer.proofs.low_row.Tie as tie
 
@@ -53,10 +53,10 @@ loop-again c =
     let l = c.before.before.before.before.loop in
     let x = get_or a.row.now l.v (pos 0) in
     let y = get_or a.start.now l.v (pos 0) in
-    (omega arith, filled-step (omega arith) l.invariant.1 (back c.low.result c.low.type-inv ∙ c.low.ensures ∙ ap₂ low_by (back x c.before.before.x.given) (back y c.before.y.given)))
+    (omega arith, filled_step (omega arith) l.invariant.1 (back c.low.result c.low.type-inv ∙ c.low.ensures ∙ ap₂ low_by (back x c.before.before.x.given) (back y c.before.y.given)))
 
 returns : tie.Need-returns invariant-loop decreases-loop
-returns c = filled-end c.before.loop.invariant.0 c.loop-test.false c.before.loop.invariant.1
+returns c = filled_end c.before.loop.invariant.0 c.loop-test.false c.before.loop.invariant.1
 
 pub low-row-spec : {M : Type 1} → statement M
 low-row-spec =

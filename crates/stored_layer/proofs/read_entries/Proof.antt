@@ -7,7 +7,7 @@ use mathlib.Core.Bool.{false}
 use lib.IntN.{ℤ, pos}
 use lib.ListN.{get_or}
 use Rattle.integer.specs.Linear.{back}
-use Rattle.stored_layer.specs.View.{held_by, held_at, Filled, filled_none, filled-step, filled-end}
+use Rattle.stored_layer.specs.View.{held_by, held_at, Filled, filled_none, filled_step, filled_end}
 use Rattle.stored_layer.proofs.read_entries.Statement.{statement}
 use Rattle.stored_layer.proofs.read_entries.Tie as tie
 
@@ -47,10 +47,10 @@ loop-again c =
     let a = c.before.before.before.before.args in
     let l = c.before.before.before.loop in
     let e = get_or a.layers.now (a.from + l.i) (pos 0) in
-    (omega arith, filled-step (omega arith) l.invariant.1 (c.held.ensures ∙ ap (λ (z : ℤ). held_by z a.t) (back e c.before.e.given)))
+    (omega arith, filled_step (omega arith) l.invariant.1 (c.held.ensures ∙ ap (λ (z : ℤ). held_by z a.t) (back e c.before.e.given)))
 
 returns : tie.Need-returns invariant-loop decreases-loop
-returns c = filled-end c.before.loop.invariant.0 c.loop-test.false c.before.loop.invariant.1
+returns c = filled_end c.before.loop.invariant.0 c.loop-test.false c.before.loop.invariant.1
 
 pub read-entries-spec : {M : Type 1} → statement M
 read-entries-spec =

@@ -4,7 +4,7 @@ use Prim.Native.Nat.{◌-◌, ◌≤◌}
 use native.Mathlib.Omega.{arith}
 use lib.IntN.{pos}
 use Rattle.integer.specs.Linear.{back}
-use Rattle.stored_layer.specs.View.{number_at, Filled, filled_none, filled-step, filled-end}
+use Rattle.stored_layer.specs.View.{number_at, Filled, filled_none, filled_step, filled_end}
 use Rattle.stored_layer.proofs.read_row.Statement.{statement}
 use Rattle.stored_layer.proofs.read_row.Tie as tie
 
@@ -42,10 +42,10 @@ loop-again : tie.Need-loop-preserved invariant-loop decreases-loop
 unfolding number_at
 loop-again c =
     let l = c.before.before.loop in
-    (omega arith, filled-step (omega arith) l.invariant.1 (back _ c.x.given))
+    (omega arith, filled_step (omega arith) l.invariant.1 (back _ c.x.given))
 
 returns : tie.Need-returns invariant-loop decreases-loop
-returns c = filled-end c.before.loop.invariant.0 c.loop-test.false c.before.loop.invariant.1
+returns c = filled_end c.before.loop.invariant.0 c.loop-test.false c.before.loop.invariant.1
 
 pub read-row-spec : {M : Type 1} → statement M
 read-row-spec =

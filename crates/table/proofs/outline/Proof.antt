@@ -11,7 +11,7 @@ use Rattle.model.specs.Reading.{length_limit}
 use Rattle.cursor.specs.declared.Check.TheVariants.{Passes}
 use Rattle.command.specs.Names.{command_is, wanted_of}
 use Rattle.cursor.specs.State.{passed, check_of, cursor_refusal}
-use Rattle.table.specs.Answer.{Reach, reach_begin, reach-next, reach-refused, reach_finish, outlined_long}
+use Rattle.table.specs.Answer.{Reach, reach_begin, reach_next, reach_refused, reach_finish, outlined_long}
 use Rattle.table.proofs.outline.Statement.{statement}
 use Rattle.table.proofs.outline.Tie as tie
 
@@ -83,7 +83,7 @@ enum-known-reason : tie.Need-enum-known-reason invariant-loop decreases-loop
 enum-known-reason c = search rules
 
 returns-3 : tie.Need-returns-3 invariant-loop decreases-loop
-returns-3 c = reach-refused c.before.before.before.before.before.before.before.before.before.before.loop.invariant _ _ c.before.before.before.before.before.before.before.before.before.if2.false (command c.before.before.before.before.before.before.before) (sym c.before.reason.given.1 ∙ c.before.before.before.checked.ensures)
+returns-3 c = reach_refused c.before.before.before.before.before.before.before.before.before.before.loop.invariant _ _ c.before.before.before.before.before.before.before.before.before.if2.false (command c.before.before.before.before.before.before.before) (sym c.before.reason.given.1 ∙ c.before.before.before.checked.ensures)
 
 enum_told : tie.Need-enum-told invariant-loop decreases-loop
 enum_told c = search rules
@@ -95,7 +95,7 @@ loop-less : tie.Need-loop-smaller invariant-loop decreases-loop
 loop-less c = omega (arith, c.advance.ensures.moved, c.before.before.before.before.before.before.before.before.before.before.before.before.before.before.if2.false)
 
 loop-again : tie.Need-loop-preserved invariant-loop decreases-loop
-loop-again c = reach-next c.before.before.before.before.before.before.before.before.before.before.before.before.before.before.before.loop.invariant _ c.before.before.before.before.before.before.before.before.before.before.before.before.before.before.if2.false (command c.before.before.before.before.before.before.before.before.before.before.before.before) (passes c.before.before.before.before.before.before) c.advance.ensures
+loop-again c = reach_next c.before.before.before.before.before.before.before.before.before.before.before.before.before.before.before.loop.invariant _ c.before.before.before.before.before.before.before.before.before.before.before.before.before.before.if2.false (command c.before.before.before.before.before.before.before.before.before.before.before.before) (passes c.before.before.before.before.before.before) c.advance.ensures
 
 pub outline-spec : {M : Type 1} → statement M
 outline-spec =

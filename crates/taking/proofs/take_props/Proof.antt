@@ -6,8 +6,8 @@ use mathlib.Core.Path.{subst}
 use borrow.Author.Rules.{rules}
 use borrow.Author.Tests.{not-true, not-false}
 use Rattle.achievers.specs.Search.{IsAdder, AdderIs, part_in}
-use Rattle.taking.specs.Taking.{move-wantable, move-small, no-adder, adder-taken}
-use Rattle.taking.specs.Descending.{PropsTakeable, PropsTaken, props-start, props-end, prop-room, prop-unwanted, prop-had, prop-take, takeable}
+use Rattle.taking.specs.Taking.{move_wantable, move_small, no_adder, adder_taken}
+use Rattle.taking.specs.Descending.{PropsTakeable, PropsTaken, props_start, props_end, prop_room, prop_unwanted, prop_had, prop_take, takeable}
 use Rattle.taking.proofs.take_props.Statement.{statement}
 use Rattle.taking.proofs.take_props.Tie as tie
 
@@ -21,13 +21,13 @@ no-counts-requires : tie.Need-no-counts-requires invariant-loop decreases-loop
 no-counts-requires c κs = tt
 
 loop-holds : tie.Need-loop-init invariant-loop decreases-loop
-loop-holds c = (omega arith, λ x. props-start x c.no-counts.ensures)
+loop-holds c = (omega arith, λ x. props_start x c.no-counts.ensures)
 
 add_done : tie.Need-overflow-add-done invariant-loop decreases-loop
 add_done c = omega arith
 
 element-copy-out-if1 : tie.Need-element-copy-out-if1 invariant-loop decreases-loop
-element-copy-out-if1 c = prop-room c.before.before.before.before.before.before.before.requires c.loop-test.true
+element-copy-out-if1 c = prop_room c.before.before.before.before.before.before.before.requires c.loop-test.true
 
 loop-less : tie.Need-loop-smaller invariant-loop decreases-loop
 loop-less c = omega arith
@@ -35,7 +35,7 @@ loop-less c = omega arith
 loop-again : tie.Need-loop-preserved invariant-loop decreases-loop
 loop-again c =
     let i = c.before.before in
-    (omega arith, λ x. prop-unwanted x i.loop-test.true (i.before.loop.invariant.1 x) (not-true _ c.if1.true))
+    (omega arith, λ x. prop_unwanted x i.loop-test.true (i.before.loop.invariant.1 x) (not-true _ c.if1.true))
 
 shared-slice-read-if2 : tie.Need-shared-slice-read-if2 invariant-loop decreases-loop
 shared-slice-read-if2 c = omega (arith, c.before.before.before.before.before.before.before.before.before.before.requires.long)
@@ -46,7 +46,7 @@ loop-less-2 c = omega arith
 loop-again-2 : tie.Need-loop-preserved-2 invariant-loop decreases-loop
 loop-again-2 c =
     let i = c.before.before.before.before in
-    (omega arith, λ x. prop-had x i.loop-test.true (i.before.loop.invariant.1 x) (not-false _ c.before.before.if1.false) c.if2.true)
+    (omega arith, λ x. prop_had x i.loop-test.true (i.before.loop.invariant.1 x) (not-false _ c.before.before.if1.false) c.if2.true)
 
 -- the turn of the loop in which a move is searched
 abbrev turn : tie.After-find-adder invariant-loop decreases-loop → tie.In-loop invariant-loop decreases-loop
@@ -72,8 +72,8 @@ loop-again-3 c =
       λ x.
           let d = i.before.loop.inv.1 x in
           let k = x.scene.search in
-          prop-take x i.loop-test.taken d (not-false _ f.before.before.before.if1.false) f.before.if2.false
-          (no-adder (takeable x.scene d.is) (subst (IsAdder k.task k.over _ _) c.enum_told.given.1 (f.find-adder.ensures k))),
+          prop_take x i.loop-test.taken d (not-false _ f.before.before.before.if1.false) f.before.if2.false
+          (no_adder (takeable x.scene d.is) (subst (IsAdder k.task k.over _ _) c.enum_told.given.1 (f.find-adder.ensures k))),
     )
 
 -- the move that was found, in every reading
@@ -90,7 +90,7 @@ recount-requires c κs =
     let m = c.before.before in
     let i = turn m.before.before in
     let x = i.before.before.before.before.before.before.before.pre in
-    move-small (takeable x.scene (i.before.loop.inv.1 x).is) (found m x).lt
+    move_small (takeable x.scene (i.before.loop.inv.1 x).is) (found m x).lt
 
 part-requires : tie.Need-part-requires invariant-loop decreases-loop
 part-requires c κs =
@@ -103,7 +103,7 @@ want-block-requires c κs =
     let m = c.before.before.before.before in
     let i = turn m.before.before in
     let x = i.before.before.before.before.before.before.before.pre in
-    move-wantable (takeable x.scene (i.before.loop.inv.1 x).is) (found m x).lt c.part.ensures.0
+    move_wantable (takeable x.scene (i.before.loop.inv.1 x).is) (found m x).lt c.part.ensures.0
 
 loop-less-4 : tie.Need-loop-smaller-4 invariant-loop decreases-loop
 loop-less-4 c = omega arith
@@ -119,12 +119,12 @@ loop-again-4 c =
           let d = i.before.loop.inv.1 x in
           let y = takeable x.scene d.is in
           let h = found m x in
-          prop-take x i.loop-test.taken d (not-false _ f.before.before.before.if1.false) f.before.if2.false
-          (adder-taken y h p.part.ensures.0 (c.want-block.ensures (move-wantable y h.lt p.part.ensures.0)) p.before.recount.ensures),
+          prop_take x i.loop-test.taken d (not-false _ f.before.before.before.if1.false) f.before.if2.false
+          (adder_taken y h p.part.ensures.0 (c.want-block.ensures (move_wantable y h.lt p.part.ensures.0)) p.before.recount.ensures),
     )
 
 returns : tie.Need-returns invariant-loop decreases-loop
-returns c x = props-end x c.before.loop.invariant.0 c.loop-test.false (c.before.loop.invariant.1 x)
+returns c x = props_end x c.before.loop.invariant.0 c.loop-test.false (c.before.loop.invariant.1 x)
 
 pub take-props-spec : {M : Type 1} → statement M
 take-props-spec =

@@ -10,9 +10,9 @@ use Rattle.integer.specs.Linear.{back, back_small}
 use Rattle.model.specs.Layer.{reaches}
 use Rattle.block.specs.Blocks.{effect_base}
 use Rattle.achievers.specs.Search.{IsAchiever, AchieverIs, part_in, demand_by, demand_size}
-use Rattle.taking.specs.Taking.{Takeable, encoded_mag, move-wantable, move-small, no-achiever, effect-wantable, effect-above, achiever-taken}
+use Rattle.taking.specs.Taking.{Takeable, encoded_mag, move_wantable, move_small, no_achiever, effect_wantable, effect_above, achiever_taken}
 use Rattle.targets.specs.Encoding.{is_free}
-use Rattle.taking.specs.Descending.{ValuesTakeable, ValuesTaken, values-start, values-end, value_room, row_room, start-room, target-size, value-is, old-is, old-size, value-free, value-had, value-take, takeable}
+use Rattle.taking.specs.Descending.{ValuesTakeable, ValuesTaken, values_start, values_end, value_room, row_room, start_room, target_size, value_is, old_is, old_size, value_free, value_had, value_take, takeable}
 use borrow.Author.Rules.{rules}
 use Rattle.taking.proofs.take_values.Statement.{statement}
 use Rattle.taking.proofs.take_values.Tie as tie
@@ -24,7 +24,7 @@ abbrev decreases-loop : tie.decreases-loop
 decreases-loop wants₀ targets table marks used row lows start moves vars counts₀ done₀ wants counts done = vars - done
 
 loop-holds : tie.Need-loop-init invariant-loop decreases-loop
-loop-holds c = (omega arith, λ x. values-start x)
+loop-holds c = (omega arith, λ x. values_start x)
 
 add_done : tie.Need-overflow-add-done invariant-loop decreases-loop
 add_done c = omega arith
@@ -53,12 +53,12 @@ reached :
     → reaches (x.scene.search.over.val i.before.loop.done) (get_or a.wanted.now i.before.loop.done (pos 0)) ≡ c.reaches.result
 reached c x =
     let i = c.before.before.before.before.before in
-    value-is x i.loop-test.true _ (λ w e. c.reaches.ensures w (back _ c.before.x.given ∙ e) ∙ ap (reaches w) (back _ c.before.before.before.before.target.given))
+    value_is x i.loop-test.true _ (λ w e. c.reaches.ensures w (back _ c.before.x.given ∙ e) ∙ ap (reaches w) (back _ c.before.before.before.before.target.given))
 
 loop-again : tie.Need-loop-preserved invariant-loop decreases-loop
 loop-again c =
     let i = c.before.before.before in
-    (omega arith, λ x. value-free x i.loop-test.true (i.before.loop.invariant.1 x) (sym (freed c.before) ∙ c.if1.true))
+    (omega arith, λ x. value_free x i.loop-test.true (i.before.loop.invariant.1 x) (sym (freed c.before) ∙ c.if1.true))
 
 mul-x : tie.Need-overflow-mul-x invariant-loop decreases-loop
 mul-x c = let i = c.before.before.before in omega (arith, row_room i.before.before.before.before.before.requires i.loop-test.true)
@@ -75,13 +75,13 @@ loop-less-2 c = omega arith
 loop-again-2 : tie.Need-loop-preserved-2 invariant-loop decreases-loop
 loop-again-2 c =
     let i = c.before.before.before.before.before.before in
-    (omega arith, λ x. value-had x i.loop-test.true (i.before.loop.invariant.1 x) (sym (freed c.before.before.before.before) ∙ c.before.before.before.if1.false) (reached c.before x ∙ c.if2.true))
+    (omega arith, λ x. value_had x i.loop-test.true (i.before.loop.invariant.1 x) (sym (freed c.before.before.before.before) ∙ c.before.before.before.if1.false) (reached c.before x ∙ c.if2.true))
 
 mul-old : tie.Need-overflow-mul-old invariant-loop decreases-loop
-mul-old c = let i = c.before.before.before.before.before.before in omega (arith, start-room i.before.before.before.before.before.requires i.loop-test.true)
+mul-old c = let i = c.before.before.before.before.before.before in omega (arith, start_room i.before.before.before.before.before.requires i.loop-test.true)
 
 shared-slice-copy-out-old : tie.Need-shared-slice-copy-out-old invariant-loop decreases-loop
-shared-slice-copy-out-old c = let i = c.before.before.before.before.before.before in start-room i.before.before.before.before.before.requires i.loop-test.true
+shared-slice-copy-out-old c = let i = c.before.before.before.before.before.before in start_room i.before.before.before.before.before.requires i.loop-test.true
 
 -- the turn of the loop in which a move is searched, and its target
 abbrev turn : tie.After-find-achiever invariant-loop decreases-loop → tie.In-loop invariant-loop decreases-loop
@@ -133,7 +133,7 @@ loop-again-3 c =
           let k = x.scene.search in
           let none = rw (back (wanted f) f.before.before.before.before.before.before.before.target.given) at
           (subst (IsAchiever _ _ k.task k.over _ _ _) c.enum_told.given.1 (f.find-achiever.ensures (record { search = k; values = x.scene.values }))) in
-          value-take x i.loop-test.taken (i.before.loop.inv.1 x) (aimed f) (missed f x) (no-achiever (so_far f x) none),
+          value_take x i.loop-test.taken (i.before.loop.inv.1 x) (aimed f) (missed f x) (no_achiever (so_far f x) none),
     )
 
 -- the effect that was found, in every reading
@@ -163,13 +163,13 @@ runs-requires c κs =
     let h = found m x in
     let value = m.index.given.0.1.1.1.1.1.0 in
     rw (back (wanted f) f.before.before.before.before.before.before.before.target.given, back _ f.before.old.given, back value (encoded_mag h.encoded))
-    (omega (arith, target-size x i.loop-test.taken (aimed f)), old-size x i.loop-test.taken, effect-above (so_far f x) h refl)
+    (omega (arith, target_size x i.loop-test.taken (aimed f)), old_size x i.loop-test.taken, effect_above (so_far f x) h refl)
 
 recount-requires : tie.Need-recount-requires invariant-loop decreases-loop
 recount-requires c κs =
     let m = c.before.before.before in
     let f = m.before.before in
-    move-small (so_far f (given f)) (found m (given f)).lt
+    move_small (so_far f (given f)) (found m (given f)).lt
 
 part-requires : tie.Need-part-requires invariant-loop decreases-loop
 part-requires c κs =
@@ -210,13 +210,13 @@ sub-requires c κs =
     let h = found m (given f) in
     let base = m.index.given.0.1.1.0 in
     rw (back c.demand.result c.demand.type-inv, back_small base (omega (arith, effect_base h.effect)))
-    (omega (arith, ap nat_abs (told c), effect_base h.effect, demand_size m.index.given.0.1.0 (wanted f), target-size (given f) (turn f).loop-test.taken (aimed f)))
+    (omega (arith, ap nat_abs (told c), effect_base h.effect, demand_size m.index.given.0.1.0 (wanted f), target_size (given f) (turn f).loop-test.taken (aimed f)))
 
 want-block-requires : tie.Need-want-block-requires invariant-loop decreases-loop
 want-block-requires c κs =
     let m = effect c.before in
     let f = m.before.before in
-    move-wantable (so_far f (given f)) (found m (given f)).lt c.before.before.part.ensures.0
+    move_wantable (so_far f (given f)) (found m (given f)).lt c.before.before.part.ensures.0
 
 want-sum-requires : tie.Need-want-sum-requires invariant-loop decreases-loop
 want-sum-requires c κs =
@@ -226,7 +226,7 @@ want-sum-requires c κs =
     let x = so_far f (given f) in
     let h = found m (given f) in
     let e = u.before.before.part.ensures.0 in
-    (effect-wantable x h e (c.want-block.ensures (move-wantable x h.lt e)), rw (back u.sub.result u.sub.type-inv) (omega (arith, (needed u).1, target-size (given f) (turn f).loop-test.taken (aimed f))))
+    (effect_wantable x h e (c.want-block.ensures (move_wantable x h.lt e)), rw (back u.sub.result u.sub.type-inv) (omega (arith, (needed u).1, target_size (given f) (turn f).loop-test.taken (aimed f))))
 
 loop-less-4 : tie.Need-loop-smaller-4 invariant-loop decreases-loop
 loop-less-4 c = omega (arith, (turn (effect c.before.before.before).before.before).loop-test.taken)
@@ -247,16 +247,16 @@ loop-again-4 c =
           let y = so_far f x in
           let h = found m x in
           let e = p.part.ensures.0 in
-          let block = w.want-block.ensures (move-wantable y h.lt e) in
-          value-take x i.loop-test.taken (i.before.loop.inv.1 x) (aimed f) (missed f x)
-          (achiever-taken y h e block (old-is x i.loop-test.taken) (needed u).0
-          (rw (back u.sub.result u.sub.type-inv) at (c.want-sum.ensures (effect-wantable y h e block)))
+          let block = w.want-block.ensures (move_wantable y h.lt e) in
+          value_take x i.loop-test.taken (i.before.loop.inv.1 x) (aimed f) (missed f x)
+          (achiever_taken y h e block (old_is x i.loop-test.taken) (needed u).0
+          (rw (back u.sub.result u.sub.type-inv) at (c.want-sum.ensures (effect_wantable y h e block)))
           (rw (back (wanted f) f.before.before.before.before.before.before.before.target.given, back old f.before.old.given, back value (encoded_mag h.encoded)) at k.runs.ensures)
           p.before.recount.ensures),
     )
 
 returns : tie.Need-returns invariant-loop decreases-loop
-returns c x = values-end x c.before.loop.invariant.0 c.loop-test.false (c.before.loop.invariant.1 x)
+returns c x = values_end x c.before.loop.invariant.0 c.loop-test.false (c.before.loop.invariant.1 x)
 
 pub take-values-spec : {M : Type 1} → statement M
 take-values-spec =

@@ -2,7 +2,7 @@
 use Prim.Native.Nat.{◌-◌, ◌≤◌}
 use native.Mathlib.Omega.{arith}
 use mathlib.Core.Bool.{false}
-use Rattle.targets.specs.Carrying.{Mapped, mapped-none, mapped-step, mapped_end, held_in}
+use Rattle.targets.specs.Carrying.{Mapped, mapped_none, mapped_step, mapped_end, held_in}
 use Rattle.targets.proofs.keep_props.Statement.{statement}
 use Rattle.targets.proofs.keep_props.Tie as tie
 
@@ -13,7 +13,7 @@ abbrev decreases-loop : tie.decreases-loop
 decreases-loop wanted₀ has props p₀ wanted p = props - p
 
 loop-holds : tie.Need-loop-init invariant-loop decreases-loop
-loop-holds c = (omega arith, mapped-none)
+loop-holds c = (omega arith, mapped_none)
 
 element-copy-out-old : tie.Need-element-copy-out-old invariant-loop decreases-loop
 element-copy-out-old c = omega arith
@@ -35,7 +35,7 @@ loop-less c = omega arith
 
 loop-again : tie.Need-loop-preserved invariant-loop decreases-loop
 unfolding held_in
-loop-again c = (omega arith, mapped-step (omega arith) c.before.before.before.before.loop.invariant.1 c.both.ensures)
+loop-again c = (omega arith, mapped_step (omega arith) c.before.before.before.before.loop.invariant.1 c.both.ensures)
 
 returns : tie.Need-returns invariant-loop decreases-loop
 returns c = mapped_end (omega arith) (omega arith) c.before.loop.invariant.1

@@ -8,7 +8,7 @@ use lib.ListN.{get_or}
 use Rattle.integer.specs.Linear.{back}
 use Rattle.model.specs.Layer.{Value}
 use Rattle.block.specs.Sums.{LayerRow}
-use Rattle.targets.specs.Carrying.{Mapped, mapped-none, mapped-step, mapped_end, kept_by, kept_at}
+use Rattle.targets.specs.Carrying.{Mapped, mapped_none, mapped_step, mapped_end, kept_by, kept_at}
 use Rattle.targets.proofs.keep_targets.Statement.{statement}
 use Rattle.targets.proofs.keep_targets.Tie as tie
 
@@ -19,7 +19,7 @@ abbrev decreases-loop : tie.decreases-loop
 decreases-loop target₀ row vars v₀ target v = vars - v
 
 loop-holds : tie.Need-loop-init invariant-loop decreases-loop
-loop-holds c = (omega arith, λ f r. mapped-none)
+loop-holds c = (omega arith, λ f r. mapped_none)
 
 mul-old : tie.Need-overflow-mul-old invariant-loop decreases-loop
 mul-old c = omega arith
@@ -57,7 +57,7 @@ loop-again c =
     let y = get_or i.before.before.args.row.now v (pos 0) in (
       omega arith,
       λ f r.
-          mapped-step (omega arith) (i.before.loop.invariant.1 f r)
+          mapped_step (omega arith) (i.before.loop.invariant.1 f r)
           (back c.kept_target.result c.kept_target.type-inv
           ∙ c.kept_target.ensures (f v) (back y c.before.value.given ∙ (r.each v i.loop-test.true).is)
           ∙ ap (kept_by (f v)) (back z c.before.before.old.given)),

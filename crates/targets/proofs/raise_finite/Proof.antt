@@ -9,7 +9,7 @@ use lib.IntN.{pos}
 use lib.ListN.{get_or}
 use Rattle.integer.specs.Linear.{back}
 use Rattle.block.specs.Sums.{is_mark, few_terms}
-use Rattle.targets.specs.Wanting.{Finitely, FinitelyDone, finitely-start, finitely-end, finitely-term, finitely-read, finitely-skip, finitely-raise}
+use Rattle.targets.specs.Wanting.{Finitely, FinitelyDone, finitely_start, finitely_end, finitely_term, finitely_read, finitely_skip, finitely_raise}
 use Rattle.targets.specs.Encoding.{holding, raised_at_lem}
 use Rattle.targets.proofs.raise_finite.Statement.{statement}
 use Rattle.targets.proofs.raise_finite.Tie as tie
@@ -26,7 +26,7 @@ own : (c : tie.At-loop invariant-loop decreases-loop) → FinitelyDone c.before.
 own c = c.loop.invariant.2 _ c.before.before.requires.it
 
 loop-holds : tie.Need-loop-init invariant-loop decreases-loop
-loop-holds c = (omega arith, few_terms c.before.requires.it.terms, λ ps x. finitely-start x)
+loop-holds c = (omega arith, few_terms c.before.requires.it.terms, λ ps x. finitely_start x)
 
 mul-variable : tie.Need-overflow-mul-variable invariant-loop decreases-loop
 mul-variable c = omega arith
@@ -35,10 +35,10 @@ add-variable : tie.Need-overflow-add-variable invariant-loop decreases-loop
 add-variable c = omega (arith, (own c.before).terms.bytes.within)
 
 variable-requires : tie.Need-variable-requires invariant-loop decreases-loop
-variable-requires c κs = finitely-term _ (own c.before) c.loop-test.true
+variable-requires c κs = finitely_term _ (own c.before) c.loop-test.true
 
 shared-slice-copy-out-x : tie.Need-shared-slice-copy-out-x invariant-loop decreases-loop
-shared-slice-copy-out-x c = (finitely-read _ (own c.before.before) c.before.loop-test.true c.variable.ensures).room
+shared-slice-copy-out-x c = (finitely_read _ (own c.before.before) c.before.loop-test.true c.variable.ensures).room
 
 mul-x : tie.Need-overflow-mul-x invariant-loop decreases-loop
 mul-x c = omega (arith, shared-slice-copy-out-x c)
@@ -49,7 +49,7 @@ is-unbounded-requires c κs = tt
 raise-target-requires : tie.Need-raise-target-requires invariant-loop decreases-loop
 raise-target-requires c κs =
     let i = c.before.before.before.before.before in
-    omega (arith, (finitely-read _ (own i.before) i.loop-test.true c.before.before.before.before.variable.ensures).small, (own i.before).encoded.few_vars)
+    omega (arith, (finitely_read _ (own i.before) i.loop-test.true c.before.before.before.before.variable.ensures).small, (own i.before).encoded.few_vars)
 
 add-i : tie.Need-overflow-add-i invariant-loop decreases-loop
 add-i c = omega arith
@@ -69,7 +69,7 @@ loop-again c =
     let i = c.before.before.before.before in (
       omega arith,
       omega arith,
-      λ ps x. finitely-skip x (i.before.loop.invariant.2 ps x) i.loop-test.true c.before.before.before.variable.ensures (sym (mark c.before) ∙ c.if1.true),
+      λ ps x. finitely_skip x (i.before.loop.invariant.2 ps x) i.loop-test.true c.before.before.before.variable.ensures (sym (mark c.before) ∙ c.if1.true),
     )
 
 loop-again-2 : tie.Need-loop-preserved-2 invariant-loop decreases-loop
@@ -79,12 +79,12 @@ loop-again-2 c =
       omega arith,
       omega arith,
       λ ps x.
-          finitely-raise x (i.before.loop.invariant.2 ps x) i.loop-test.true u.before.before.variable.ensures (sym (mark u) ∙ c.before.before.if1.false)
+          finitely_raise x (i.before.loop.invariant.2 ps x) i.loop-test.true u.before.before.variable.ensures (sym (mark u) ∙ c.before.before.if1.false)
           (raised_at_lem (rw (back _ u.before.x.given) at c.raise-target.ensures)),
     )
 
 returns : tie.Need-returns invariant-loop decreases-loop
-returns c ps x = finitely-end x (c.before.loop.invariant.2 ps x) c.loop-test.false
+returns c ps x = finitely_end x (c.before.loop.invariant.2 ps x) c.loop-test.false
 
 pub raise-finite-spec : {M : Type 1} → statement M
 raise-finite-spec =

@@ -11,7 +11,7 @@ use mir.Syntax.{w64}
 use mir.Val.{to_z, of_z}
 use Rattle.integer.specs.Linear.{back}
 use Rattle.block.specs.Sums.{is_mark, few_terms}
-use Rattle.targets.specs.Wanting.{sum_limit, Wantable, WantedDone, wanted-start, wanted-end, wanted-term, wanted-rest, wanted-by-rest, wanted_read, wanted-next, read_small}
+use Rattle.targets.specs.Wanting.{sum_limit, Wantable, WantedDone, wanted_start, wanted_end, wanted_term, wanted_rest, wanted_by_rest, wanted_read, wanted_next, read_small}
 use Rattle.targets.specs.Encoding.{holding, raised_at_lem}
 use Rattle.targets.proofs.raise_sum.Statement.{statement}
 use Rattle.targets.proofs.raise_sum.Tie as tie
@@ -29,7 +29,7 @@ decreases-loop target₀ part from n c row lows left₀ i₀ target left i = n -
 loop-holds : tie.Need-loop-init invariant-loop decreases-loop
 loop-holds c =
     let a = c.before in
-    (omega arith, few_terms a.requires.0.it.terms, rw (back a.args.c a.ranges.c.sfits) (omega (arith, a.requires.1)), λ ps x. wanted-start x _)
+    (omega arith, few_terms a.requires.0.it.terms, rw (back a.args.c a.ranges.c.sfits) (omega (arith, a.requires.1)), λ ps x. wanted_start x _)
 
 mul_at : tie.Need-overflow-mul-at invariant-loop decreases-loop
 mul_at c = omega arith
@@ -42,7 +42,7 @@ add_at : tie.Need-overflow-add-at invariant-loop decreases-loop
 add_at c = omega (arith, (own c.before).terms.bytes.within)
 
 variable-requires : tie.Need-variable-requires invariant-loop decreases-loop
-variable-requires c κs = wanted-term _ _ (own c.before) c.loop-test.true
+variable-requires c κs = wanted_term _ _ (own c.before) c.loop-test.true
 
 shared-slice-copy-out-x : tie.Need-shared-slice-copy-out-x invariant-loop decreases-loop
 shared-slice-copy-out-x c = (wanted_read _ _ (own c.before.before) c.before.loop-test.true c.variable.ensures).room
@@ -65,7 +65,7 @@ raise-unbounded-requires c κs =
     let u = c.before.before in
     let i = u.before.before.before in
     record {
-      wantable = record { props = i.before.before.before.requires.0.props; it = wanted-rest _ _ (own i.before) };
+      wantable = record { props = i.before.before.before.requires.0.props; it = wanted_rest _ _ (own i.before) };
       some = omega arith;
       variable = u.before.before.variable.ensures;
       mark = sym (mark u) ∙ c.before.if1.true;
@@ -78,13 +78,13 @@ returns c ps x =
     let a = i.before.before.before in
     let d = i.before.loop.invariant.3 ps x in
     rw (back a.args.c a.ranges.c.sfits) at
-    (wanted-by-rest x _ d (c.raise-unbounded.ensures ps (wanted-rest x _ d)))
+    (wanted_by_rest x _ d (c.raise-unbounded.ensures ps (wanted_rest x _ d)))
 
 scaled-requires : tie.Need-scaled-requires invariant-loop decreases-loop
 scaled-requires c κs =
     let i = c.before.before.before.before in
     rw (back _ c.before.before.x.given) (
-      wanted-term _ _ (own i.before) i.loop-test.true,
+      wanted_term _ _ (own i.before) i.loop-test.true,
       read_small (wanted_read _ _ (own i.before) i.loop-test.true c.before.before.before.variable.ensures) (sym (mark c.before) ∙ c.if1.false),
     )
 
@@ -117,13 +117,13 @@ loop-again c =
       rw (back m.sub.result m.sub.type-inv) (omega (arith, told.1, s.scaled.ensures.small)),
       λ ps x.
           rw (back m.sub.result m.sub.type-inv, told.0)
-          (wanted-next x _ (i.before.loop.invariant.3 ps x) i.loop-test.true u.before.before.variable.ensures (sym (mark u) ∙ s.before.if1.false) (raised_at_lem raised) product),
+          (wanted_next x _ (i.before.loop.invariant.3 ps x) i.loop-test.true u.before.before.variable.ensures (sym (mark u) ∙ s.before.if1.false) (raised_at_lem raised) product),
     )
 
 returns-2 : tie.Need-returns-2 invariant-loop decreases-loop
 returns-2 c ps x =
     let a = c.before.before.before in
-    rw (back a.args.c a.ranges.c.sfits) at (wanted-end x _ (c.before.loop.invariant.3 ps x) c.loop-test.false)
+    rw (back a.args.c a.ranges.c.sfits) at (wanted_end x _ (c.before.loop.invariant.3 ps x) c.loop-test.false)
 
 pub raise-sum-spec : {M : Type 1} → statement M
 raise-sum-spec =

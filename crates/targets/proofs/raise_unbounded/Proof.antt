@@ -6,7 +6,7 @@ use borrow.Author.Rules.{rules}
 use lib.IntN.{ℤ, nat_abs, ◌-ℤ◌}
 use Rattle.integer.specs.Linear.{back}
 use Rattle.integer.specs.Ceiling.{ceiling}
-use Rattle.targets.specs.Wanting.{open-read, open-term, open-finitely, open-summable, open-wanted}
+use Rattle.targets.specs.Wanting.{open_read, open_term, open_finitely, open_summable, open_wanted}
 use Rattle.targets.specs.Encoding.{raised_at_lem}
 use Rattle.targets.proofs.raise_unbounded.Statement.{statement}
 use Rattle.targets.proofs.raise_unbounded.Tie as tie
@@ -20,7 +20,7 @@ sub-raise-finite c = search rules
 raise-finite-requires : tie.Need-raise-finite-requires
 raise-finite-requires c κs =
     let p = c.before.before.requires in
-    record { props = p.wantable.props; it = open-finitely p.wantable.it p.some p.variable p.mark }
+    record { props = p.wantable.props; it = open_finitely p.wantable.it p.some p.variable p.mark }
 
 add-sum-real : tie.Need-overflow-add-sum-real
 add-sum-real c = search rules
@@ -29,7 +29,7 @@ sub-sum-real : tie.Need-overflow-sub-sum-real
 sub-sum-real c = search rules
 
 sum-real-requires : tie.Need-sum-real-requires
-sum-real-requires c κs = let p = c.before.before.before.requires in open-summable p.wantable.it p.some p.variable p.mark
+sum-real-requires c κs = let p = c.before.before.before.requires in open_summable p.wantable.it p.some p.variable p.mark
 
 sub-requires : tie.Need-sub-requires
 sub-requires c κs =
@@ -45,7 +45,7 @@ left c =
 
 divisor-requires : tie.Need-divisor-requires
 divisor-requires c κs =
-    let p = c.before.before.before.before.before.before.requires in open-term p.wantable.it p.some p.variable p.mark
+    let p = c.before.before.before.before.before.before.requires in open_term p.wantable.it p.some p.variable p.mark
 
 ceil-div-requires : tie.Need-ceil-div-requires
 ceil-div-requires c κs =
@@ -56,7 +56,7 @@ ceil-div-requires c κs =
 raise-target-requires : tie.Need-raise-target-requires
 raise-target-requires c κs =
     let p = c.before.before.before.before.before.before.before.before.requires in
-    omega (arith, (open-read p.wantable.it p.some p.variable p.mark).small, p.wantable.it.encoded.few_vars)
+    omega (arith, (open_read p.wantable.it p.some p.variable p.mark).small, p.wantable.it.encoded.few_vars)
 
 returns : tie.Need-returns
 returns c ps x =
@@ -65,8 +65,8 @@ returns c ps x =
     let f = u.before.before in
     let p = f.before.before.before.requires in
     let quotient = rw (back u.sub.result u.sub.type-inv) at q.ceil-div.ensures.0 in
-    open-wanted x p.some p.variable p.mark
-    (f.raise-finite.ensures ps (open-finitely x p.some p.variable p.mark))
+    open_wanted x p.some p.variable p.mark
+    (f.raise-finite.ensures ps (open_finitely x p.some p.variable p.mark))
     u.before.sum-real.ensures q.before.divisor.ensures
     (quotient ∙ ap (λ (z : ℤ). ceiling z q.before.divisor.result) (left u).0)
     q.ceil-div.type-inv

@@ -3,7 +3,7 @@ use borrow.Author.Rules.{rules}
 use Rattle.state.specs.Checking.{check_accepted, check_refused}
 use Rattle.output.specs.Answers.{answered_refused}
 use Rattle.transition.specs.Turns.{few_props, few_vars}
-use Rattle.transition.specs.Steps.{step-state-refused}
+use Rattle.transition.specs.Steps.{step_state_refused}
 use Rattle.transition.proofs.checked.Statement.{statement}
 use Rattle.transition.proofs.checked.Tie as tie
 
@@ -33,7 +33,7 @@ returns-2 c =
     let s = c.before.before.before.before.before.before.before in
     let a = s.args in
     answered_refused _
-    (step-state-refused s.requires a.state.now a.chosen (check_refused c.before.before.before.check.ensures c.before.r.given.1))
+    (step_state_refused s.requires a.state.now a.chosen (check_refused c.before.before.before.check.ensures c.before.r.given.1))
 
 pub checked-spec : {M : Type 1} → statement M
 checked-spec =

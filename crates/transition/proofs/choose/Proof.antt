@@ -3,9 +3,9 @@
 use native.Mathlib.Omega.{arith}
 use borrow.Author.Rules.{rules}
 use Rattle.output.specs.Answers.{answered_same, answered_refused}
-use Rattle.transition.specs.Turns.{few_props, few_vars, few-moves}
-use Rattle.transition.specs.Entries.{walked-ended, walked-stopped, one-fault}
-use Rattle.transition.specs.Steps.{step-missing, step-made, step-fails}
+use Rattle.transition.specs.Turns.{few_props, few_vars, few_moves}
+use Rattle.transition.specs.Entries.{walked_ended, walked_stopped, one_fault}
+use Rattle.transition.specs.Steps.{step_missing, step_made, step_fails}
 use Rattle.transition.proofs.choose.Statement.{statement}
 use Rattle.transition.proofs.choose.Tie as tie
 
@@ -16,10 +16,10 @@ returns : tie.Need-returns
 returns c =
     let s = c.before.before.before.before.before in
     rw c.refused.ensures
-    (answered_refused _ (step-missing s.requires.0 s.args.state.now s.args.chosen s.requires.1 c.before.if1.true))
+    (answered_refused _ (step_missing s.requires.0 s.args.state.now s.args.chosen s.requires.1 c.before.if1.true))
 
 cast-t16 : tie.Need-overflow-cast-t16
-cast-t16 c = omega (arith, c.if1.false, few-moves c.before.before.before.before.requires.0)
+cast-t16 c = omega (arith, c.if1.false, few_moves c.before.before.before.before.requires.0)
 
 slice-aggregate-walk : tie.Need-slice-aggregate-walk
 slice-aggregate-walk c = search rules
@@ -37,7 +37,7 @@ put-state-requires c κs =
       few_props = few_props p;
       few_vars = few_vars p;
       state = _;
-      holds = (walked-ended _ _ _ _ _ _ _ c.before.before.before.before.before.walk.ensures p c.before.before.before.enum_told.given.1).holds;
+      holds = (walked_ended _ _ _ _ _ _ _ c.before.before.before.before.before.walk.ensures p c.before.before.before.enum_told.given.1).holds;
     }
 
 enum-known-fault : tie.Need-enum-known-fault
@@ -53,14 +53,14 @@ returns-2 : tie.Need-returns-2
 returns-2 c =
     let s = c.before.before.before.before.before.before.before.before.before.before.before.before.before.before.before.before in
     answered_same c.before.before.put-state.ensures
-    (step-made s.requires.0 s.args.state.now s.args.chosen s.requires.1 (walked-ended _ _ _ _ _ _ _ c.before.before.before.before.before.before.before.before.walk.ensures s.requires.0 c.before.before.before.before.before.before.enum_told.given.1))
+    (step_made s.requires.0 s.args.state.now s.args.chosen s.requires.1 (walked_ended _ _ _ _ _ _ _ c.before.before.before.before.before.before.before.before.walk.ensures s.requires.0 c.before.before.before.before.before.before.enum_told.given.1))
 
 returns-3 : tie.Need-returns-3
 returns-3 c =
     let s = c.before.before.before.before.before.before.before.before.before.before.before.before in
     rw c.refused2.ensures
     (answered_refused _
-    (step-fails s.requires.0 s.args.state.now s.args.chosen s.requires.1 (one-fault (walked-stopped _ _ _ _ _ _ _ c.before.before.before.before.walk.ensures s.requires.0 c.before.before.fault.given.1))))
+    (step_fails s.requires.0 s.args.state.now s.args.chosen s.requires.1 (one_fault (walked_stopped _ _ _ _ _ _ _ c.before.before.before.before.walk.ensures s.requires.0 c.before.before.fault.given.1))))
 
 pub choose_spec : {M : Type 1} → statement M
 choose_spec =

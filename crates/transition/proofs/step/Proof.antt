@@ -4,7 +4,7 @@ use borrow.Author.Rules.{rules}
 use Rattle.model.specs.Task.{written}
 use Rattle.table.specs.Names.{wanted_of}
 use Rattle.output.specs.Answers.{answered_refused}
-use Rattle.table.specs.Outlines.{head_read, head-refused}
+use Rattle.table.specs.Outlines.{head_read, head_refused}
 use Rattle.transition.specs.Steps.{step_answered, step_table_refused}
 use Rattle.transition.proofs.step.Statement.{statement}
 use Rattle.transition.proofs.step.Tie as tie
@@ -37,7 +37,7 @@ returns-2 c =
     let a = c.before.before.before.before.before.before.before.before.args in
     step_answered a.table.now a.state.now a.chosen
     (answered_refused _
-    (step_table_refused a.table.now a.state.now a.chosen (head-refused written c.before.before.before.outline.ensures c.before.r.given.1)))
+    (step_table_refused a.table.now a.state.now a.chosen (head_refused written c.before.before.before.outline.ensures c.before.r.given.1)))
 
 pub step_spec : {M : Type 1} → statement M
 step_spec =

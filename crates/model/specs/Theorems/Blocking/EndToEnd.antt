@@ -21,14 +21,14 @@ use Rattle.model.specs.Calls.{normal_bytes, decide_answer, plan_records}
 use Rattle.model.specs.Blocking.{goal_part, part_offset, blocking_answer}
 use Rattle.model.specs.Theorems.Reading.Accepted.{reading_task, accepted_one}
 use Rattle.model.specs.Theorems.NormalForm.Print.{normal_table, normal_accepted, normal_state}
-use Rattle.model.specs.Theorems.Campaigns.Demand2.{normal_part, normalise-leaves}
+use Rattle.model.specs.Theorems.Campaigns.Demand2.{normal_part, normalise_leaves}
 use Rattle.model.specs.Theorems.Campaigns.Demand3.{relaxed_task, start_state, layer_zero, end_of, Given, DecideNoPlan}
 use Rattle.model.specs.Theorems.Campaigns.EndToEnd.{demand3}
-use Rattle.model.specs.Theorems.Blocking.Parts.{first-unmet}
-use Rattle.model.specs.Theorems.Blocking.Calls.{blocks-means, blocks-where}
+use Rattle.model.specs.Theorems.Blocking.Parts.{first_unmet_holds}
+use Rattle.model.specs.Theorems.Blocking.Calls.{blocks_means, blocks_where}
 use Rattle.model.specs.Theorems.Blocking.Goals.{with_goal}
-use Rattle.model.specs.Theorems.Blocking.Reason.{FirstUnreachable, first-unreachable, keeping_unreachable}
-use Rattle.model.specs.Theorems.Blocking.Written.{CameFrom, came_from, keeping-item, keeping-item-relaxed}
+use Rattle.model.specs.Theorems.Blocking.Reason.{FirstUnreachable, first_unreachable, keeping_unreachable}
+use Rattle.model.specs.Theorems.Blocking.Written.{CameFrom, came_from, keeping_item, keeping_item_relaxed}
 
 -- ---- the reason, in the normal table
 
@@ -52,11 +52,11 @@ pub record TrueReason (t bs : List ℕ) (offset : ℕ) : Type 0 where
 -- For any bytes whatever: an offset is the true reason.
 pub true_reason : (t bs : List ℕ) (mem : List ℤ) (offset : ℕ) → blocking_answer paper t bs mem ≡ blocking.Blocks offset → TrueReason t bs offset
 true_reason t bs mem offset e =
-    let a = (blocks-means t bs mem offset).0 e in
+    let a = (blocks_means t bs mem offset).0 e in
     let k = a.table.task in
     let s = layer_zero a.table bs in
-    let found = (first-unmet k (layer_at k s a.layers) a.part).1 a.first in
-    let first = (first-unreachable (reading_task paper normal t a.read) s a.layers a.exhausted.equal a.part).0 found in
+    let found = (first_unmet_holds k (layer_at k s a.layers) a.part).1 a.first in
+    let first = (first_unreachable (reading_task paper normal t a.read) s a.layers a.exhausted.equal a.part).0 found in
     record {
       table = a.table;
       read = a.read;
@@ -111,9 +111,9 @@ module _ (t bs normalOut : List ℕ) (mem : List ℤ) (w : Table) (read : readin
   abbrev nb : List ℕ
   nb = normal_part t normalOut (length (normal_bytes w.task))
 
-  normal-reason : (offset : ℕ) → TrueReason (normal_bytes w.task) bs offset → WrittenReason w bs offset
+  normal_reason : (offset : ℕ) → TrueReason (normal_bytes w.task) bs offset → WrittenReason w bs offset
   unfolding normal_table normal_task
-  normal-reason offset r =
+  normal_reason offset r =
       let same : r.table ≡ normal_table w.task = accepted_one (sym r.read ∙ normal_accepted t read) in
       let b : Blocker (relaxed_task w) (layer_zero w bs) offset = subst (λ (n : Table). Blocker n.task (layer_zero n bs) offset) same r.blocker in
       let c : CameFrom w.task.goal b.part = came_from w.task.goal b.part b.first.inside in
@@ -123,25 +123,25 @@ module _ (t bs normalOut : List ℕ) (mem : List ℤ) (w : Table) (read : readin
             ∙ subst (λ (n : Table). state_refusal paper n.task.props (n.task.vars / 2) bs ≡ none) same r.state;
         blocker = b;
         from = c;
-        unsolvable = keeping-item w.task (start_state w bs) b.part c b.first.unreachable (reading_task paper written t read);
-        keeping = keeping-item-relaxed w.task (start_state w bs) b.part c b.first.unreachable;
+        unsolvable = keeping_item w.task (start_state w bs) b.part c b.first.unreachable (reading_task paper written t read);
+        keeping = keeping_item_relaxed w.task (start_state w bs) b.part c b.first.unreachable;
       }
 
   -- For an accepted written table, and an output with room for its normal form: an offset that blocks in the bytes that normalise writes
   -- is the true reason in the written table too.
-  pub written-reason : (offset : ℕ) → blocking_answer paper nb bs mem ≡ blocking.Blocks offset → WrittenReason w bs offset
-  written-reason offset e =
-      normal-reason offset
+  pub written_reason : (offset : ℕ) → blocking_answer paper nb bs mem ≡ blocking.Blocks offset → WrittenReason w bs offset
+  written_reason offset e =
+      normal_reason offset
       (true_reason (normal_bytes w.task) bs mem offset
-      (ap (λ (n : List ℕ). blocking_answer paper n bs mem) (sym (normalise-leaves t normalOut w read fits)) ∙ e))
+      (ap (λ (n : List ℕ). blocking_answer paper n bs mem) (sym (normalise_leaves t normalOut w read fits)) ∙ e))
 
   -- "When a campaign comes back as "no plan", engineers want to know what to give up.": where decide answers so there is such an offset.
-  pub no-plan-reason :
+  pub no_plan_reason :
       DecideNoPlan (decide_answer paper nb bs mem)
       → (offset : ℕ) × (blocking_answer paper nb bs mem ≡ blocking.Blocks offset) × WrittenReason w bs offset
-  no-plan-reason no_plan =
-      let found = (blocks-where nb bs mem).1 no_plan in
-      (found.0, found.1, written-reason found.0 found.1)
+  no_plan_reason no_plan =
+      let found = (blocks_where nb bs mem).1 no_plan in
+      (found.0, found.1, written_reason found.0 found.1)
 
 -- ---- where there is an offset
 
@@ -154,10 +154,10 @@ module _ (t bs normalOut : List ℕ) (layers : List ℤ) (w : Table)
     (layer_room : room (relaxed_task w) (reported (end_of w bs)) ≤ length layers)
     (small : (u : ℕ) → u ≤ reported (end_of w bs) → wrong15 paper (relaxed_task w) (layer_zero w bs) u ≡ false) where
   -- some output with room for the plan
-  abbrev planSize : ℕ
-  planSize = 10 * length (plan_records (relaxed_task w) (layer_zero w bs) (answered (end_of w bs)))
+  abbrev plan_size : ℕ
+  plan_size = 10 * length (plan_records (relaxed_task w) (layer_zero w bs) (answered (end_of w bs)))
 
-  given : Given t bs normalOut layers (replicate planSize 0)
+  given : Given t bs normalOut layers (replicate plan_size 0)
   given =
       record {
         table = w;
@@ -165,15 +165,15 @@ module _ (t bs normalOut : List ℕ) (layers : List ℤ) (w : Table)
         state = state;
         normal_room = normal_room;
         layer_room = layer_room;
-        plan_room = omega (arith, length-replicate {A = ℕ} planSize 0);
+        plan_room = omega (arith, length-replicate {A = ℕ} plan_size 0);
         small = small;
       }
 
-  pub blocks-unsolvable :
+  pub blocks_unsolvable :
       ((o : ℕ) × (blocking_answer paper (normal_part t normalOut (length (normal_bytes w.task))) bs layers ≡ blocking.Blocks o))
       ↔ ((list : List ℕ) → Solves relaxed (relaxed_task w) (layer_zero w bs) list → ⊥)
   unfolding given
-  blocks-unsolvable =
-      let decides = (demand3 t bs normalOut layers (replicate planSize 0) given).decide_no_plan in
-      let blocks = blocks-where (normal_part t normalOut (length (normal_bytes w.task))) bs layers in
+  blocks_unsolvable =
+      let decides = (demand3 t bs normalOut layers (replicate plan_size 0) given).decide_no_plan in
+      let blocks = blocks_where (normal_part t normalOut (length (normal_bytes w.task))) bs layers in
       (λ part. decides.0 (blocks.0 part), λ never. blocks.1 (decides.1 never))

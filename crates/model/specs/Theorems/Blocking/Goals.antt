@@ -13,7 +13,7 @@ use Rattle.model.specs.Move.{State, holds, applicable, move_at, Solves}
 use Rattle.model.specs.Blocking.{goal_part}
 use Rattle.model.specs.Theorems.Reading.WellFormed.{ItemOk, GoalItem, TaskOk}
 use Rattle.model.specs.Theorems.Laws.Booleans.{and_both}
-use Rattle.model.specs.Theorems.Laws.Searching.{all-All}
+use Rattle.model.specs.Theorems.Laws.Searching.{all_all}
 use Rattle.model.specs.Theorems.Laws.Listed.{in_at, All-in}
 
 -- the task with another goal
@@ -34,15 +34,15 @@ module _ (k : Task) (g : Block) where
       ap (λ (f : ℕ → Bool). any_below (λ u. elim (edge k u v) [ true ↦ f u | false ↦ false ]) k.vars) (λ i u. same_walks n u i)
 
   -- a circle is one of the moves
-  pub same-circle : circular (with_goal k g) ≡ circular k
+  pub same_circle : circular (with_goal k g) ≡ circular k
   unfolding circular
-  same-circle = ap (λ (f : ℕ → Bool). any_below f k.vars) (λ i v. same_walks k.vars v i)
+  same_circle = ap (λ (f : ℕ → Bool). any_below f k.vars) (λ i v. same_walks k.vars v i)
 
 module _ {L : Limits} {f : Form} {k : Task} (ok : TaskOk L f k) where
   -- a task within every limit stays so with one part of its goal alone
-  pub part-ok : (i : Item) → In i k.goal → TaskOk L f (alone k i)
+  pub part_ok : (i : Item) → In i k.goal → TaskOk L f (alone k i)
   unfolding any
-  part-ok i stands =
+  part_ok i stands =
       record {
         props = ok.props;
         vars = ok.vars;
@@ -50,7 +50,7 @@ module _ {L : Limits} {f : Form} {k : Task} (ok : TaskOk L f k) where
         blocks = ok.blocks;
         goal = record { items = (All-in (ItemOk L f k.props k.vars) k.goal ok.goal.items i stands, tt); once = (tt, tt) };
         goal_items = (All-in GoalItem k.goal ok.goal_items i stands, tt);
-        no_circle = same-circle k (i ∷ []) ∙ ok.no_circle;
+        no_circle = same_circle k (i ∷ []) ∙ ok.no_circle;
       }
 
 -- ---- its parts
@@ -64,7 +64,7 @@ part_in k n h = in_at k.goal n (need 0) h
 applicable_each : (s : State) (g : Block) (i : Item) → In i g → T (applicable s g) → T (applicable s (i ∷ []))
 unfolding applicable all
 applicable_each s g i stands t =
-    and_both (holds s i) true (All-in (λ j. T (holds s j)) g (all-All (holds s) g t) i stands) tt
+    and_both (holds s i) true (All-in (λ j. T (holds s j)) g (all_all (holds s) g t) i stands) tt
 
 -- a list that solves the task with a goal, by whichever kind of move, reaches each part of that goal alone
 pub solves_part :

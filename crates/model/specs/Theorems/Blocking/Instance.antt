@@ -22,7 +22,7 @@ use Rattle.model.specs.Theorems.Campaigns.Demand3.{relaxed_task, start_state, la
 use Rattle.model.specs.Theorems.Blocking.Cases.{missed}
 use Rattle.model.specs.Theorems.Blocking.Goals.{with_goal}
 use Rattle.model.specs.Theorems.Blocking.Written.{CameFrom, came_one}
-use Rattle.model.specs.Theorems.Blocking.EndToEnd.{TrueReason, true_reason, WrittenReason, written-reason, blocks-unsolvable}
+use Rattle.model.specs.Theorems.Blocking.EndToEnd.{TrueReason, true_reason, WrittenReason, written_reason, blocks_unsolvable}
 
 -- `missed`: v += 1, goal v = −1; from v = 0
 unfoldable pub missed_table : Table
@@ -63,12 +63,12 @@ pub missed_reason : TrueReason missed_normal (zeros 4) 34
 missed_reason = true_reason missed_normal (zeros 4) (replicate 5 (pos 7)) 34 missed_blocks
 
 pub missed_written : WrittenReason missed_table (zeros 4) 34
-missed_written = written-reason missed (zeros 4) (zeros 41) (replicate 5 (pos 7)) missed_table missed_read missed_room 34 missed_blocks
+missed_written = written_reason missed (zeros 4) (zeros 41) (replicate 5 (pos 7)) missed_table missed_read missed_room 34 missed_blocks
 
 -- so no list of any length solves its relaxed task
 missed_unsolvable : (list : List ℕ) → Solves relaxed (relaxed_task missed_table) (layer_zero missed_table (zeros 4)) list → ⊥
 missed_unsolvable =
-    (blocks-unsolvable missed (zeros 4) (zeros 41) (replicate 5 (pos 7)) missed_table missed_read missed_state missed_room missed_layers missed_small).0
+    (blocks_unsolvable missed (zeros 4) (zeros 41) (replicate 5 (pos 7)) missed_table missed_read missed_state missed_room missed_layers missed_small).0
     (34, missed_blocks)
 
 -- ---- the item that it came from

@@ -16,7 +16,7 @@ use Rattle.model.specs.Layer.{Layer, holds_in, usable}
 use Rattle.model.specs.Blocking.{goal_part, first_unmet, before_part, part_offset}
 use Rattle.model.specs.Theorems.Reading.WellFormed.{All, GoalItem}
 use Rattle.model.specs.Theorems.Laws.Booleans.{T_true, true_t, not-false, false_not, T-stable}
-use Rattle.model.specs.Theorems.Laws.Searching.{All-at, at-All, all-All, All-all, firstFrom-cases}
+use Rattle.model.specs.Theorems.Laws.Searching.{All-at, at_all, all_all, All-all, first_from_cases}
 use Rattle.model.specs.Theorems.Printing.Items.{item_command, item_operands, closing, item_parts}
 
 -- ---- the first part that a layer does not meet
@@ -28,26 +28,26 @@ pub record FirstUnmet (k : Task) (l : Layer) (n : ℕ) : Type 0 where
   pub before : (u : ℕ) → u < n → holds_in l (goal_part k u) ≡ true
 
 module _ {k : Task} {l : Layer} where
-  not-later : {m n : ℕ} → FirstUnmet k l m → FirstUnmet k l n → m ≤ n
-  not-later {n} a b = le_of_suc-le-suc (lt_of_not-le (λ h. true≢false (sym (a.before n h) ∙ b.unmet)))
+  not_later : {m n : ℕ} → FirstUnmet k l m → FirstUnmet k l n → m ≤ n
+  not_later {n} a b = le_of_suc-le-suc (lt_of_not-le (λ h. true≢false (sym (a.before n h) ∙ b.unmet)))
 
   -- there is one at most
   pub first_one : {m n : ℕ} → FirstUnmet k l m → FirstUnmet k l n → m ≡ n
-  first_one a b = le_antisymm (not-later a b) (not-later b a)
+  first_one a b = le_antisymm (not_later a b) (not_later b a)
 
 module _ (k : Task) (l : Layer) where
   holds_not : (u : ℕ) → (T (not (holds_in l (goal_part k u))) → ⊥) → holds_in l (goal_part k u) ≡ true
   holds_not u h = T_true (holds_in l (goal_part k u)) (T-stable (holds_in l (goal_part k u)) (λ f. h (not_T (holds_in l (goal_part k u)) f)))
 
   -- the search finds it, or the layer meets every part
-  unmet-cases :
+  unmet_cases :
       (P : Option ℕ → Type 0)
       → ((n : ℕ) → FirstUnmet k l n → P (some n))
       → (((u : ℕ) → u < length k.goal → holds_in l (goal_part k u) ≡ true) → P none)
       → P (first_unmet k l)
   unfolding first_unmet
-  unmet-cases P found nothing =
-      firstFrom-cases (λ n. not (holds_in l (goal_part k n))) P 0 (length k.goal)
+  unmet_cases P found nothing =
+      first_from_cases (λ n. not (holds_in l (goal_part k n))) P 0 (length k.goal)
       (λ n low high t before.
       found n
       (record {
@@ -57,35 +57,35 @@ module _ (k : Task) (l : Layer) where
       }))
       (λ never. nothing (λ u h. holds_not u (never u (omega arith) (omega arith))))
 
-  pub first-unmet : (n : ℕ) → (first_unmet k l ≡ some n) ↔ FirstUnmet k l n
-  first-unmet n = (
-    unmet-cases (λ o. o ≡ some n → FirstUnmet k l n) (λ m a e. let same : m ≡ n = cc in subst (FirstUnmet k l) same a)
+  pub first_unmet_holds : (n : ℕ) → (first_unmet k l ≡ some n) ↔ FirstUnmet k l n
+  first_unmet_holds n = (
+    unmet_cases (λ o. o ≡ some n → FirstUnmet k l n) (λ m a e. let same : m ≡ n = cc in subst (FirstUnmet k l) same a)
         (λ met e. let z : ◌≡◌ {A = ℕ} 0 1 = cc in absurd (omega arith)),
-    λ a. unmet-cases (λ o. o ≡ some n) (λ m b. ap some (first_one b a)) (λ met. absurd (true≢false (sym (met n a.inside) ∙ a.unmet))),
+    λ a. unmet_cases (λ o. o ≡ some n) (λ m b. ap some (first_one b a)) (λ met. absurd (true≢false (sym (met n a.inside) ∙ a.unmet))),
   )
 
   -- the layer meets the goal exactly where there is none
-  pub unmet-none : (first_unmet k l ≡ none) ↔ (usable l k.goal ≡ true)
+  pub unmet_none : (first_unmet k l ≡ none) ↔ (usable l k.goal ≡ true)
   unfolding usable goal_part
-  unmet-none = (
-    unmet-cases (λ o. o ≡ none → usable l k.goal ≡ true) (λ m a e. let z : ◌≡◌ {A = ℕ} 0 1 = cc in absurd (omega arith))
+  unmet_none = (
+    unmet_cases (λ o. o ≡ none → usable l k.goal ≡ true) (λ m a e. let z : ◌≡◌ {A = ℕ} 0 1 = cc in absurd (omega arith))
         (λ met e.
         T_true (usable l k.goal)
-        (All-all (holds_in l) k.goal (at-All (λ i. T (holds_in l i)) k.goal (need 0) (λ i h. true_t (met i h))))),
+        (All-all (holds_in l) k.goal (at_all (λ i. T (holds_in l i)) k.goal (need 0) (λ i h. true_t (met i h))))),
     λ whole.
-        unmet-cases (λ o. o ≡ none)
+        unmet_cases (λ o. o ≡ none)
         (λ m a.
         absurd
-        (false_not a.unmet (All-at (λ i. T (holds_in l i)) k.goal m (need 0) (all-All (holds_in l) k.goal (true_t whole)) a.inside)))
+        (false_not a.unmet (All-at (λ i. T (holds_in l i)) k.goal m (need 0) (all_all (holds_in l) k.goal (true_t whole)) a.inside)))
         (λ met. refl),
   )
 
   -- so where it does not meet the goal, there is one
-  pub unmet-some : usable l k.goal ≡ false → (n : ℕ) × (first_unmet k l ≡ some n)
-  unmet-some unmet = go (first_unmet k l) refl
+  pub unmet_some : usable l k.goal ≡ false → (n : ℕ) × (first_unmet k l ≡ some n)
+  unmet_some unmet = go (first_unmet k l) refl
     where
       go : (o : Option ℕ) → first_unmet k l ≡ o → (n : ℕ) × (first_unmet k l ≡ some n)
-      go none e = absurd (true≢false (sym (unmet-none.0 e) ∙ unmet))
+      go none e = absurd (true≢false (sym (unmet_none.0 e) ∙ unmet))
       go (some n) e = (n, e)
 
 -- ---- where it stands
@@ -129,10 +129,10 @@ regroup a b c d e =
 
 module _ (k : Task) (n : ℕ) (h : n < length k.goal) where
   -- The normal table, parted before the 50 or 43 of part n.
-  pub part-print :
+  pub part_print :
       task_bytes normal k ≡ before_part k n ++ closing (goal_part k n) ++ items_bytes (drop (suc n) k.goal) ++ code_of end_table ∷ []
   unfolding task_bytes before_part goal_part
-  part-print =
+  part_print =
       ap (λ (goal : List ℕ). front ++ (code_of open_goal ∷ goal) ++ code_of end_table ∷ []) (items_parted k.goal n h)
       ∙ ap (λ (table : List ℕ). table ++ code_of end_table ∷ [])
       (regroup front (code_of open_goal ∷ items_bytes (take n k.goal)) (term_bytes (terms_of part)) (closing part) (items_bytes (drop (suc n) k.goal)))
@@ -150,7 +150,7 @@ module _ (k : Task) (n : ℕ) (h : n < length k.goal) where
       let before = before_part k n in
       let command = closing (goal_part k n) in
       let rest = items_bytes (drop (suc n) k.goal) in
-      rw part-print
+      rw part_print
       (omega (
         arith,
         length-append (before ++ command ++ rest) (code_of end_table ∷ []),
@@ -160,9 +160,9 @@ module _ (k : Task) (n : ℕ) (h : n < length k.goal) where
       ))
 
   -- the offset is within the table, behind the head and the 47
-  pub offset-inside : (5 ≤ part_offset k n) × (part_offset k n < length (task_bytes normal k))
+  pub offset_inside : (5 ≤ part_offset k n) × (part_offset k n < length (task_bytes normal k))
   unfolding part_offset before_part
-  offset-inside =
+  offset_inside =
       let front = code_of (head normal) ∷ k.props ∷ k.vars ∷ length k.moves ∷ moves_bytes k.moves in
       let goal = code_of open_goal ∷ items_bytes (take n k.goal) in (
         omega (arith, length-append (front ++ goal) (term_bytes (terms_of (goal_part k n))), length-append front goal),
@@ -170,15 +170,15 @@ module _ (k : Task) (n : ℕ) (h : n < length k.goal) where
       )
 
   -- "the offset .. of the .. 50 or 43 command": the byte there is the command of the part
-  pub part-command : get_or (task_bytes normal k) (part_offset k n) 0 ≡ code_of (item_command (goal_part k n))
+  pub part_command : get_or (task_bytes normal k) (part_offset k n) 0 ≡ code_of (item_command (goal_part k n))
   unfolding part_offset closing
-  part-command =
+  part_command =
       let before = before_part k n in
       let command = closing (goal_part k n) in
       let rest = items_bytes (drop (suc n) k.goal) in
       let end = code_of end_table ∷ [] in
       ap (λ (table : List ℕ). get_or table (part_offset k n) 0)
-      (part-print ∙ append_assoc (before ++ command) rest end ∙ append_assoc before command (rest ++ end))
+      (part_print ∙ append_assoc (before ++ command) rest end ∙ append_assoc before command (rest ++ end))
       ∙ get_or-append_seam before (code_of (item_command (goal_part k n))) (item_operands (goal_part k n) ++ (rest ++ end)) 0
 
 -- from the command of the first unmet part to the end of the table there are the unmet bytes and the 45
@@ -186,7 +186,7 @@ pub unmet_offset :
     (k : Task) (l : Layer) (n : ℕ) → first_unmet k l ≡ some n → part_offset k n + unmet_size l k.goal + 1 ≡ length (task_bytes normal k)
 unfolding goal_part
 unmet_offset k l n e =
-    let a = (first-unmet k l n).0 e in
+    let a = (first_unmet_holds k l n).0 e in
     rw (unmet_size_lem l k.goal n a.inside a.unmet a.before) (part_length k n a.inside)
 
 -- ---- which command, and that an offset names one part
@@ -214,26 +214,26 @@ from_falls (i ∷ b) (suc n) (suc m) h l = from_falls b n m (omega arith) (omega
 
 module _ (k : Task) where
   -- "the first 50 or 43 command of the goal": one of them stands there,
-  pub part-code :
+  pub part_code :
       (n : ℕ) → n < length k.goal → All GoalItem k.goal
       → (get_or (task_bytes normal k) (part_offset k n) 0 ≡ 0x50) ⊎ (get_or (task_bytes normal k) (part_offset k n) 0 ≡ 0x43)
   unfolding goal_part
-  part-code n h goal =
-      rw (part-command k n h) (command_code (goal_part k n) (All-at GoalItem k.goal n (need 0) goal h))
+  part_code n h goal =
+      rw (part_command k n h) (command_code (goal_part k n) (All-at GoalItem k.goal n (need 0) goal h))
 
   -- and of a condition the 43, whatever terms it closes, not the 57 of the first of them
-  pub part-condition :
+  pub part_condition :
       (n : ℕ) (c : Condition) → n < length k.goal → goal_part k n ≡ condition c → get_or (task_bytes normal k) (part_offset k n) 0 ≡ 0x43
   unfolding code_of item_command
-  part-condition n c h e = part-command k n h ∙ ap (λ (i : Item). code_of (item_command i)) e
+  part_condition n c h e = part_command k n h ∙ ap (λ (i : Item). code_of (item_command i)) e
 
   -- offsets rise with the parts,
-  pub offset-rises : (n m : ℕ) → n < m → m < length k.goal → part_offset k n < part_offset k m
-  offset-rises n m h l =
+  pub offset_rises : (n m : ℕ) → n < m → m < length k.goal → part_offset k n < part_offset k m
+  offset_rises n m h l =
       omega (arith, part_length k n (omega arith), part_length k m l, from_falls k.goal n m h l)
 
   -- so an offset is that of one part
-  pub offset-one : (n m : ℕ) → n < length k.goal → m < length k.goal → part_offset k n ≡ part_offset k m → n ≡ m
-  offset-one n m h l e =
-      le_antisymm (le_of_suc-le-suc (lt_of_not-le (λ less. omega (arith, offset-rises m n less h))))
-      (le_of_suc-le-suc (lt_of_not-le (λ less. omega (arith, offset-rises n m less l))))
+  pub offset_one : (n m : ℕ) → n < length k.goal → m < length k.goal → part_offset k n ≡ part_offset k m → n ≡ m
+  offset_one n m h l e =
+      le_antisymm (le_of_suc-le-suc (lt_of_not-le (λ less. omega (arith, offset_rises m n less h))))
+      (le_of_suc-le-suc (lt_of_not-le (λ less. omega (arith, offset_rises n m less l))))

@@ -16,7 +16,7 @@ use Rattle.model.specs.Theorems.Laws.Listed.{in_left, in_right, in_at}
 use Rattle.model.specs.Theorems.NormalForm.Task.{normal_ok}
 use Rattle.model.specs.Theorems.NormalForm.Moves.{written_normal}
 use Rattle.model.specs.Theorems.Layers.Relaxation.{real_solves_relaxed}
-use Rattle.model.specs.Theorems.Blocking.Goals.{with_goal, part-ok, solves_part}
+use Rattle.model.specs.Theorems.Blocking.Goals.{with_goal, part_ok, solves_part}
 use Rattle.model.specs.Theorems.Blocking.Reason.{Unreachable, keeping_unreachable}
 
 -- Part n of the normal form of a written goal came from an item of that goal: the normal forms of the items before it have n parts at
@@ -141,19 +141,19 @@ module _ (k : Task) (s : State) (n : ℕ) (c : CameFrom k.goal n) where
   abbrev part : Item
   part = goal_part (normal_task k) n
 
-  part-kept : (g : Block) → In c.item g → In part (normal_block g)
-  part-kept g stands = parts_kept c.item g part stands (part_of_item k n c)
+  part_kept : (g : Block) → In c.item g → In part (normal_block g)
+  part_kept g stands = parts_kept c.item g part stands (part_of_item k n c)
 
   module _ (blocks : Unreachable (normal_task k) (normal_state s) part) where
     -- with a goal that still holds the item, no list of relaxed moves solves the normal form,
-    pub keeping-item-relaxed :
+    pub keeping_item_relaxed :
         (g : Block) → In c.item g → (list : List ℕ) → Solves relaxed (normal_task (with_goal k g)) (normal_state s) list → ⊥
     unfolding normal_task
-    keeping-item-relaxed g stands list solves =
-        keeping_unreachable (normal_task k) (normal_state s) part blocks (normal_block g) (part-kept g stands) list solves
+    keeping_item_relaxed g stands list solves =
+        keeping_unreachable (normal_task k) (normal_state s) part blocks (normal_block g) (part_kept g stands) list solves
 
     -- and no list of moves, of any length, solves the table as written; "that one part alone" is the goal `item ∷ []`
-    pub keeping-item :
+    pub keeping_item :
         {L : Limits} → TaskOk L written k
         → (g : Block)
         → In c.item g
@@ -161,8 +161,8 @@ module _ (k : Task) (s : State) (n : ℕ) (c : CameFrom k.goal n) where
         → Solves real (with_goal k g) s list
         → ⊥
     unfolding normal_task
-    keeping-item {L} ok g stands list solves =
+    keeping_item {L} ok g stands list solves =
         blocks list
-        (real_solves_relaxed (part-ok (normal_ok L k ok) part (part-kept k.goal (item_in c))) (normal_state s) list
-        (solves_part real (normal_task k) (normal_block g) part (part-kept g stands) (normal_state s) list
+        (real_solves_relaxed (part_ok (normal_ok L k ok) part (part_kept k.goal (item_in c))) (normal_state s) list
+        (solves_part real (normal_task k) (normal_block g) part (part_kept g stands) (normal_state s) list
         ((written_normal (with_goal k g) list s).0 solves)))

@@ -24,7 +24,7 @@ use Rattle.model.specs.Exports.{refusal_code, read_code, write_code, decide_code
 use Rattle.model.specs.Theorems.Reading.Places.{Small}
 use Rattle.model.specs.Theorems.Pddl.Sizes.{pddl_small}
 use Rattle.model.specs.Theorems.Rewriting.Sizes.{rewrite_small}
-use Rattle.model.specs.Theorems.Sizes.Answers.{place_limit, result_limit, ReadSmall, read_small, WriteSmall, write_wider, normalise_small, step_small, block_small, DecideSmall, decide_small, PlanSmall, plan_small, BlockingSmall, blocking_small, campaign-decision-small, campaign-plan-small}
+use Rattle.model.specs.Theorems.Sizes.Answers.{place_limit, result_limit, ReadSmall, read_small, WriteSmall, write_wider, normalise_small, step_small, block_small, DecideSmall, decide_small, PlanSmall, plan_small, BlockingSmall, blocking_small, campaign_decision_small, campaign_plan_small}
 
 -- ---- the halves
 
@@ -37,13 +37,13 @@ unfolding code_number code_place refusal_code
 refusal_halves r s = (omega (arith, s.place), omega (arith, s.place))
 
 module _ {A : Type 0} (result : ℕ → A) (back : Refusal → A) where
-  pub result-apart : (n : ℕ) → n < 2 ^ 32 → apart result back n ≡ result n
+  pub result_apart : (n : ℕ) → n < 2 ^ 32 → apart result back n ≡ result n
   unfolding apart
-  result-apart n h = rw ((result_halves n h).0, apart, (result_halves n h).1) refl
+  result_apart n h = rw ((result_halves n h).0, apart, (result_halves n h).1) refl
 
-  pub refusal-apart : (r : Refusal) → Small place_limit r → apart result back (refusal_code r) ≡ back r
+  pub refusal_apart : (r : Refusal) → Small place_limit r → apart result back (refusal_code r) ≡ back r
   unfolding apart
-  refusal-apart r s =
+  refusal_apart r s =
       let number : code_number (refusal_code r) ≡ r.number = (refusal_halves r s).0 in
       let place : code_place (refusal_code r) ≡ r.place = (refusal_halves r s).1 in
       rw (number, apart, ne_eqb r.number 0 (λ z. omega (arith, s.positive)), number, place) refl
@@ -52,50 +52,50 @@ module _ {A : Type 0} (result : ℕ → A) (back : Refusal → A) where
 
 pub read_back : (a : ReadAnswer) → ReadSmall a → read_apart (read_code a) ≡ a
 unfolding read_apart read_code
-read_back (read.Refused r) s = refusal-apart _ _ r s
+read_back (read.Refused r) s = refusal_apart _ _ r s
 read_back (read.Head kind props vars moves) s =
     let n = kind * 2 ^ 24 + props * 2 ^ 16 + vars * 2 ^ 8 + moves in
     let k : n / 2 ^ 24 ≡ kind = omega arith in
     let p : n / 2 ^ 16 % 2 ^ 8 ≡ props = omega arith in
     let v : n / 2 ^ 8 % 2 ^ 8 ≡ vars = omega arith in
     let m : n % 2 ^ 8 ≡ moves = omega arith in
-    result-apart _ _ n (omega arith) ∙ rw (k, p, v, m) refl
+    result_apart _ _ n (omega arith) ∙ rw (k, p, v, m) refl
 
 pub write_back : (a : WriteAnswer) → WriteSmall result_limit a → write_apart (write_code a) ≡ a
 unfolding write_apart write_code
-write_back (write.Refused r) s = refusal-apart _ _ r s
-write_back (write.Written n) s = result-apart _ _ n (omega arith)
+write_back (write.Refused r) s = refusal_apart _ _ r s
+write_back (write.Written n) s = result_apart _ _ n (omega arith)
 
 pub decide_back : (a : DecideAnswer) → DecideSmall a → decide_apart (decide_code a) ≡ a
 unfolding decide_apart decide_code
-decide_back (decide.Refused r) s = refusal-apart _ _ r s
+decide_back (decide.Refused r) s = refusal_apart _ _ r s
 decide_back (decide.Plan layer layers) s =
-    result-apart _ _ layers (omega arith)
+    result_apart _ _ layers (omega arith)
     ∙ rw (lt-leb (2 ^ 31) layers (omega arith)) (ap (λ (n : ℕ). decide.Plan n layers) (sym s.0))
 decide_back (decide.NoPlan layers) s =
     let code = decide_code (decide.NoPlan layers) in
     let bit : 2 ^ 31 ≤ code = omega arith in
     let below : code - 2 ^ 31 ≡ layers = omega arith in
-    result-apart _ _ code (omega arith) ∙ rw (le-leb (2 ^ 31) code bit, below) refl
+    result_apart _ _ code (omega arith) ∙ rw (le-leb (2 ^ 31) code bit, below) refl
 
 pub plan_back : (a : PlanAnswer) → PlanSmall a → (x y : ℕ) → plan_apart (plan_code a) (plan_record_count a x) (plan_first_moves a y) ≡ a
 unfolding plan_apart plan_code plan_record_count plan_first_moves
-plan_back (plan.Refused r) s x y = refusal-apart _ _ r s
+plan_back (plan.Refused r) s x y = refusal_apart _ _ r s
 plan_back (plan.Plan layer layers records moves) s x y =
-    result-apart _ _ layers (omega arith)
+    result_apart _ _ layers (omega arith)
     ∙ rw (lt-leb (2 ^ 31) layers (omega arith)) (ap (λ (n : ℕ). plan.Plan n layers records moves) (sym s.0))
 plan_back (plan.NoPlan layers records moves) s x y =
     let code = plan_code (plan.NoPlan layers records moves) in
     let bit : 2 ^ 31 ≤ code = omega arith in
     let below : code - 2 ^ 31 ≡ layers = omega arith in
-    result-apart _ _ code (omega arith) ∙ rw (le-leb (2 ^ 31) code bit, below) refl
+    result_apart _ _ code (omega arith) ∙ rw (le-leb (2 ^ 31) code bit, below) refl
 
 -- no offset is 0
 blocking_back : (a : BlockingAnswer) → BlockingSmall a → blocking_apart (blocking_code a) ≡ a
 unfolding blocking_apart blocking_code
-blocking_back (blocking.Refused r) s = refusal-apart _ _ r s
-blocking_back (blocking.Blocks offset) s = result-apart _ _ offset (omega arith) ∙ rw (ne_eqb offset 0 (λ z. omega arith)) refl
-blocking_back blocking.Nothing s = result-apart _ _ 0 (omega arith)
+blocking_back (blocking.Refused r) s = refusal_apart _ _ r s
+blocking_back (blocking.Blocks offset) s = result_apart _ _ offset (omega arith) ∙ rw (ne_eqb offset 0 (λ z. omega arith)) refl
+blocking_back blocking.Nothing s = result_apart _ _ 0 (omega arith)
 
 -- ---- the exported calls: each code taken apart is the answer, and the same code is the same answer
 
@@ -202,7 +202,7 @@ blocking_one t bs mem u cs other = one_answer blocking_apart (blocking_apart_lem
 pub campaign_decision_apart :
     (t bs normalOut : List ℕ) (mem : List ℤ)
     → decide_apart (decide_code (campaign_decision paper t bs normalOut mem)) ≡ campaign_decision paper t bs normalOut mem
-campaign_decision_apart t bs normalOut mem = decide_back (campaign_decision paper t bs normalOut mem) (campaign-decision-small t bs normalOut mem)
+campaign_decision_apart t bs normalOut mem = decide_back (campaign_decision paper t bs normalOut mem) (campaign_decision_small t bs normalOut mem)
 
 pub campaign_decision_one :
     (t bs normalOut : List ℕ) (mem : List ℤ) (u cs space : List ℕ) (other : List ℤ)
@@ -214,7 +214,7 @@ campaign_decision_one t bs normalOut mem u cs space other =
 pub campaign_plan_apart :
     (t bs normalOut : List ℕ) (mem : List ℤ) (out : List ℕ) (x y : ℕ) → let a = campaign_plan paper t bs normalOut mem out in
     plan_apart (plan_code a) (plan_record_count a x) (plan_first_moves a y) ≡ a
-campaign_plan_apart t bs normalOut mem out = plan_back (campaign_plan paper t bs normalOut mem out) (campaign-plan-small t bs normalOut mem out)
+campaign_plan_apart t bs normalOut mem out = plan_back (campaign_plan paper t bs normalOut mem out) (campaign_plan_small t bs normalOut mem out)
 
 pub campaign_plan_one :
     (t bs normalOut : List ℕ) (mem : List ℤ) (out u cs space : List ℕ) (other : List ℤ) (room : List ℕ) (x y v w : ℕ)
@@ -222,4 +222,4 @@ pub campaign_plan_one :
     → campaign_plan paper t bs normalOut mem out ≡ campaign_plan paper u cs space other room
 campaign_plan_one t bs normalOut mem out u cs space other room =
     one_plan (campaign_plan paper t bs normalOut mem out) (campaign_plan paper u cs space other room)
-    (campaign-plan-small t bs normalOut mem out) (campaign-plan-small u cs space other room)
+    (campaign_plan_small t bs normalOut mem out) (campaign_plan_small u cs space other room)

@@ -15,7 +15,7 @@ use Rattle.model.specs.declared.Refusal.{Refusal}
 use Rattle.model.specs.declared.WriteAnswer.TheVariants as write
 use Rattle.model.specs.Theorems.NormalForm.Print.{normal_table, normal_accepted}
 use Rattle.model.specs.Theorems.NormalForm.Moves.{written_normal}
-use Rattle.model.specs.Theorems.Printing.Outputs.{fitted-whole, written_part, written_inside}
+use Rattle.model.specs.Theorems.Printing.Outputs.{fitted_whole, written_part, written_inside}
 
 -- the bytes that normalise leaves: as many from the start of its output as it answers
 abbrev pub normal_part : List ℕ → List ℕ → ℕ → List ℕ
@@ -37,17 +37,17 @@ pub record SameSolutions (t normalOut : List ℕ) (w : Table) : Type 0 where
 
 -- what normalise writes and answers, where its output has room
 module _ (t normalOut : List ℕ) (w : Table) (read : reading paper (only written) t ≡ accepted w) (fits : length (normal_bytes w.task) ≤ length normalOut) where
-  pub normalise-writes : normalised paper t (length normalOut) ≡ writes (normal_bytes w.task)
+  pub normalise_writes : normalised paper t (length normalOut) ≡ writes (normal_bytes w.task)
   unfolding normalised normal_of
-  normalise-writes = rw read (fitted-whole (length normalOut) (normal_bytes w.task) fits)
+  normalise_writes = rw read (fitted_whole (length normalOut) (normal_bytes w.task) fits)
 
-  pub normalise-answers : normalise_answer paper t normalOut ≡ write.Written (length (normal_bytes w.task))
+  pub normalise_answers : normalise_answer paper t normalOut ≡ write.Written (length (normal_bytes w.task))
   unfolding normalise_answer write_answer
-  normalise-answers = rw normalise-writes refl
+  normalise_answers = rw normalise_writes refl
 
-  pub normalise-leaves : normal_part t normalOut (length (normal_bytes w.task)) ≡ normal_bytes w.task
+  pub normalise_leaves : normal_part t normalOut (length (normal_bytes w.task)) ≡ normal_bytes w.task
   unfolding normalise_out output_after overwrite
-  normalise-leaves = rw normalise-writes (take-append_seam (normal_bytes w.task) (drop (length (normal_bytes w.task)) normalOut))
+  normalise_leaves = rw normalise_writes (take-append_seam (normal_bytes w.task) (drop (length (normal_bytes w.task)) normalOut))
 
 -- ---- what normalise hands on to decide and plan
 
@@ -90,8 +90,8 @@ unfolding normal_table
 demand2 t normalOut w accept room =
     record {
       size = length (normal_bytes w.task);
-      answer = normalise-answers t normalOut w accept room;
+      answer = normalise_answers t normalOut w accept room;
       table = normal_table w.task;
-      read = ap (reading paper (only normal)) (normalise-leaves t normalOut w accept room) ∙ normal_accepted t accept;
+      read = ap (reading paper (only normal)) (normalise_leaves t normalOut w accept room) ∙ normal_accepted t accept;
       solutions = λ s list. written_normal w.task list s;
     }

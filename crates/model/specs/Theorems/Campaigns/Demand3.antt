@@ -22,7 +22,7 @@ use Rattle.model.specs.declared.DecideAnswer.TheVariants as decide
 use Rattle.model.specs.declared.PlanAnswer.{PlanAnswer}
 use Rattle.model.specs.declared.PlanAnswer.TheVariants as plan
 use Rattle.model.specs.Theorems.Plans.Records.{length_record_bytes}
-use Rattle.model.specs.Theorems.Printing.Outputs.{fitted-whole, plan-whole}
+use Rattle.model.specs.Theorems.Printing.Outputs.{fitted_whole, plan_whole}
 
 -- "The relaxed task is the normal table run with relaxed moves from layer 0."
 abbrev pub relaxed_task : Table → Task
@@ -138,28 +138,28 @@ unfolding prepared ready_of ready_with normal_task
 ready_normal w n bs e same state = rw (e, ready_of, same, half_double w.task.vars, state) refl
 
 -- decide's and plan's answers where the layers are built to the end
-module _ (w n : Table) (bs : List ℕ) (layers : List ℤ) (out : List ℕ) (ready-is : prepared paper (normal_bytes w.task) bs ≡ ready (relaxed_task w) (layer_zero w bs)) (built : build paper (relaxed_task w) (layer_zero w bs) (length layers) ≡ answered (end_of w bs)) where
-  pub decide-answers : decide_answer paper (normal_bytes w.task) bs layers ≡ decided (answered (end_of w bs))
+module _ (w n : Table) (bs : List ℕ) (layers : List ℤ) (out : List ℕ) (ready_is : prepared paper (normal_bytes w.task) bs ≡ ready (relaxed_task w) (layer_zero w bs)) (built : build paper (relaxed_task w) (layer_zero w bs) (length layers) ≡ answered (end_of w bs)) where
+  pub decide_answers : decide_answer paper (normal_bytes w.task) bs layers ≡ decided (answered (end_of w bs))
   unfolding decide_answer decide_of
-  decide-answers = rw (ready-is, built) refl
+  decide_answers = rw (ready_is, built) refl
 
-  abbrev planned-records : List Record
-  planned-records = plan_records (relaxed_task w) (layer_zero w bs) (answered (end_of w bs))
+  abbrev planned_records : List Record
+  planned_records = plan_records (relaxed_task w) (layer_zero w bs) (answered (end_of w bs))
 
-  module _ (fits : 10 * length planned-records ≤ length out) where
-    records-fit : length (record_bytes planned-records) ≤ length out
-    records-fit = omega (arith, length_record_bytes planned-records)
+  module _ (fits : 10 * length planned_records ≤ length out) where
+    records_fit : length (record_bytes planned_records) ≤ length out
+    records_fit = omega (arith, length_record_bytes planned_records)
 
-    pub plan-answers : plan_answer paper (normal_bytes w.task) bs layers out ≡ planned (relaxed_task w) (layer_zero w bs) (answered (end_of w bs))
+    pub plan_answers : plan_answer paper (normal_bytes w.task) bs layers out ≡ planned (relaxed_task w) (layer_zero w bs) (answered (end_of w bs))
     unfolding plan_answer plan_of
-    plan-answers =
-        ap (λ (r : Ready). plan_of paper (length layers) (length out) r) ready-is
+    plan_answers =
+        ap (λ (r : Ready). plan_of paper (length layers) (length out) r) ready_is
         ∙ ap (λ (b : Built). plan_fitted (length out) (relaxed_task w) (layer_zero w bs) b) built
-        ∙ plan-whole (length out) (relaxed_task w) (layer_zero w bs) (answered (end_of w bs)) records-fit
+        ∙ plan_whole (length out) (relaxed_task w) (layer_zero w bs) (answered (end_of w bs)) records_fit
 
-    pub plan-writes : plan_out paper (normal_bytes w.task) bs layers out ≡ overwrite (record_bytes planned-records) out
+    pub plan_writes : plan_out paper (normal_bytes w.task) bs layers out ≡ overwrite (record_bytes planned_records) out
     unfolding plan_out plan_out_of output_after
-    plan-writes =
-        ap (λ (r : Ready). plan_out_of paper (length layers) r out) ready-is
+    plan_writes =
+        ap (λ (r : Ready). plan_out_of paper (length layers) r out) ready_is
         ∙ ap (λ (b : Built). output_after (fitted (length out) (writes (record_bytes (plan_records (relaxed_task w) (layer_zero w bs) b)))) out) built
-        ∙ ap (λ (o : Output). output_after o out) (fitted-whole (length out) (record_bytes planned-records) records-fit)
+        ∙ ap (λ (o : Output). output_after o out) (fitted_whole (length out) (record_bytes planned_records) records_fit)

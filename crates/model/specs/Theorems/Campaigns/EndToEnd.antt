@@ -21,20 +21,20 @@ use Rattle.model.specs.declared.PlanAnswer.{PlanAnswer}
 use Rattle.model.specs.declared.PlanAnswer.TheVariants as plan
 use Rattle.model.specs.Theorems.Reading.WellFormed.{TaskOk}
 use Rattle.model.specs.Theorems.Laws.Booleans.{true_t}
-use Rattle.model.specs.Theorems.Printing.Outputs.{plan-cases}
+use Rattle.model.specs.Theorems.Printing.Outputs.{plan_cases}
 use Rattle.model.specs.Theorems.Layers.Relaxation.{real_solves_relaxed}
-use Rattle.model.specs.Theorems.Layers.Answer.{Answered, answered as search-answered, exhausted-no-plan, reported-bound}
-use Rattle.model.specs.Theorems.Layers.Building.{build-answers, built-outcome}
-use Rattle.model.specs.Theorems.Reading.Accepted.{reading-head, reading_task}
+use Rattle.model.specs.Theorems.Layers.Answer.{Answered, answered as search-answered, exhausted_no_plan, reported_bound}
+use Rattle.model.specs.Theorems.Layers.Building.{build_answers, built_outcome}
+use Rattle.model.specs.Theorems.Reading.Accepted.{reading_head, reading_task}
 use Rattle.model.specs.Theorems.NormalForm.Print.{normal_table, normal_accepted}
 use Rattle.model.specs.Theorems.NormalForm.Moves.{written_normal}
 use Rattle.model.specs.Theorems.NormalForm.Task.{normal_ok}
-use Rattle.model.specs.Theorems.Plans.Solving.{plan-solves}
+use Rattle.model.specs.Theorems.Plans.Solving.{plan_solves}
 use Rattle.model.specs.Theorems.Sizes.States.{SmallState, accepted_small, normal_state_small}
-use Rattle.model.specs.Theorems.Sizes.Plans.{reported-most}
-use Rattle.model.specs.Theorems.Printing.ReadBack.{plan-read, plan-bytes}
-use Rattle.model.specs.Theorems.Campaigns.Demand2.{normal_part, normalise-answers, normalise-leaves}
-use Rattle.model.specs.Theorems.Campaigns.Demand3.{relaxed_task, start_state, layer_zero, end_of, Given, records_of, decide_layers, plan_layers, Answers, ready_normal, decide-answers, plan-answers, plan-writes}
+use Rattle.model.specs.Theorems.Sizes.Plans.{reported_most}
+use Rattle.model.specs.Theorems.Printing.ReadBack.{plan_read, plan_bytes}
+use Rattle.model.specs.Theorems.Campaigns.Demand2.{normal_part, normalise_answers, normalise_leaves}
+use Rattle.model.specs.Theorems.Campaigns.Demand3.{relaxed_task, start_state, layer_zero, end_of, Given, records_of, decide_layers, plan_layers, Answers, ready_normal, decide_answers, plan_answers, plan_writes}
 
 -- different answers
 decide_differs : (m n r : ℕ) → decide.Plan m n ≡ decide.NoPlan r → ⊥
@@ -47,14 +47,14 @@ module _ (t bs normalOut : List ℕ) (layers : List ℤ) (out : List ℕ) (g : G
   w : Table
   w = g.table
 
-  okNormal : TaskOk paper normal (relaxed_task g.table)
-  okNormal = normal_ok paper g.table.task ok
+  ok_normal : TaskOk paper normal (relaxed_task g.table)
+  ok_normal = normal_ok paper g.table.task ok
 
-  ready-is : prepared paper (normal_bytes g.table.task) bs ≡ ready (relaxed_task g.table) (layer_zero g.table bs)
-  ready-is = ready_normal g.table n bs back same g.state
+  ready_is : prepared paper (normal_bytes g.table.task) bs ≡ ready (relaxed_task g.table) (layer_zero g.table bs)
+  ready_is = ready_normal g.table n bs back same g.state
 
   built : build paper (relaxed_task g.table) (layer_zero g.table bs) (length layers) ≡ answered (end_of g.table bs)
-  built = build-answers paper (relaxed_task g.table) (layer_zero g.table bs) (length layers) g.small g.layer_room
+  built = build_answers paper (relaxed_task g.table) (layer_zero g.table bs) (length layers) g.small g.layer_room
 
   start : SmallState (relaxed_task g.table).vars (layer_zero g.table bs)
   unfolding normal_task
@@ -65,15 +65,15 @@ module _ (t bs normalOut : List ℕ) (layers : List ℤ) (out : List ℕ) (g : G
       Answers g.table bs (normalise_answer paper t normalOut) nb (decide_answer paper nb bs layers) (plan_answer paper nb bs layers out)
       out (plan_out paper nb bs layers out)
 
-  decides-as : (o : Outcome) → end_of g.table bs ≡ o → decide_answer paper (normal_bytes g.table.task) bs layers ≡ decided (answered o)
-  decides-as o e = decide-answers g.table n bs layers out ready-is built ∙ ap (λ (x : Outcome). decided (answered x)) e
+  decides_as : (o : Outcome) → end_of g.table bs ≡ o → decide_answer paper (normal_bytes g.table.task) bs layers ≡ decided (answered o)
+  decides_as o e = decide_answers g.table n bs layers out ready_is built ∙ ap (λ (x : Outcome). decided (answered x)) e
 
-  plans-as :
+  plans_as :
       (o : Outcome) → end_of g.table bs ≡ o
       → plan_answer paper (normal_bytes g.table.task) bs layers out
       ≡ planned (relaxed_task g.table) (layer_zero g.table bs) (answered o)
-  plans-as o e =
-      plan-answers g.table n bs layers out ready-is built g.plan_room
+  plans_as o e =
+      plan_answers g.table n bs layers out ready_is built g.plan_room
       ∙ ap (λ (x : Outcome). planned (relaxed_task g.table) (layer_zero g.table bs) (answered x)) e
 
   writes_as :
@@ -81,43 +81,43 @@ module _ (t bs normalOut : List ℕ) (layers : List ℤ) (out : List ℕ) (g : G
       → plan_out paper (normal_bytes g.table.task) bs layers out
       ≡ overwrite (record_bytes (plan_records (relaxed_task g.table) (layer_zero g.table bs) (answered o))) out
   writes_as o e =
-      plan-writes g.table n bs layers out ready-is built g.plan_room
+      plan_writes g.table n bs layers out ready_is built g.plan_room
       ∙ ap (λ (x : Outcome). overwrite (record_bytes (plan_records (relaxed_task g.table) (layer_zero g.table bs) (answered x))) out) e
 
   -- by how the search ends
-  by-outcome : (o : Outcome) → end_of g.table bs ≡ o → Answered (relaxed_task g.table) (layer_zero g.table bs) o → Goal (normal_bytes g.table.task)
+  by_outcome : (o : Outcome) → end_of g.table bs ≡ o → Answered (relaxed_task g.table) (layer_zero g.table bs) o → Goal (normal_bytes g.table.task)
   unfolding decided planned plan_records decide_layers plan_layers reported overwrite record_bytes
-  by-outcome (reached m) e a =
+  by_outcome (reached m) e a =
       record {
-        normalise = normalise-answers t normalOut g.table g.read g.normal_room;
+        normalise = normalise_answers t normalOut g.table g.read g.normal_room;
         normal_form = refl;
         decide_no_plan = (
-          λ no_plan. absurd (decide_differs m m no_plan.layers (sym (decides-as (reached m) e) ∙ no_plan.is)),
+          λ no_plan. absurd (decide_differs m m no_plan.layers (sym (decides_as (reached m) e) ∙ no_plan.is)),
           λ none. absurd (none list solves),
         );
         plan_no_plan = (
           λ no_plan.
               absurd
               (plan_differs m m (length rs) (helpful_moves (relaxed_task g.table) (layer_zero g.table bs) m) no_plan.layers
-              (sym (plans-as (reached m) e) ∙ no_plan.is)),
+              (sym (plans_as (reached m) e) ∙ no_plan.is)),
           λ none. absurd (none list solves),
         );
-        unsolvable = λ no_plan. absurd (decide_differs m m no_plan.layers (sym (decides-as (reached m) e) ∙ no_plan.is));
-        decide_reports = ap decide_layers (decides-as (reached m) e) ∙ ap (λ (x : Outcome). some (reported x)) (sym e);
-        plan_reports = ap plan_layers (plans-as (reached m) e) ∙ ap (λ (x : Outcome). some (reported x)) (sym e);
-        not_found = λ no_plan. absurd (decide_differs m m no_plan.layers (sym (decides-as (reached m) e) ∙ no_plan.is));
+        unsolvable = λ no_plan. absurd (decide_differs m m no_plan.layers (sym (decides_as (reached m) e) ∙ no_plan.is));
+        decide_reports = ap decide_layers (decides_as (reached m) e) ∙ ap (λ (x : Outcome). some (reported x)) (sym e);
+        plan_reports = ap plan_layers (plans_as (reached m) e) ∙ ap (λ (x : Outcome). some (reported x)) (sym e);
+        not_found = λ no_plan. absurd (decide_differs m m no_plan.layers (sym (decides_as (reached m) e) ∙ no_plan.is));
         found =
             λ some-plan.
             record {
               layer = m;
               answer_layer = a;
-              decides = decides-as (reached m) e;
-              plans = plans-as (reached m) e;
+              decides = decides_as (reached m) e;
+              plans = plans_as (reached m) e;
               output = writes_as (reached m) e;
-              bytes = plan-bytes okNormal start m small most;
+              bytes = plan_bytes ok_normal start m small most;
               read =
                   ap (records_read (length rs)) (writes_as (reached m) e)
-                  ∙ plan-read okNormal start m small most (drop (length (record_bytes rs)) out);
+                  ∙ plan_read ok_normal start m small most (drop (length (record_bytes rs)) out);
               solves = solves;
             };
       }
@@ -129,45 +129,45 @@ module _ (t bs normalOut : List ℕ) (layers : List ℤ) (out : List ℕ) (g : G
       small u h = g.small u (rw e h)
 
       most : m ≤ 3201
-      most = rw e at (reported-most okNormal (layer_zero g.table bs))
+      most = rw e at (reported_most ok_normal (layer_zero g.table bs))
 
       list : List ℕ
       list = plan_list (map move_and_count rs)
 
       solves : Solves relaxed (relaxed_task g.table) (layer_zero g.table bs) list
-      solves = plan-solves okNormal (layer_zero g.table bs) m (true_t a.met)
-  by-outcome (exhausted m) e a =
+      solves = plan_solves ok_normal (layer_zero g.table bs) m (true_t a.met)
+  by_outcome (exhausted m) e a =
       record {
-        normalise = normalise-answers t normalOut g.table g.read g.normal_room;
+        normalise = normalise_answers t normalOut g.table g.read g.normal_room;
         normal_form = refl;
-        decide_no_plan = (λ no_plan. never, λ none. record { layers = m; is = decides-as (exhausted m) e });
-        plan_no_plan = (λ no_plan. never, λ none. record { layers = m; is = plans-as (exhausted m) e });
+        decide_no_plan = (λ no_plan. never, λ none. record { layers = m; is = decides_as (exhausted m) e });
+        plan_no_plan = (λ no_plan. never, λ none. record { layers = m; is = plans_as (exhausted m) e });
         unsolvable =
             λ no_plan list real-list.
             never list
-            (real_solves_relaxed okNormal (layer_zero g.table bs) list
+            (real_solves_relaxed ok_normal (layer_zero g.table bs) list
             ((written_normal g.table.task list (start_state g.table bs)).0 real-list));
-        decide_reports = ap decide_layers (decides-as (exhausted m) e) ∙ ap (λ (x : Outcome). some (reported x)) (sym e);
-        plan_reports = ap plan_layers (plans-as (exhausted m) e) ∙ ap (λ (x : Outcome). some (reported x)) (sym e);
+        decide_reports = ap decide_layers (decides_as (exhausted m) e) ∙ ap (λ (x : Outcome). some (reported x)) (sym e);
+        plan_reports = ap plan_layers (plans_as (exhausted m) e) ∙ ap (λ (x : Outcome). some (reported x)) (sym e);
         not_found =
             λ no_plan.
             record {
               layers = m;
               exhausted = a;
-              decides = decides-as (exhausted m) e;
-              plans = plans-as (exhausted m) e;
+              decides = decides_as (exhausted m) e;
+              plans = plans_as (exhausted m) e;
               kept = writes_as (exhausted m) e;
             };
-        found = λ some-plan. absurd (some-plan (record { layers = m; is = decides-as (exhausted m) e }));
+        found = λ some-plan. absurd (some-plan (record { layers = m; is = decides_as (exhausted m) e }));
       }
     where
       never : (list : List ℕ) → Solves relaxed (relaxed_task g.table) (layer_zero g.table bs) list → ⊥
-      never = exhausted-no-plan okNormal (layer_zero g.table bs) m e
+      never = exhausted_no_plan ok_normal (layer_zero g.table bs) m e
 
   whole : Goal (normal_part t normalOut (length (normal_bytes g.table.task)))
   whole =
-      subst Goal (sym (normalise-leaves t normalOut g.table g.read g.normal_room))
-      (by-outcome (end_of g.table bs) refl (search-answered okNormal (layer_zero g.table bs)))
+      subst Goal (sym (normalise_leaves t normalOut g.table g.read g.normal_room))
+      (by_outcome (end_of g.table bs) refl (search-answered ok_normal (layer_zero g.table bs)))
 
 -- DEMAND 3. For a written table and a state that are accepted, with room in every memory and no finite layer value past
 -- 1,000,000,000,000: normalise writes the normal form, and on exactly those bytes decide and plan answer "no plan" exactly when
@@ -201,19 +201,19 @@ module _ (t : List ℕ) (w : Table) (e : reading paper (only normal) t ≡ accep
         table = w;
         read = e;
         bounded =
-            rw ((reading-head paper (only normal) t e).1, (reading-head paper (only normal) t e).2, built-outcome paper w.task s size o h)
-            (reported-bound (reading_task paper normal t e) s);
+            rw ((reading_head paper (only normal) t e).1, (reading_head paper (only normal) t e).2, built_outcome paper w.task s size o h)
+            (reported_bound (reading_task paper normal t e) s);
       }
 
-  within-decided : (b : Built) → build paper w.task s size ≡ b → LayersWithin t (decide_layers (decided b))
+  within_decided : (b : Built) → build paper w.task s size ≡ b → LayersWithin t (decide_layers (decided b))
   unfolding decided decide_layers reported
-  within-decided (answered (reached m)) h = within (reached m) h
-  within-decided (answered (exhausted m)) h = within (exhausted m) h
-  within-decided (stopped n m) h = tt
+  within_decided (answered (reached m)) h = within (reached m) h
+  within_decided (answered (exhausted m)) h = within (exhausted m) h
+  within_decided (stopped n m) h = tt
 
-  within-planned : (room : ℕ) (b : Built) → build paper w.task s size ≡ b → LayersWithin t (plan_layers (plan_fitted room w.task s b))
+  within_planned : (room : ℕ) (b : Built) → build paper w.task s size ≡ b → LayersWithin t (plan_layers (plan_fitted room w.task s b))
   unfolding planned plan_layers reported
-  within-planned room b h = plan-cases room w.task s b (λ (a : PlanAnswer). LayersWithin t (plan_layers a)) (λ whole. go b h) tt
+  within_planned room b h = plan_cases room w.task s b (λ (a : PlanAnswer). LayersWithin t (plan_layers a)) (λ whole. go b h) tt
     where
       go : (b : Built) → build paper w.task s size ≡ b → LayersWithin t (plan_layers (planned w.task s b))
       go (answered (reached m)) h = within (reached m) h
@@ -227,7 +227,7 @@ pub prepared_cases :
     → ((r : Refusal) → P (unready r))
     → P (prepared paper t bs)
 unfolding prepared ready_of ready_with
-prepared_cases P t bs go back = by-verdict (reading paper (only normal) t) refl
+prepared_cases P t bs go back = by_verdict (reading paper (only normal) t) refl
   where
     by_state :
         (w : Table) → reading paper (only normal) t ≡ accepted w
@@ -236,15 +236,15 @@ prepared_cases P t bs go back = by-verdict (reading paper (only normal) t) refl
     by_state w e none f = go w e f
     by_state w e (some r) f = back r
 
-    by-verdict : (v : Verdict) → reading paper (only normal) t ≡ v → P (ready_of paper v bs)
-    by-verdict (accepted w) e = by_state w e (state_refusal paper w.task.props (w.task.vars / 2) bs) refl
-    by-verdict (refused r) e = back r
+    by_verdict : (v : Verdict) → reading paper (only normal) t ≡ v → P (ready_of paper v bs)
+    by_verdict (accepted w) e = by_state w e (state_refusal paper w.task.props (w.task.vars / 2) bs) refl
+    by_verdict (refused r) e = back r
 
 pub decide_within : (t bs : List ℕ) (layers : List ℤ) → LayersWithin t (decide_layers (decide_answer paper t bs layers))
 unfolding decide_answer decide_of decide_layers
 decide_within t bs layers =
     prepared_cases (λ (r : Ready). LayersWithin t (decide_layers (decide_of paper (length layers) r))) t bs
-    (λ w e state. within-decided t w e (layer_zero w bs) (length layers) (build paper w.task (layer_zero w bs) (length layers)) refl) (λ r. tt)
+    (λ w e state. within_decided t w e (layer_zero w bs) (length layers) (build paper w.task (layer_zero w bs) (length layers)) refl) (λ r. tt)
 
 pub plan_within :
     (t bs : List ℕ) (layers : List ℤ) (out : List ℕ) → LayersWithin t (plan_layers (plan_answer paper t bs layers out))
@@ -254,5 +254,5 @@ plan_within t bs layers out =
     (λ w e state.
     let s = layer_zero w bs in
     let b : Built = build paper w.task s (length layers) in
-    within-planned t w e s (length layers) (length out) b refl)
+    within_planned t w e s (length layers) (length out) b refl)
     (λ r. tt)

@@ -20,16 +20,16 @@ use Rattle.model.specs.Calls.{turns, result_of, moved, step_with_state, step_of,
 use Rattle.model.specs.Theorems.Reading.WellFormed.{All, TaskOk}
 use Rattle.model.specs.Theorems.Reading.Accepted.{reading_task}
 use Rattle.model.specs.Theorems.Laws.Booleans.{T_true}
-use Rattle.model.specs.Theorems.Printing.Outputs.{plan-cases}
+use Rattle.model.specs.Theorems.Printing.Outputs.{plan_cases}
 use Rattle.model.specs.Theorems.NormalForm.Moves.{normal_moves, move_applicable}
 use Rattle.model.specs.Theorems.NormalForm.Task.{normal_ok}
-use Rattle.model.specs.Theorems.Layers.Answer.{outcome-reached}
-use Rattle.model.specs.Theorems.Layers.Building.{built-outcome}
+use Rattle.model.specs.Theorems.Layers.Answer.{outcome_reached}
+use Rattle.model.specs.Theorems.Layers.Building.{built_outcome}
 use Rattle.model.specs.Theorems.Campaigns.Demand3.{relaxed_task, start_state, layer_zero, Found}
 use Rattle.model.specs.Theorems.Campaigns.EndToEnd.{prepared_cases}
-use Rattle.model.specs.Theorems.Helpful.Taken.{taken-helpful}
+use Rattle.model.specs.Theorems.Helpful.Taken.{taken_helpful}
 use Rattle.model.specs.Theorems.Helpful.NeverEmpty.{helpful_empty}
-use Rattle.model.specs.Theorems.Helpful.Meaning.{Helpful, helpful-means, helpful-applicable}
+use Rattle.model.specs.Theorems.Helpful.Meaning.{Helpful, helpful_means, helpful_applicable}
 
 -- what x, the set for answer layer m, has to be
 pub record SetRight (k : Task) (s : State) (m x : ℕ) : Type 0 where
@@ -45,9 +45,9 @@ pub record SetRight (k : Task) (s : State) (m x : ℕ) : Type 0 where
 pub set_right : {L : Limits} {k : Task} (ok : TaskOk L normal k) (s : State) (m : ℕ) → Reached k s m → SetRight k s m (helpful_moves k s m)
 set_right {L} {k} ok s m a =
     record {
-      means = helpful-means ok s m;
-      allowed = helpful-applicable ok s m;
-      taken = taken-helpful k s m;
+      means = helpful_means ok s m;
+      allowed = helpful_applicable ok s m;
+      taken = taken_helpful k s m;
       empty = helpful_empty ok s m a;
     }
 
@@ -72,45 +72,45 @@ plan_set t bs mem out =
     prepared_cases (λ (r : Ready). SetOfAnswer t bs (plan_of paper (length mem) (length out) r)) t bs
     (λ w e state.
     let b = build paper w.task (layer_zero w bs) (length mem) in
-    plan-cases (length out) w.task (layer_zero w bs) b (SetOfAnswer t bs) (λ whole. by-built w e state b refl) tt)
+    plan_cases (length out) w.task (layer_zero w bs) b (SetOfAnswer t bs) (λ whole. by_built w e state b refl) tt)
     (λ r. tt)
   where
-    by-built :
+    by_built :
         (w : Table) → reading paper (only normal) t ≡ accepted w
         → state_refusal paper w.task.props (w.task.vars / 2) bs ≡ none
         → (b : Built) → build paper w.task (layer_zero w bs) (length mem) ≡ b
         → SetOfAnswer t bs (planned w.task (layer_zero w bs) b)
-    by-built w e state (answered (reached m)) h =
+    by_built w e state (answered (reached m)) h =
         let ok = reading_task paper normal t e in
-        let a = (outcome-reached ok (layer_zero w bs) m).0 (sym (built-outcome paper w.task (layer_zero w bs) (length mem) (reached m) h)) in
+        let a = (outcome_reached ok (layer_zero w bs) m).0 (sym (built_outcome paper w.task (layer_zero w bs) (length mem) (reached m) h)) in
         record { table = w; read = e; state = state; answer_layer = a; right = set_right ok (layer_zero w bs) m a }
-    by-built w e state (answered (exhausted m)) h = refl
-    by-built w e state (stopped n m) h = tt
+    by_built w e state (answered (exhausted m)) h = refl
+    by_built w e state (stopped n m) h = tt
 
 -- ---- written tables, where demand 3 finds a plan
 
 module _ (t bs : List ℕ) {w : Table} (e : reading paper (only written) t ≡ accepted w) {d : DecideAnswer} {p : PlanAnswer} {before after : List ℕ} (f : Found w bs d p before after) {layer layers n x : ℕ} (is : p ≡ plan.Plan layer layers n x) where
   -- the set that plan answers, of the relaxed task
-  pub found-set : SetRight (relaxed_task w) (layer_zero w bs) layer x
-  found-set =
+  pub found_set : SetRight (relaxed_task w) (layer_zero w bs) layer x
+  found_set =
       let same_layer_lem : f.layer ≡ layer = cc f.plans in
       let same_set : helpful_moves (relaxed_task w) (layer_zero w bs) f.layer ≡ x = cc f.plans in
       subst₂ (SetRight (relaxed_task w) (layer_zero w bs)) same_layer_lem same_set
       (set_right (normal_ok paper w.task (reading_task paper written t e)) (layer_zero w bs) f.layer f.answer_layer)
 
   -- a helpful move's conditions hold in the written state
-  pub found-allowed : (b : ℕ) → T (bit x b) → (b < length w.task.moves) × T (applicable (start_state w bs) (move_at w.task b))
-  found-allowed b h =
-      let a = found-set.allowed b h in
+  pub found_allowed : (b : ℕ) → T (bit x b) → (b < length w.task.moves) × T (applicable (start_state w bs) (move_at w.task b))
+  found_allowed b h =
+      let a = found_set.allowed b h in
       (rw (normal_moves w.task) at a.0, subst T (move_applicable w.task b (start_state w bs)) a.1)
 
   -- so step runs it: neither 10 nor 11, and 12 only for what it gives
-  pub found-steps :
+  pub found_steps :
       (b : ℕ) → T (bit x b) → state_refusal paper w.task.props w.task.vars bs ≡ none
       → step_of paper (accepted w) bs b ≡ result_of paper w.task.props w.task.vars (real (move_at w.task b) (start_state w bs))
   unfolding step_of step_with_state moved
-  found-steps b h state =
-      let a = found-allowed b h in
+  found_steps b h state =
+      let a = found_allowed b h in
       let k = w.task in
       let s = start_state w bs in
       ap (step_with_state paper k bs b) state

@@ -13,8 +13,8 @@ use Rattle.model.specs.Layer.{Layer, reaches, usable, layer_at}
 use Rattle.model.specs.Plan.{Target, least, Wants, achieves, wants_at, reaches_new, supports, helpful, bit, helpful_moves}
 use Rattle.model.specs.Theorems.Reading.WellFormed.{Once}
 use Rattle.model.specs.Theorems.Laws.Booleans.{true_t, T_true, and_both, or_left, or_right, clash}
-use Rattle.model.specs.Theorems.Laws.Listed.{any-in}
-use Rattle.model.specs.Theorems.Laws.Sets.{set-bit}
+use Rattle.model.specs.Theorems.Laws.Listed.{any_in}
+use Rattle.model.specs.Theorems.Laws.Sets.{set_bit}
 use Rattle.model.specs.Theorems.NormalForm.Blocks.{any_implies}
 use Rattle.model.specs.Theorems.Plans.Descending.{elim_cases}
 
@@ -36,13 +36,13 @@ effect_found e (effect d ∷ b) once (inl x) =
     (λ t. ap some (sym same)) (λ other. absurd (other (subst (λ (v : ℕ). T (eqb d.var v)) (ap (λ (f : Effect). f.var) (sym same)) (eqb_refl d.var))))
 effect_found e (effect d ∷ b) once (inr i) =
     elim_cases (λ (o : Option Effect). o ≡ some e) (eqb d.var e.var) (some d) (effect_on e.var b)
-    (λ t. absurd (T_not (any (clashes (effect d)) b) once.0 (any-in (clashes (effect d)) (effect e) b i t))) (λ other. effect_found e b once.1 i)
+    (λ t. absurd (T_not (any (clashes (effect d)) b) once.0 (any_in (clashes (effect d)) (effect e) b i t))) (λ other. effect_found e b once.1 i)
 
 module _ (l : Layer) (w : Wants) where
   -- a usable move that adds a wanted proposition which the layer lacks is helpful
-  pub adder-helpful : (p : ℕ) (b : Block) → T (w.props p && not (l.has p)) → T (usable l b) → T (adds p b) → T (helpful l w b)
+  pub adder_helpful : (p : ℕ) (b : Block) → T (w.props p && not (l.has p)) → T (usable l b) → T (adds p b) → T (helpful l w b)
   unfolding helpful adds is_add supports
-  adder-helpful p b lacking enabled new =
+  adder_helpful p b lacking enabled new =
       and_both (usable l b) (any (supports l w) b) enabled (any_implies (is_add p) (supports l w) item b new)
     where
       item : (i : Item) → T (is_add p i) → T (supports l w i)
@@ -53,25 +53,25 @@ module _ (l : Layer) (w : Wants) where
       item (effect e) t = absurd t
 
   -- an effect that passes Plan's test for a target which the layer does not reach
-  pub effect-supports :
+  pub effect_supports :
       (e : Effect) (z : ℤ) → w.target e.var ≡ least z → (T (reaches (l.val e.var) z) → ⊥) → T (achieves l z (some e)) → T (supports l w (effect e))
   unfolding supports reaches_new
-  effect-supports e z target low t =
+  effect_supports e z target low t =
       subst (λ (x : Target). T (reaches_new l x e)) (sym target)
       (and_both (not (reaches (l.val e.var) z)) (achieves l z (some e)) (not_T (reaches (l.val e.var) z) low) t)
 
   -- a usable move with such an effect is helpful
-  pub achiever-helpful :
+  pub achiever_helpful :
       (v : ℕ) (z : ℤ) (b : Block) → w.target v ≡ least z → (T (reaches (l.val v) z) → ⊥)
       → T (usable l b)
       → T (achieves l z (effect_on v b))
       → T (helpful l w b)
   unfolding helpful effect_on any achieves
-  achiever-helpful v z b target low enabled achieved = and_both (usable l b) (any (supports l w) b) enabled (some_item b achieved)
+  achiever_helpful v z b target low enabled achieved = and_both (usable l b) (any (supports l w) b) enabled (some_item b achieved)
     where
       item : (e : Effect) → e.var ≡ v → T (achieves l z (some e)) → T (supports l w (effect e))
       item e at-v t =
-          effect-supports e z (subst (λ (u : ℕ). w.target u ≡ least z) (sym at-v) target)
+          effect_supports e z (subst (λ (u : ℕ). w.target u ≡ least z) (sym at-v) target)
           (subst (λ (u : ℕ). T (reaches (l.val u) z) → ⊥) (sym at-v) low) t
 
       some_item : (c : Block) → T (achieves l z (effect_on v c)) → T (any (supports l w) c)
@@ -91,4 +91,4 @@ pub in_set :
     → T (bit (helpful_moves k s (suc m)) b)
 unfolding helpful_moves move_at
 in_set k s m b lt h =
-    true_t (set-bit (helpful (layer_at k s 0) (wants_at k s (suc m) 1)) k.moves b lt ∙ T_true (helpful (layer_at k s 0) (wants_at k s (suc m) 1) (move_at k b)) h)
+    true_t (set_bit (helpful (layer_at k s 0) (wants_at k s (suc m) 1)) k.moves b lt ∙ T_true (helpful (layer_at k s 0) (wants_at k s (suc m) 1) (move_at k b)) h)

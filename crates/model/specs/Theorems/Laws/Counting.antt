@@ -31,13 +31,13 @@ step_flip false false h k l = absurd k
 
 module _ (f g : ℕ → Bool) where
   -- a weaker test is passed as often, or more often
-  pub count-mono : (n : ℕ) → ((i : ℕ) → i < n → T (f i) → T (g i)) → count f n ≤ count g n
+  pub count_mono : (n : ℕ) → ((i : ℕ) → i < n → T (f i) → T (g i)) → count f n ≤ count g n
   unfolding count
-  count-mono zero h = omega arith
-  count-mono (suc n) h = step_mono (f n) (g n) (h n (omega arith)) (count-mono n (λ i l. h i (omega arith)))
+  count_mono zero h = omega arith
+  count_mono (suc n) h = step_mono (f n) (g n) (h n (omega arith)) (count_mono n (λ i l. h i (omega arith)))
 
   -- and more often if one number passes it alone
-  pub count-grows :
+  pub count_grows :
       (n : ℕ)
       → ((i : ℕ) → i < n → T (f i) → T (g i))
       → (i : ℕ)
@@ -46,11 +46,11 @@ module _ (f g : ℕ → Bool) where
       → T (g i)
       → count f n < count g n
   unfolding count
-  count-grows zero h i l no-f yes-g = absurd (omega arith)
-  count-grows (suc n) h i l no-f yes-g =
+  count_grows zero h i l no-f yes-g = absurd (omega arith)
+  count_grows (suc n) h i l no-f yes-g =
       below_suc i n l
-      (λ k. step_strict (f n) (g n) (h n (omega arith)) (count-grows n (λ j m. h j (omega arith)) i k no-f yes-g))
-      (λ e. step_flip (f n) (g n) (rw e at no-f) (rw e at yes-g) (count-mono n (λ j k. h j (omega arith))))
+      (λ k. step_strict (f n) (g n) (h n (omega arith)) (count_grows n (λ j m. h j (omega arith)) i k no-f yes-g))
+      (λ e. step_flip (f n) (g n) (rw e at no-f) (rw e at yes-g) (count_mono n (λ j k. h j (omega arith))))
 
   -- so a weaker test passed no more often is the same test
   pub count_same :
@@ -61,7 +61,7 @@ module _ (f g : ℕ → Bool) where
       → i < n
       → T (g i)
       → T (f i)
-  count_same n h le i l yes-g = T-stable (f i) (λ no-f. omega (arith, count-grows n h i l no-f yes-g))
+  count_same n h le i l yes-g = T-stable (f i) (λ no-f. omega (arith, count_grows n h i l no-f yes-g))
 
 -- every number below n passes this test
 pub count_all : (n : ℕ) → count (λ i. true) n ≡ n
@@ -71,19 +71,19 @@ count_all (suc n) = let e : count (λ i. true) n ≡ n = count_all n in omega ar
 
 module _ (f : ℕ → Bool) where
   pub count_most : (n : ℕ) → count f n ≤ n
-  count_most n = omega (arith, count_all n, count-mono f (λ i. true) n (λ i l t. tt))
+  count_most n = omega (arith, count_all n, count_mono f (λ i. true) n (λ i l t. tt))
 
   -- fewer than n pass if one does not
-  pub count-fewer : (n i : ℕ) → i < n → (T (f i) → ⊥) → count f n < n
-  count-fewer n i l h = omega (arith, count_all n, count-grows f (λ j. true) n (λ j k t. tt) i l h tt)
+  pub count_fewer : (n i : ℕ) → i < n → (T (f i) → ⊥) → count f n < n
+  count_fewer n i l h = omega (arith, count_all n, count_grows f (λ j. true) n (λ j k t. tt) i l h tt)
 
   -- a last number that does not pass does not count
-  pub count-last : (n : ℕ) → (T (f n) → ⊥) → count f (suc n) ≡ count f n
+  pub count_last : (n : ℕ) → (T (f n) → ⊥) → count f (suc n) ≡ count f n
   unfolding count
-  count-last n h = rw (not-false (f n) h)
+  count_last n h = rw (not-false (f n) h)
 
   -- a first number that passes counts beside its successors
-  pub count-first : (n : ℕ) → T (f 0) → count (λ i. f (suc i)) n < count f (suc n)
+  pub count_first : (n : ℕ) → T (f 0) → count (λ i. f (suc i)) n < count f (suc n)
   unfolding count
-  count-first zero t = step_flip false (f 0) (λ e. e) t (omega arith)
-  count-first (suc n) t = step_strict (f (suc n)) (f (suc n)) (λ e. e) (count-first n t)
+  count_first zero t = step_flip false (f 0) (λ e. e) t (omega arith)
+  count_first (suc n) t = step_strict (f (suc n)) (f (suc n)) (λ e. e) (count_first n t)

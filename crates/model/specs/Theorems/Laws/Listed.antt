@@ -39,9 +39,9 @@ module _ {A : Type 0} (P : A → Type 0) where
   All-in (y ∷ ys) a x (inl e) = subst P (sym e) a.0
   All-in (y ∷ ys) a x (inr i) = All-in ys a.1 x i
 
-  pub in-All : (xs : List A) → ((x : A) → In x xs → P x) → All P xs
-  in-All [] f = tt
-  in-All (x ∷ xs) f = (f x (inl refl), in-All xs (λ y i. f y (inr i)))
+  pub in_all : (xs : List A) → ((x : A) → In x xs → P x) → All P xs
+  in_all [] f = tt
+  in_all (x ∷ xs) f = (f x (inl refl), in_all xs (λ y i. f y (inr i)))
 
 pub All-append :
     {A : Type 0} (P : A → Type 0) (xs ys : List A)
@@ -53,16 +53,16 @@ All-append P (x ∷ xs) ys a b = (a.0, All-append P xs ys a.1 b)
 
 -- some element passes where one in the list does; where one element alone can pass and some passes, that one is in the list
 module _ {A : Type 0} (f : A → Bool) (x : A) where
-  pub any-in : (xs : List A) → In x xs → T (f x) → T (any f xs)
+  pub any_in : (xs : List A) → In x xs → T (f x) → T (any f xs)
   unfolding any
-  any-in [] i t = absurd i
-  any-in (y ∷ ys) (inl e) t = or_left (f y) (any f ys) (subst (λ z. T (f z)) e t)
-  any-in (y ∷ ys) (inr i) t = or_right (f y) (any f ys) (any-in ys i t)
+  any_in [] i t = absurd i
+  any_in (y ∷ ys) (inl e) t = or_left (f y) (any f ys) (subst (λ z. T (f z)) e t)
+  any_in (y ∷ ys) (inr i) t = or_right (f y) (any f ys) (any_in ys i t)
 
-  pub in-any : ((y : A) → T (f y) → x ≡ y) → (xs : List A) → T (any f xs) → In x xs
+  pub in_any : ((y : A) → T (f y) → x ≡ y) → (xs : List A) → T (any f xs) → In x xs
   unfolding any
-  in-any only [] t = t
-  in-any only (y ∷ ys) t = or_cases (f y) (any f ys) t (λ h. inl (only y h)) (λ h. inr (in-any only ys h))
+  in_any only [] t = t
+  in_any only (y ∷ ys) t = or_cases (f y) (any f ys) t (λ h. inl (only y h)) (λ h. inr (in_any only ys h))
 
 -- who passed
 pub any_who : {A X : Type 0} (f : A → Bool) (xs : List A) → T (any f xs) → ((x : A) → In x xs → T (f x) → X) → X
@@ -72,14 +72,14 @@ any_who f (x ∷ xs) t g = or_cases (f x) (any f xs) t (g x (inl refl)) (λ h. a
 
 -- what f gives for i, i + 1, .. is in its table, and nothing else
 module _ {A : Type 0} (f : ℕ → A) where
-  pub in-tabulate : (i n j : ℕ) → i ≤ j → j < i + n → In (f j) (tabulate f i n)
+  pub in_tabulate : (i n j : ℕ) → i ≤ j → j < i + n → In (f j) (tabulate f i n)
   unfolding tabulate
-  in-tabulate i zero j h k = absurd (omega arith)
-  in-tabulate i (suc n) j h k =
-      below_suc i j (omega arith) (λ l. inr (in-tabulate (suc i) n j (omega arith) (omega arith))) (λ e. inl (ap f (sym e)))
+  in_tabulate i zero j h k = absurd (omega arith)
+  in_tabulate i (suc n) j h k =
+      below_suc i j (omega arith) (λ l. inr (in_tabulate (suc i) n j (omega arith) (omega arith))) (λ e. inl (ap f (sym e)))
 
-  pub tabulate-in : {X : Type 0} (x : A) (i n : ℕ) → In x (tabulate f i n) → ((j : ℕ) → j < i + n → x ≡ f j → X) → X
+  pub tabulate_in : {X : Type 0} (x : A) (i n : ℕ) → In x (tabulate f i n) → ((j : ℕ) → j < i + n → x ≡ f j → X) → X
   unfolding tabulate
-  tabulate-in x i zero t g = absurd t
-  tabulate-in x i (suc n) (inl e) g = g i (omega arith) e
-  tabulate-in x i (suc n) (inr t) g = tabulate-in x (suc i) n t (λ j h. g j (omega arith))
+  tabulate_in x i zero t g = absurd t
+  tabulate_in x i (suc n) (inl e) g = g i (omega arith) e
+  tabulate_in x i (suc n) (inr t) g = tabulate_in x (suc i) n t (λ j h. g j (omega arith))

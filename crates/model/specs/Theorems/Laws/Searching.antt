@@ -25,19 +25,19 @@ module _ {ℓ} {A : Type ℓ} (P : A → Type 0) where
   All-at (x ∷ xs) zero d a h = a.0
   All-at (x ∷ xs) (suc i) d a h = All-at xs i d a.1 (omega arith)
 
-  pub at-All : (xs : List A) (d : A) → ((i : ℕ) → i < length xs → P (get_or xs i d)) → All P xs
-  at-All [] d f = tt
-  at-All (x ∷ xs) d f = (f zero (omega arith), at-All xs d (λ i h. f (suc i) (omega arith)))
+  pub at_all : (xs : List A) (d : A) → ((i : ℕ) → i < length xs → P (get_or xs i d)) → All P xs
+  at_all [] d f = tt
+  at_all (x ∷ xs) d f = (f zero (omega arith), at_all xs d (λ i h. f (suc i) (omega arith)))
 
 pub All-map {ℓ} : {A : Type ℓ} {P Q : A → Type 0} (xs : List A) → ((x : A) → P x → Q x) → All P xs → All Q xs
 All-map [] f a = tt
 All-map (x ∷ xs) f a = (f x a.0, All-map xs f a.1)
 
 module _ {A : Type 0} (f : A → Bool) where
-  pub all-All : (xs : List A) → T (all f xs) → All (λ x. T (f x)) xs
+  pub all_all : (xs : List A) → T (all f xs) → All (λ x. T (f x)) xs
   unfolding all
-  all-All [] t = tt
-  all-All (x ∷ xs) t = (and_left (f x) (all f xs) t, all-All xs (and_right (f x) (all f xs) t))
+  all_all [] t = tt
+  all_all (x ∷ xs) t = (and_left (f x) (all f xs) t, all_all xs (and_right (f x) (all f xs) t))
 
   pub All-all : (xs : List A) → All (λ x. T (f x)) xs → T (all f xs)
   unfolding all
@@ -45,15 +45,15 @@ module _ {A : Type 0} (f : A → Bool) where
   All-all (x ∷ xs) a = and_both (f x) (all f xs) a.0 (All-all xs a.1)
 
   -- who passed
-  pub any-cases :
+  pub any_cases :
       {X : Type 0} (xs : List A) (d : A)
       → T (any f xs)
       → ((i : ℕ) → i < length xs → T (f (get_or xs i d)) → X)
       → X
   unfolding any
-  any-cases [] d t g = absurd t
-  any-cases (x ∷ xs) d t g =
-      or_cases (f x) (any f xs) t (λ h. g zero (omega arith) h) (λ h. any-cases xs d h (λ i k. g (suc i) (omega arith)))
+  any_cases [] d t g = absurd t
+  any_cases (x ∷ xs) d t g =
+      or_cases (f x) (any f xs) t (λ h. g zero (omega arith) h) (λ h. any_cases xs d h (λ i k. g (suc i) (omega arith)))
 
   pub any_at : (xs : List A) (d : A) (i : ℕ) → i < length xs → T (f (get_or xs i d)) → T (any f xs)
   unfolding any
@@ -62,56 +62,56 @@ module _ {A : Type 0} (f : A → Bool) where
   any_at (x ∷ xs) d (suc i) h t = or_right (f x) (any f xs) (any_at xs d i (omega arith) t)
 
 module _ (f : ℕ → Bool) where
-  pub allBelow-at : (n : ℕ) → T (all_below f n) → (i : ℕ) → i < n → T (f i)
+  pub all_below_at : (n : ℕ) → T (all_below f n) → (i : ℕ) → i < n → T (f i)
   unfolding all_below
-  allBelow-at zero t i h = absurd (not-suc-le-zero h)
-  allBelow-at (suc n) t i h =
-      below_suc i n h (allBelow-at n (and_left (all_below f n) (f n) t) i)
+  all_below_at zero t i h = absurd (not-suc-le-zero h)
+  all_below_at (suc n) t i h =
+      below_suc i n h (all_below_at n (and_left (all_below f n) (f n) t) i)
       (λ e. subst (λ (j : ℕ). T (f j)) (sym e) (and_right (all_below f n) (f n) t))
 
-  pub at-allBelow : (n : ℕ) → ((i : ℕ) → i < n → T (f i)) → T (all_below f n)
+  pub at_all_below : (n : ℕ) → ((i : ℕ) → i < n → T (f i)) → T (all_below f n)
   unfolding all_below
-  at-allBelow zero g = tt
-  at-allBelow (suc n) g = and_both (all_below f n) (f n) (at-allBelow n (λ i h. g i (omega arith))) (g n (omega arith))
+  at_all_below zero g = tt
+  at_all_below (suc n) g = and_both (all_below f n) (f n) (at_all_below n (λ i h. g i (omega arith))) (g n (omega arith))
 
   -- where not all pass, one fails
-  pub allBelow-fails : {X : Type 0} (n : ℕ) → (T (all_below f n) → ⊥) → ((i : ℕ) → i < n → (T (f i) → ⊥) → X) → X
+  pub all_below_fails : {X : Type 0} (n : ℕ) → (T (all_below f n) → ⊥) → ((i : ℕ) → i < n → (T (f i) → ⊥) → X) → X
   unfolding all_below
-  allBelow-fails zero no_all g = absurd (no_all tt)
-  allBelow-fails (suc n) no_all g =
+  all_below_fails zero no_all g = absurd (no_all tt)
+  all_below_fails (suc n) no_all g =
       T-cases (f n)
-      (λ yes-n. allBelow-fails n (λ t. no_all (and_both (all_below f n) (f n) t yes-n)) (λ i h. g i (omega arith)))
+      (λ yes-n. all_below_fails n (λ t. no_all (and_both (all_below f n) (f n) t yes-n)) (λ i h. g i (omega arith)))
       (λ no-n. g n (omega arith) no-n)
 
-  pub anyBelow-cases : {X : Type 0} (n : ℕ) → T (any_below f n) → ((i : ℕ) → i < n → T (f i) → X) → X
+  pub any_below_cases : {X : Type 0} (n : ℕ) → T (any_below f n) → ((i : ℕ) → i < n → T (f i) → X) → X
   unfolding any_below
-  anyBelow-cases zero t g = absurd t
-  anyBelow-cases (suc n) t g =
-      or_cases (any_below f n) (f n) t (λ h. anyBelow-cases n h (λ i k. g i (omega arith))) (λ h. g n (omega arith) h)
+  any_below_cases zero t g = absurd t
+  any_below_cases (suc n) t g =
+      or_cases (any_below f n) (f n) t (λ h. any_below_cases n h (λ i k. g i (omega arith))) (λ h. g n (omega arith) h)
 
-  pub anyBelow-at : (n : ℕ) (i : ℕ) → i < n → T (f i) → T (any_below f n)
+  pub any_below_at : (n : ℕ) (i : ℕ) → i < n → T (f i) → T (any_below f n)
   unfolding any_below
-  anyBelow-at zero i h t = absurd (not-suc-le-zero h)
-  anyBelow-at (suc n) i h t =
-      below_suc i n h (λ k. or_left (any_below f n) (f n) (anyBelow-at n i k t))
+  any_below_at zero i h t = absurd (not-suc-le-zero h)
+  any_below_at (suc n) i h t =
+      below_suc i n h (λ k. or_left (any_below f n) (f n) (any_below_at n i k t))
       (λ e. or_right (any_below f n) (f n) (subst (λ (j : ℕ). T (f j)) e t))
 
   -- the first that passes is found, or none of the n passes
-  pub firstFrom-cases :
+  pub first_from_cases :
       (P : Option ℕ → Type 0) (i n : ℕ)
       → ((j : ℕ) → i ≤ j → j < i + n → T (f j) → ((u : ℕ) → i ≤ u → u < j → T (f u) → ⊥) → P (some j))
       → (((u : ℕ) → i ≤ u → u < i + n → T (f u) → ⊥) → P none)
       → P (first_from f i n)
   unfolding first_from
-  firstFrom-cases P i zero found nothing = nothing (λ u h k t. omega arith)
-  firstFrom-cases P i (suc n) found nothing =
-      go (f i) (λ t. t) (λ no-i. firstFrom-cases P (suc i) n (found-later no-i) (none-later no-i))
+  first_from_cases P i zero found nothing = nothing (λ u h k t. omega arith)
+  first_from_cases P i (suc n) found nothing =
+      go (f i) (λ t. t) (λ no-i. first_from_cases P (suc i) n (found_later no-i) (none_later no-i))
     where
       past : (T (f i) → ⊥) → (u : ℕ) → i ≤ u → (i < u → T (f u) → ⊥) → T (f u) → ⊥
       past no-i u h after t =
           below_suc i u (omega arith) (λ k. after k t) (λ e. no-i (subst (λ (j : ℕ). T (f j)) (sym e) t))
 
-      found-later :
+      found_later :
           (T (f i) → ⊥)
           → (j : ℕ)
           → suc i ≤ j
@@ -119,10 +119,10 @@ module _ (f : ℕ → Bool) where
           → T (f j)
           → ((u : ℕ) → suc i ≤ u → u < j → T (f u) → ⊥)
           → P (some j)
-      found-later no-i j h k t before = found j (omega arith) (omega arith) t (λ u a b. past no-i u a (λ c. before u c b))
+      found_later no-i j h k t before = found j (omega arith) (omega arith) t (λ u a b. past no-i u a (λ c. before u c b))
 
-      none-later : (T (f i) → ⊥) → ((u : ℕ) → suc i ≤ u → u < suc i + n → T (f u) → ⊥) → P none
-      none-later no-i after = nothing (λ u a b. past no-i u a (λ c. after u c (omega arith)))
+      none_later : (T (f i) → ⊥) → ((u : ℕ) → suc i ≤ u → u < suc i + n → T (f u) → ⊥) → P none
+      none_later no-i after = nothing (λ u a b. past no-i u a (λ c. after u c (omega arith)))
 
       go :
           (b : Bool)
@@ -141,37 +141,37 @@ pub searched_start : (f : ℕ → Bool) (n : ℕ) → Searched f n 0
 searched_start f n = record { within = omega arith; same = ap (first_from f 0) (omega arith) }
 
 module _ {f : ℕ → Bool} {n i : ℕ} (s : Searched f n i) where
-  pub searched-next : i < n → f i ≡ false → Searched f n (i + 1)
+  pub searched_next : i < n → f i ≡ false → Searched f n (i + 1)
   unfolding first_from
-  searched-next h t =
+  searched_next h t =
       let e : n - i ≡ suc (n - (i + 1)) = omega arith in
       record { within = omega arith; same = s.same ∙ rw (e, first_from, t, add-one i) refl }
 
-  pub searched-found : i < n → f i ≡ true → first_from f 0 n ≡ some i
+  pub searched_found : i < n → f i ≡ true → first_from f 0 n ≡ some i
   unfolding first_from
-  searched-found h t = let e : n - i ≡ suc (n - suc i) = omega arith in s.same ∙ rw (e, first_from, t) refl
+  searched_found h t = let e : n - i ≡ suc (n - suc i) = omega arith in s.same ∙ rw (e, first_from, t) refl
 
-  pub searched-all : n ≤ i → first_from f 0 n ≡ none
+  pub searched_all : n ≤ i → first_from f 0 n ≡ none
   unfolding first_from
-  searched-all h = let e : n - i ≡ 0 = omega arith in s.same ∙ rw e refl
+  searched_all h = let e : n - i ≡ 0 = omega arith in s.same ∙ rw e refl
 
 module _ {A : Type 0} (f : ℕ → A → A) where
   -- what each step keeps, the fold keeps
-  pub foldBelow-induction :
+  pub fold_below_induction :
       (P : ℕ → A → Type 0) (n : ℕ) (a : A)
       → P zero a
       → ((i : ℕ) (x : A) → i < n → P i x → P (suc i) (f i x))
       → P n (fold_below f n a)
   unfolding fold_below
-  foldBelow-induction P zero a start step = start
-  foldBelow-induction P (suc n) a start step =
-      step n (fold_below f n a) (omega arith) (foldBelow-induction P n a start (λ i x h. step i x (omega arith)))
+  fold_below_induction P zero a start step = start
+  fold_below_induction P (suc n) a start step =
+      step n (fold_below f n a) (omega arith) (fold_below_induction P n a start (λ i x h. step i x (omega arith)))
 
 module _ {A : Type 0} (f : ℕ → A) where
-  pub length-tabulate : (i n : ℕ) → length (tabulate f i n) ≡ n
+  pub length_tabulate : (i n : ℕ) → length (tabulate f i n) ≡ n
   unfolding tabulate
-  length-tabulate i zero = refl
-  length-tabulate i (suc n) = ap suc (length-tabulate (suc i) n)
+  length_tabulate i zero = refl
+  length_tabulate i (suc n) = ap suc (length_tabulate (suc i) n)
 
   pub get_d_tabulate : (i n j : ℕ) (d : A) → j < n → get_or (tabulate f i n) j d ≡ f (i + j)
   unfolding tabulate

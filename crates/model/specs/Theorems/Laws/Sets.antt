@@ -33,17 +33,17 @@ is_one false = refl
 
 module _ (f : Block → Bool) where
   -- no bit is set beyond the list
-  pub set-small : (bs : List Block) → set_of f bs < 2 ^ length bs
+  pub set_small : (bs : List Block) → set_of f bs < 2 ^ length bs
   unfolding set_of
-  set-small [] = omega arith
-  set-small (b ∷ bs) = omega (arith, set-small bs, one (f b), pow-succ' 2 (length bs))
+  set_small [] = omega arith
+  set_small (b ∷ bs) = omega (arith, set_small bs, one (f b), pow-succ' 2 (length bs))
 
   -- bit i says whether the block at place i passes,
-  pub set-bit : (bs : List Block) (i : ℕ) → i < length bs → bit (set_of f bs) i ≡ f (get_or bs i [])
+  pub set_bit : (bs : List Block) (i : ℕ) → i < length bs → bit (set_of f bs) i ≡ f (get_or bs i [])
   unfolding set_of
-  set-bit [] i h = absurd (omega arith)
-  set-bit (b ∷ bs) zero h = bit_low (cond (f b) 1 0) (set_of f bs) (one (f b)) ∙ is_one (f b)
-  set-bit (b ∷ bs) (suc i) h = bit_high (cond (f b) 1 0) (set_of f bs) i (one (f b)) ∙ set-bit bs i (omega arith)
+  set_bit [] i h = absurd (omega arith)
+  set_bit (b ∷ bs) zero h = bit_low (cond (f b) 1 0) (set_of f bs) (one (f b)) ∙ is_one (f b)
+  set_bit (b ∷ bs) (suc i) h = bit_high (cond (f b) 1 0) (set_of f bs) i (one (f b)) ∙ set_bit bs i (omega arith)
 
   -- and is not set where no block stands
   pub set_beyond : (bs : List Block) (i : ℕ) → length bs ≤ i → bit (set_of f bs) i ≡ false

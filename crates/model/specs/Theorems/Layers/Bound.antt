@@ -14,82 +14,82 @@ use Rattle.model.specs.Theorems.Reading.WellFormed.{TaskOk}
 use Rattle.model.specs.Theorems.Layers.Order.{is_below, ⊑_trans, ◌≼◌, usable_mono}
 use Rattle.model.specs.Theorems.Layers.NextLayer.{next_above, move_ok, layer_mono}
 use Rattle.model.specs.Theorems.Layers.Settled.{unsettled_cases}
-use Rattle.model.specs.Theorems.Laws.Counting.{count, count-mono, count_same, count_most}
-use Rattle.model.specs.Theorems.Layers.Quiet.{after, Quiet, quiet-closed}
+use Rattle.model.specs.Theorems.Laws.Counting.{count, count_mono, count_same, count_most}
+use Rattle.model.specs.Theorems.Layers.Quiet.{after, Quiet, quiet_closed}
 
 -- ---- the potential: the number of usable moves and unbounded variables
 
 module _ (k : Task) (l : Layer) where
   -- are move b's conditions met, is variable v unbounded
-  abbrev usableMove : ℕ → Bool
-  usableMove b = usable l (get_or k.moves b [])
+  abbrev usable_move : ℕ → Bool
+  usable_move b = usable l (get_or k.moves b [])
 
-  abbrev unboundedVar : ℕ → Bool
-  unboundedVar v = is_below unbounded (l.val v)
+  abbrev unbounded_var : ℕ → Bool
+  unbounded_var v = is_below unbounded (l.val v)
 
   unfoldable pub potential : ℕ
-  potential = count usableMove (length k.moves) + count unboundedVar k.vars
+  potential = count usable_move (length k.moves) + count unbounded_var k.vars
 
 module _ {L : Limits} {k : Task} (ok : TaskOk L normal k) where
   module _ {l m : Layer} (above : l ≼ m) where
-    more-moves : (b : ℕ) → b < length k.moves → T (usableMove k l b) → T (usableMove k m b)
-    more-moves b h t = usable_mono (move_ok ok b h) above t
+    more_moves : (b : ℕ) → b < length k.moves → T (usable_move k l b) → T (usable_move k m b)
+    more_moves b h t = usable_mono (move_ok ok b h) above t
 
-    more-vars : (v : ℕ) → v < k.vars → T (unboundedVar k l v) → T (unboundedVar k m v)
-    more-vars v h t = (⊑_trans {x = unbounded} {y = l.val v} (record { below = t }) (above.val v)).below
+    more_vars : (v : ℕ) → v < k.vars → T (unbounded_var k l v) → T (unbounded_var k m v)
+    more_vars v h t = (⊑_trans {x = unbounded} {y = l.val v} (record { below = t }) (above.val v)).below
 
-    moves-mono : count (usableMove k l) (length k.moves) ≤ count (usableMove k m) (length k.moves)
-    moves-mono = count-mono (usableMove k l) (usableMove k m) (length k.moves) more-moves
+    moves_mono : count (usable_move k l) (length k.moves) ≤ count (usable_move k m) (length k.moves)
+    moves_mono = count_mono (usable_move k l) (usable_move k m) (length k.moves) more_moves
 
-    vars-mono : count (unboundedVar k l) k.vars ≤ count (unboundedVar k m) k.vars
-    vars-mono = count-mono (unboundedVar k l) (unboundedVar k m) k.vars more-vars
+    vars_mono : count (unbounded_var k l) k.vars ≤ count (unbounded_var k m) k.vars
+    vars_mono = count_mono (unbounded_var k l) (unbounded_var k m) k.vars more_vars
 
-    potential-mono : potential k l ≤ potential k m
+    potential_mono : potential k l ≤ potential k m
     unfolding potential
-    potential-mono = omega (arith, moves-mono, vars-mono)
+    potential_mono = omega (arith, moves_mono, vars_mono)
 
     -- where it does not rise, no move is new and no variable
-    same-moves :
+    same_moves :
         potential k m ≤ potential k l
         → (b : ℕ)
         → b < length k.moves
-        → T (usableMove k m b)
-        → T (usableMove k l b)
+        → T (usable_move k m b)
+        → T (usable_move k l b)
     unfolding potential
-    same-moves flat =
-        count_same (usableMove k l) (usableMove k m) (length k.moves) more-moves (omega (arith, flat, moves-mono, vars-mono))
+    same_moves flat =
+        count_same (usable_move k l) (usable_move k m) (length k.moves) more_moves (omega (arith, flat, moves_mono, vars_mono))
 
-    same-vars :
+    same_vars :
         potential k m ≤ potential k l
         → (v : ℕ)
         → v < k.vars
-        → T (unboundedVar k m v)
-        → T (unboundedVar k l v)
+        → T (unbounded_var k m v)
+        → T (unbounded_var k l v)
     unfolding potential
-    same-vars flat =
-        count_same (unboundedVar k l) (unboundedVar k m) k.vars more-vars (omega (arith, flat, moves-mono, vars-mono))
+    same_vars flat =
+        count_same (unbounded_var k l) (unbounded_var k m) k.vars more_vars (omega (arith, flat, moves_mono, vars_mono))
 
   -- a step that does not raise the potential is quiet
-  flat-quiet : (l : Layer) → potential k (after k l) ≤ potential k l → Quiet k l
-  flat-quiet l flat =
+  flat_quiet : (l : Layer) → potential k (after k l) ≤ potential k l → Quiet k l
+  flat_quiet l flat =
       let above = next_above k.moves l in
       record {
-        moves = same-moves above flat;
-        vars = λ v h u. record { below = same-vars above flat v h u.below };
+        moves = same_moves above flat;
+        vars = λ v h u. record { below = same_vars above flat v h u.below };
       }
 
-  potential-most : (l : Layer) → potential k l ≤ length k.moves + k.vars
+  potential_most : (l : Layer) → potential k l ≤ length k.moves + k.vars
   unfolding potential
-  potential-most l = omega (arith, count_most (usableMove k l) (length k.moves), count_most (unboundedVar k l) k.vars)
+  potential_most l = omega (arith, count_most (usable_move k l) (length k.moves), count_most (unbounded_var k l) k.vars)
 
   module _ (s : State) where
     -- the potential of layer t
     abbrev level : ℕ → ℕ
     level t = potential k (layer_at k s t)
 
-    level-mono : {t u : ℕ} → t ≤ u → level t ≤ level u
+    level_mono : {t u : ℕ} → t ≤ u → level t ≤ level u
     unfolding layer_at
-    level-mono {t} {u} h = potential-mono (layer_mono k.moves s h)
+    level_mono {t} {u} h = potential_mono (layer_mono k.moves s h)
 
     -- N + 1 steps raise it if the layer that they lead to is not settled
     grows : (a : ℕ) → settled k s (a + suc k.vars) ≡ false → level a < level (a + suc k.vars)
@@ -105,8 +105,8 @@ module _ {L : Limits} {k : Task} (ok : TaskOk L normal k) where
 
         closed : level b ≤ level a → layer_at k s (suc b) ≼ layer_at k s b
         closed flat =
-            quiet-closed ok s a
-            (λ t from to. flat-quiet (layer_at k s t) (omega (arith, flat, level-mono from, level-mono to)))
+            quiet_closed ok s a
+            (λ t from to. flat_quiet (layer_at k s t) (omega (arith, flat, level_mono from, level_mono to)))
 
     -- so it is at least j after j (N + 1) steps
     climbs :
@@ -123,12 +123,12 @@ module _ {L : Limits} {k : Task} (ok : TaskOk L normal k) where
         (omega (arith, climbs n unsettled j (omega arith), grows here (unsettled (here + suc k.vars) next_one)))
 
     -- Only (A + N + 1) × (N + 1) layers can come before the first "next layer equal to layer t", so building ends.
-    pub layers-bound : (n : ℕ) → ((t : ℕ) → t < n → settled k s t ≡ false) → n ≤ bound (length k.moves) k.vars
+    pub layers_bound : (n : ℕ) → ((t : ℕ) → t < n → settled k s t ≡ false) → n ≤ bound (length k.moves) k.vars
     unfolding bound
-    layers-bound n unsettled =
+    layers_bound n unsettled =
         rw (add-one k.vars)
         (le_of_suc-le-suc
-        (lt_of_not-le (λ h. omega (arith, climbs n unsettled most h, potential-most (layer_at k s (most * suc k.vars))))))
+        (lt_of_not-le (λ h. omega (arith, climbs n unsettled most h, potential_most (layer_at k s (most * suc k.vars))))))
       where
         most : ℕ
         most = length k.moves + k.vars + 1

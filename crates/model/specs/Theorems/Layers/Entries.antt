@@ -11,7 +11,7 @@ use Rattle.integer.specs.Linear.{le_lt_z, pos_mono}
 use Rattle.model.specs.Lists.{first_from}
 use Rattle.model.specs.Memory.{entry}
 use Rattle.model.specs.Theorems.Laws.Booleans.{true_t, not-false, false_not, T-cases, T-equal, and_right, and_both}
-use Rattle.model.specs.Theorems.Laws.Searching.{firstFrom-cases}
+use Rattle.model.specs.Theorems.Laws.Searching.{first_from_cases}
 
 -- an entry after one more layer, t: filled if it was empty and the layer has it
 unfoldable pub noted : ℤ → Bool → ℕ → ℤ
@@ -30,20 +30,20 @@ module _ (f : ℕ → Bool) where
 
   pub first_found : (n j : ℕ) → j < n → T (f j) → ((u : ℕ) → u < j → T (f u) → ⊥) → first_from f 0 n ≡ some j
   first_found n j h t before =
-      firstFrom-cases f (λ (o : Option ℕ). o ≡ some j) 0 n
+      first_from_cases f (λ (o : Option ℕ). o ≡ some j) 0 n
       (λ i low high ti before-i. ap some (same_first i j ti t (λ u. before-i u (omega arith)) before))
       (λ never. absurd (never j (omega arith) (omega arith) t))
 
-  pub first-missing : (n : ℕ) → ((u : ℕ) → u < n → T (f u) → ⊥) → first_from f 0 n ≡ none
-  first-missing n never =
-      firstFrom-cases f (λ (o : Option ℕ). o ≡ none) 0 n
+  pub first_missing : (n : ℕ) → ((u : ℕ) → u < n → T (f u) → ⊥) → first_from f 0 n ≡ none
+  first_missing n never =
+      first_from_cases f (λ (o : Option ℕ). o ≡ none) 0 n
       (λ i low high ti before-i. absurd (never i (omega arith) ti)) (λ None-passes. refl)
 
   -- the entry of n + 1 layers from that of n
   pub entry_next : (n : ℕ) → entry (first_from f 0 (suc n)) ≡ noted (entry (first_from f 0 n)) (f n) n
   unfolding entry noted
   entry_next n =
-      firstFrom-cases f (λ (o : Option ℕ). entry (first_from f 0 (suc n)) ≡ noted (entry o) (f n) n) 0 n
+      first_from_cases f (λ (o : Option ℕ). entry (first_from f 0 (suc n)) ≡ noted (entry o) (f n) n) 0 n
       (λ i low high ti before-i.
       ap entry (first_found (suc n) i (omega arith) ti (λ u h. before-i u (omega arith) h))
       ∙ sym (filled i))
@@ -60,7 +60,7 @@ module _ (f : ℕ → Bool) where
       go never true e = ap entry (first_found (suc n) n (omega arith) (true_t e) (λ u h. never u (omega arith) (omega arith)))
       go never false e =
           ap entry
-          (first-missing (suc n) (λ u h t.
+          (first_missing (suc n) (λ u h t.
           T-cases (ltb u n) (λ less. never u (omega arith) (omega (arith, ltb→lt u n less)) t)
           (λ not_less.
           let k : n ≤ u = nltb→le u n (not_T (ltb u n) not_less) in
@@ -68,14 +68,14 @@ module _ (f : ℕ → Bool) where
           false_not e (subst (λ (x : ℕ). T (f x)) same t))))
 
   -- what has been had once is had from then on: then an entry tells each layer
-  pub entry-says :
+  pub entry_says :
       ((t u : ℕ) → t ≤ u → T (f t) → T (f u))
       → (n t : ℕ)
       → t < n
       → f t ≡ (le_z (pos 0) (entry (first_from f 0 n)) && le_z (entry (first_from f 0 n)) (pos t))
   unfolding entry
-  entry-says mono n t h =
-      firstFrom-cases f (λ (o : Option ℕ). f t ≡ (le_z (pos 0) (entry o) && le_z (entry o) (pos t))) 0 n
+  entry_says mono n t h =
+      first_from_cases f (λ (o : Option ℕ). f t ≡ (le_z (pos 0) (entry o) && le_z (entry o) (pos t))) 0 n
       (λ i low high ti before-i.
       T-equal (f t) (le_z (pos 0) (pos i) && le_z (pos i) (pos t))
       (λ had.

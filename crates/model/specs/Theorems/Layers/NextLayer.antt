@@ -12,7 +12,7 @@ use Rattle.model.specs.Move.{State}
 use Rattle.model.specs.Layer.{Value, unbounded, Layer, reaches, usable, layer_value, offer, offered, gained, raised, next, layer}
 use Rattle.model.specs.Theorems.Reading.WellFormed.{All, EffectOk, ItemOk, BlockOk, TaskOk}
 use Rattle.model.specs.Theorems.Laws.Booleans.{and_left, and_right, and_both, or_left, or_right, or_cases, cond_cases}
-use Rattle.model.specs.Theorems.Laws.Searching.{below_suc, All-at, any-cases, any_at}
+use Rattle.model.specs.Theorems.Laws.Searching.{below_suc, All-at, any_cases, any_at}
 use Rattle.model.specs.Theorems.Layers.Order.{◌⊑◌, ⊑_refl, ⊑_trans, ⊑-unbounded, reaches_mono, highest_cases, highest_left, highest_right, ◌≼◌, ≼_refl, ≼_trans, layer_value_mono, usable_mono}
 
 -- ---- a block's effect on a variable
@@ -40,58 +40,58 @@ effect_on_cases P Q v (effect e ∷ b) a f g = go (eqb e.var v) (eqb→eq e.var 
 
 module _ (l : Layer) (v : ℕ) where
   -- what a move offers v
-  abbrev pub offerOf : Block → Value
-  offerOf m = offered l v (effect_on v m)
+  abbrev pub offer_of : Block → Value
+  offer_of m = offered l v (effect_on v m)
 
-  pub raised-cases :
+  pub raised_cases :
       (P : Value → Type 0) (ms : List Block)
       → P (l.val v)
-      → ((b : ℕ) → b < length ms → T (usable l (get_or ms b [])) → P (offerOf (get_or ms b [])))
+      → ((b : ℕ) → b < length ms → T (usable l (get_or ms b [])) → P (offer_of (get_or ms b [])))
       → P (raised l v ms)
   unfolding raised
-  raised-cases P [] old new = old
-  raised-cases P (m ∷ ms) old new =
-      highest_cases P (cond (usable l m) (offerOf m) (l.val v)) (raised l v ms)
-      (λ h. cond_cases P (usable l m) (offerOf m) (l.val v) (λ t. new zero (omega arith) t) (λ t. old))
-      (λ h. raised-cases P ms old (λ b h. new (suc b) (omega arith)))
+  raised_cases P [] old new = old
+  raised_cases P (m ∷ ms) old new =
+      highest_cases P (cond (usable l m) (offer_of m) (l.val v)) (raised l v ms)
+      (λ h. cond_cases P (usable l m) (offer_of m) (l.val v) (λ t. new zero (omega arith) t) (λ t. old))
+      (λ h. raised_cases P ms old (λ b h. new (suc b) (omega arith)))
 
-  pub raised-old : (ms : List Block) → l.val v ⊑ raised l v ms
+  pub raised_old : (ms : List Block) → l.val v ⊑ raised l v ms
   unfolding raised
-  raised-old [] = ⊑_refl (l.val v)
-  raised-old (m ∷ ms) = ⊑_trans (raised-old ms) (highest_right (cond (usable l m) (offerOf m) (l.val v)) (raised l v ms))
+  raised_old [] = ⊑_refl (l.val v)
+  raised_old (m ∷ ms) = ⊑_trans (raised_old ms) (highest_right (cond (usable l m) (offer_of m) (l.val v)) (raised l v ms))
 
-  pub raised-offer :
+  pub raised_offer :
       (ms : List Block) (b : ℕ)
       → b < length ms
       → T (usable l (get_or ms b []))
-      → offerOf (get_or ms b []) ⊑ raised l v ms
+      → offer_of (get_or ms b []) ⊑ raised l v ms
   unfolding raised
-  raised-offer [] b h t = absurd (not-suc-le-zero h)
-  raised-offer (m ∷ ms) zero h t =
+  raised_offer [] b h t = absurd (not-suc-le-zero h)
+  raised_offer (m ∷ ms) zero h t =
       ⊑_trans
-      (cond_cases (λ x. offerOf m ⊑ x) (usable l m) (offerOf m) (l.val v) (λ u. ⊑_refl (offerOf m)) (λ u. absurd (u t)))
-      (highest_left (cond (usable l m) (offerOf m) (l.val v)) (raised l v ms))
-  raised-offer (m ∷ ms) (suc b) h t =
-      ⊑_trans (raised-offer ms b (omega arith) t) (highest_right (cond (usable l m) (offerOf m) (l.val v)) (raised l v ms))
+      (cond_cases (λ x. offer_of m ⊑ x) (usable l m) (offer_of m) (l.val v) (λ u. ⊑_refl (offer_of m)) (λ u. absurd (u t)))
+      (highest_left (cond (usable l m) (offer_of m) (l.val v)) (raised l v ms))
+  raised_offer (m ∷ ms) (suc b) h t =
+      ⊑_trans (raised_offer ms b (omega arith) t) (highest_right (cond (usable l m) (offer_of m) (l.val v)) (raised l v ms))
 
-  pub raised-least :
+  pub raised_least :
       {x : Value} (ms : List Block)
       → l.val v ⊑ x
-      → ((b : ℕ) → b < length ms → T (usable l (get_or ms b [])) → offerOf (get_or ms b []) ⊑ x)
+      → ((b : ℕ) → b < length ms → T (usable l (get_or ms b [])) → offer_of (get_or ms b []) ⊑ x)
       → raised l v ms ⊑ x
-  raised-least {x} ms old new = raised-cases (λ y. y ⊑ x) ms old new
+  raised_least {x} ms old new = raised_cases (λ y. y ⊑ x) ms old new
 
 -- ---- the propositions that the next layer gains
 
 module _ (l : Layer) (p : ℕ) where
-  pub gained-cases :
+  pub gained_cases :
       {X : Type 0} (ms : List Block)
       → T (gained l p ms)
       → ((b : ℕ) → b < length ms → T (usable l (get_or ms b [])) → T (adds p (get_or ms b [])) → X)
       → X
   unfolding gained
-  gained-cases ms t f =
-      any-cases (λ m. usable l m && adds p m) ms [] t
+  gained_cases ms t f =
+      any_cases (λ m. usable l m && adds p m) ms [] t
       (λ b h both. f b h (and_left (can b) (adding b) both) (and_right (can b) (adding b) both))
     where
       can : ℕ → Bool
@@ -100,21 +100,21 @@ module _ (l : Layer) (p : ℕ) where
       adding : ℕ → Bool
       adding b = adds p (get_or ms b [])
 
-  pub gained-at :
+  pub gained_at :
       (ms : List Block) (b : ℕ)
       → b < length ms
       → T (usable l (get_or ms b []))
       → T (adds p (get_or ms b []))
       → T (gained l p ms)
   unfolding gained
-  gained-at ms b h u a =
+  gained_at ms b h u a =
       any_at (λ m. usable l m && adds p m) ms [] b h (and_both (usable l (get_or ms b [])) (adds p (get_or ms b [])) u a)
 
 -- ---- the next layer
 
 pub next_above : (ms : List Block) (l : Layer) → l ≼ next ms l
 unfolding next
-next_above ms l = record { has = λ p t. or_left (l.has p) (gained l p ms) t; val = λ v. raised-old l v ms }
+next_above ms l = record { has = λ p t. or_left (l.has p) (gained l p ms) t; val = λ v. raised_old l v ms }
 
 -- and it is below every layer that has what the old one has and what each usable move gives
 pub next_least :
@@ -126,8 +126,8 @@ pub next_least :
 unfolding next
 next_least ms {l} {k} h props vals =
     record {
-      has = λ p t. or_cases (l.has p) (gained l p ms) t (h.has p) (λ g. gained-cases l p ms g (λ b. props b p));
-      val = λ v. raised-least l v ms (h.val v) (λ b. vals b v);
+      has = λ p t. or_cases (l.has p) (gained l p ms) t (h.has p) (λ g. gained_cases l p ms g (λ b. props b p));
+      val = λ v. raised_least l v ms (h.val v) (λ b. vals b v);
     }
 
 -- what an effect offers rises with the layer
@@ -166,8 +166,8 @@ pub next_mono :
 unfolding next
 next_mono {l} {k} ms ok h =
     next_least ms (≼_trans h (next_above ms k))
-    (λ b p lt u a. or_right (k.has p) (gained k p ms) (gained-at k p ms b lt (usable_mono (ok b lt) h u) a))
-    (λ b v lt u. ⊑_trans (offered_mono v (ok b lt) h) (raised-offer k v ms b lt (usable_mono (ok b lt) h u)))
+    (λ b p lt u a. or_right (k.has p) (gained k p ms) (gained_at k p ms b lt (usable_mono (ok b lt) h u) a))
+    (λ b v lt u. ⊑_trans (offered_mono v (ok b lt) h) (raised_offer k v ms b lt (usable_mono (ok b lt) h u)))
 
 -- a move of an accepted task
 pub move_ok :

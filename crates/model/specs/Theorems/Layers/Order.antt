@@ -198,45 +198,45 @@ compares_normal below z c ok = absurd ok
 compares_normal equal z c ok = absurd ok
 
 module _ (L : Limits) (props vars : ℕ) where
-  pub holdsIn-mono : {l k : Layer} (i : Item) → ItemOk L normal props vars i → l ≼ k → T (holds_in l i) → T (holds_in k i)
+  pub holds_in_mono : {l k : Layer} (i : Item) → ItemOk L normal props vars i → l ≼ k → T (holds_in l i) → T (holds_in k i)
   unfolding holds_in
-  holdsIn-mono (need p) ok h t = h.has p t
-  holdsIn-mono (condition c) ok h t = reaches_mono c.bound (layer_sum_mono ok.sum h.val) t
-  holdsIn-mono (add p) ok h t = tt
-  holdsIn-mono (delete p) ok h t = tt
-  holdsIn-mono (effect e) ok h t = tt
+  holds_in_mono (need p) ok h t = h.has p t
+  holds_in_mono (condition c) ok h t = reaches_mono c.bound (layer_sum_mono ok.sum h.val) t
+  holds_in_mono (add p) ok h t = tt
+  holds_in_mono (delete p) ok h t = tt
+  holds_in_mono (effect e) ok h t = tt
 
-  pub items-mono :
+  pub items_mono :
       {l k : Layer} (b : Block)
       → All (ItemOk L normal props vars) b
       → l ≼ k
       → T (all (holds_in l) b)
       → T (all (holds_in k) b)
   unfolding all
-  items-mono [] ok h t = tt
-  items-mono {l} {k} (i ∷ b) ok h t =
+  items_mono [] ok h t = tt
+  items_mono {l} {k} (i ∷ b) ok h t =
       and_both (holds_in k i) (all (holds_in k) b)
-      (holdsIn-mono i ok.0 h (and_left (holds_in l i) (all (holds_in l) b) t))
-      (items-mono b ok.1 h (and_right (holds_in l i) (all (holds_in l) b) t))
+      (holds_in_mono i ok.0 h (and_left (holds_in l i) (all (holds_in l) b) t))
+      (items_mono b ok.1 h (and_right (holds_in l i) (all (holds_in l) b) t))
 
   -- a state seen as a layer has the state's conditions
-  pub holdsIn-state : (s : State) (i : Item) → ItemOk L normal props vars i → holds_in (layer_of s) i ≡ holds s i
+  pub holds_in_state : (s : State) (i : Item) → ItemOk L normal props vars i → holds_in (layer_of s) i ≡ holds s i
   unfolding holds_in holds layer_of reaches
-  holdsIn-state s (need p) ok = refl
-  holdsIn-state s (condition c) ok =
+  holds_in_state s (need p) ok = refl
+  holds_in_state s (condition c) ok =
       ap (λ (x : Value). reaches x c.bound) (layer_sum_finite s.val c.terms)
       ∙ compares_normal c.comparison (sum s.val c.terms) c.bound ok.comparison
-  holdsIn-state s (add p) ok = refl
-  holdsIn-state s (delete p) ok = refl
-  holdsIn-state s (effect e) ok = refl
+  holds_in_state s (add p) ok = refl
+  holds_in_state s (delete p) ok = refl
+  holds_in_state s (effect e) ok = refl
 
-  pub items-state :
+  pub items_state :
       (s : State) (b : Block)
       → All (ItemOk L normal props vars) b
       → all (holds_in (layer_of s)) b ≡ all (holds s) b
   unfolding all
-  items-state s [] ok = refl
-  items-state s (i ∷ b) ok = ap₂ ◌&&◌ (holdsIn-state s i ok.0) (items-state s b ok.1)
+  items_state s [] ok = refl
+  items_state s (i ∷ b) ok = ap₂ ◌&&◌ (holds_in_state s i ok.0) (items_state s b ok.1)
 
 -- what is usable in a layer is usable in a higher one
 pub usable_mono :
@@ -246,7 +246,7 @@ pub usable_mono :
     → T (usable l b)
     → T (usable k b)
 unfolding usable
-usable_mono {L} {props} {vars} {b} ok h t = items-mono L props vars b ok.items h t
+usable_mono {L} {props} {vars} {b} ok h t = items_mono L props vars b ok.items h t
 
 -- "Layer 0 is the state": what is usable in it is what is applicable in the state
 pub usable_state :
@@ -254,4 +254,4 @@ pub usable_state :
     → BlockOk L normal props vars b
     → usable (layer_of s) b ≡ applicable s b
 unfolding usable applicable
-usable_state {L} {props} {vars} {b} s ok = items-state L props vars s b ok.items
+usable_state {L} {props} {vars} {b} s ok = items_state L props vars s b ok.items

@@ -13,11 +13,11 @@ use Rattle.model.specs.Layer.{Value, finite, unbounded, Layer, reaches, usable, 
 use Rattle.model.specs.Circle.{is_assign, item_edge, edge}
 use Rattle.model.specs.Theorems.Reading.WellFormed.{All, TermOk, EffectOk, ItemOk, TaskOk}
 use Rattle.model.specs.Theorems.Laws.Booleans.{T_true, and_both, or_right, or_cases, cond_cases}
-use Rattle.model.specs.Theorems.Laws.Searching.{All-at, at-All, any_at}
+use Rattle.model.specs.Theorems.Laws.Searching.{All-at, at_all, any_at}
 use Rattle.model.specs.Theorems.Reading.Kept.{kept_normal}
 use Rattle.model.specs.Theorems.Layers.Order.{◌⊑◌, ⊑_refl, ⊑_trans, reaches_mono, plus_mono, ◌≼◌, layer_sum_rises}
-use Rattle.model.specs.Theorems.Layers.NextLayer.{effect_on_cases, raised-offer, raised-least, gained-cases, gained-at, move_ok}
-use Rattle.model.specs.Theorems.Reading.Circles.{EdgesWithin, edges-within, rank, rank_below, rank_rises}
+use Rattle.model.specs.Theorems.Layers.NextLayer.{effect_on_cases, raised_offer, raised_least, gained_cases, gained_at, move_ok}
+use Rattle.model.specs.Theorems.Reading.Circles.{EdgesWithin, edges_within, rank, rank_below, rank_rises}
 
 -- ---- the edges of a move's effect
 
@@ -34,7 +34,7 @@ known :
     → All (Known L k) (get_or k.moves b [])
 unfolding edge
 known {L} {k} ok b h =
-    at-All (Known L k) move (need 0)
+    at_all (Known L k) move (need 0)
     (λ j l. record {
       checked = All-at (ItemOk L normal k.props k.vars) move j (need 0) (move_ok ok b h).items l;
       drawn = λ u v t. any_at (λ m. any (item_edge u v) m) k.moves [] b h (any_at (item_edge u v) move (need 0) j l t);
@@ -88,15 +88,15 @@ Above l e = T (reaches (layer_value l e) (pos 1))
 
 module _ {L : Limits} {k : Task} (ok : TaskOk L normal k) where
   -- an effect whose variables rest keeps its value
-  value-rests :
+  value_rests :
       (l : Layer) (e : Effect) → EffectOk L normal k.vars e
       → ((j : ℕ) → j < length e.terms → Rests k l (get_or e.terms j no_term).var)
       → layer_value (after k l) e ⊑ layer_value l e
   unfolding layer_value
-  value-rests l e e-ok rest =
+  value_rests l e e-ok rest =
       plus_mono
       (layer_sum_rises (after k l).val l.val e.terms
-      (at-All (λ t. (pos 1 ≤ℤ t.weight) × Rests k l t.var) e.terms no_term
+      (at_all (λ t. (pos 1 ≤ℤ t.weight) × Rests k l t.var) e.terms no_term
       (λ j h. ((All-at (TermOk L normal k.vars) e.terms j no_term e-ok.sum.terms h).weight.0, rest j h))))
       (⊑_refl (finite e.base))
 
@@ -108,7 +108,7 @@ module _ {L : Limits} {k : Task} (ok : TaskOk L normal k) where
   module _ (l : Layer) (none-new : NoneNew k l) where
     -- v rests in the step from the next layer if the variables of each := on v rest in the step from l, and if v is
     -- unbounded already wherever a += on v makes it so
-    rests-after :
+    rests_after :
         (v : ℕ)
         → ((u : ℕ) → T (edge k u v) → Rests k l u)
         → ((e : Effect)
@@ -120,12 +120,12 @@ module _ {L : Limits} {k : Task} (ok : TaskOk L normal k) where
         → unbounded ⊑ (after k l).val v)
         → Rests k (after k l) v
     unfolding next offered offer
-    rests-after v rested lifted =
-        raised-least (after k l) v k.moves (⊑_refl ((after k l).val v))
+    rests_after v rested lifted =
+        raised_least (after k l) v k.moves (⊑_refl ((after k l).val v))
         (λ b h t. effect_on_cases NoMore (Known L k) v (get_or k.moves b []) (known ok b h)
         (λ now later. ⊑_refl ((after k l).val v))
         (λ e at-v e-known. by_kind e at-v e-known e.kind refl)
-        (raised-offer l v k.moves b h (none-new b h t)) (raised-offer (after k l) v k.moves b h t))
+        (raised_offer l v k.moves b h (none-new b h t)) (raised_offer (after k l) v k.moves b h t))
       where
         NoMore : Option Effect → Type 0
         NoMore o =
@@ -144,7 +144,7 @@ module _ {L : Limits} {k : Task} (ok : TaskOk L normal k) where
             → offer (after k l) v d (layer_value (after k l) e) ⊑ (after k l).val v
         by_kind e at-v e-known assign kind now later =
             ⊑_trans
-            (value-rests l e e-known.checked
+            (value_rests l e e-known.checked
             (λ j h. rested (get_or e.terms j no_term).var (assign_edge L k e v j e-known kind at-v h)))
             now
         by_kind e at-v e-known increase kind now later =
@@ -158,19 +158,19 @@ module _ {L : Limits} {k : Task} (ok : TaskOk L normal k) where
     unfolding next
     closes rest =
         record {
-          has = λ p t. or_cases ((after k l).has p) (gained (after k l) p k.moves) t (λ s. s) (had-before p);
-          val = λ v. rests-after v (λ u d. rest u ((edges-within L normal k ok.blocks).source u v d))
+          has = λ p t. or_cases ((after k l).has p) (gained (after k l) p k.moves) t (λ s. s) (had_before p);
+          val = λ v. rests_after v (λ u d. rest u ((edges_within L normal k ok.blocks).source u v d))
               (λ e at-v e-ok now t later. now (reaches_mono (pos 1) (value_before e e-ok) t));
         }
       where
-        had-before : (p : ℕ) → T (gained (after k l) p k.moves) → T ((after k l).has p)
-        had-before p g =
+        had_before : (p : ℕ) → T (gained (after k l) p k.moves) → T ((after k l).has p)
+        had_before p g =
             or_right (l.has p) (gained l p k.moves)
-            (gained-cases (after k l) p k.moves g (λ b h u a. gained-at l p k.moves b h (none-new b h u) a))
+            (gained_cases (after k l) p k.moves g (λ b h u a. gained_at l p k.moves b h (none-new b h u) a))
 
         value_before : (e : Effect) → EffectOk L normal k.vars e → layer_value (after k l) e ⊑ layer_value l e
         value_before e e-ok =
-            value-rests l e e-ok
+            value_rests l e e-ok
             (λ j h. rest (get_or e.terms j no_term).var
             (All-at (TermOk L normal k.vars) e.terms j no_term e-ok.sum.terms h).var)
 
@@ -184,15 +184,15 @@ pub record Quiet (k : Task) (l : Layer) : Type 0 where
 module _ {L : Limits} {k : Task} (ok : TaskOk L normal k) where
   -- all edges run between the task's variables
   edges : EdgesWithin k
-  edges = edges-within L normal k ok.blocks
+  edges = edges_within L normal k ok.blocks
 
   -- after two quiet steps v rests if all variables of lower rank rested
-  rest-step :
+  rest_step :
       (l : Layer) → Quiet k l → Quiet k (after k l) → (v : ℕ)
       → ((u : ℕ) → rank k u < rank k v → Rests k l u)
       → Rests k (after k l) v
-  rest-step l quiet Quiet-next v rested =
-      rests-after ok l quiet.moves v
+  rest_step l quiet Quiet-next v rested =
+      rests_after ok l quiet.moves v
       (λ u d. rested u (rank_rises edges ok.no_circle u v d))
       (λ e at-v e-ok now t later. Quiet-next.vars v (subst (λ (n : ℕ). n < k.vars) at-v e-ok.var) later)
 
@@ -205,16 +205,16 @@ module _ {L : Limits} {k : Task} (ok : TaskOk L normal k) where
     rests a c quiet zero v r t h l = absurd (omega arith)
     rests a c quiet (suc j) v r zero h l = absurd (omega arith)
     rests a c quiet (suc j) v r (suc t) h l =
-        rest-step (layer_at k s t) (quiet t (omega arith) (omega arith)) (quiet (suc t) (omega arith) l) v
+        rest_step (layer_at k s t) (quiet t (omega arith) (omega arith)) (quiet (suc t) (omega arith) l) v
         (λ u lower. rests a c quiet j u (omega arith) t (omega arith) (omega arith))
 
     -- N + 1 quiet layers are followed by one that stays
-    pub quiet-closed :
+    pub quiet_closed :
         (a : ℕ)
         → ((t : ℕ) → a ≤ t → t < a + suc k.vars → Quiet k (layer_at k s t))
         → layer_at k s (suc (a + suc k.vars)) ≼ layer_at k s (a + suc k.vars)
     unfolding layer_at layer
-    quiet-closed a quiet = rw (add-suc a k.vars)
+    quiet_closed a quiet = rw (add-suc a k.vars)
         (closes ok (layer_at k s (a + k.vars)) (quiet (a + k.vars) (omega arith) (omega arith)).moves
         (λ v h. rests a (a + suc k.vars) quiet k.vars v (rank_below edges ok.no_circle v h)
         (a + k.vars) (omega arith) (omega arith)))

@@ -11,25 +11,25 @@ use Rattle.model.specs.Layer.{Value, finite, unbounded, Layer, reaches, highest,
 use Rattle.model.specs.Theorems.Reading.WellFormed.{KindOk, EffectOk, ItemOk, BlockOk, TaskOk}
 use Rattle.model.specs.Theorems.Laws.Booleans.{not-false, false_not, and_left, or_left, or_right, or_cases, cond_cases}
 use Rattle.model.specs.Theorems.Layers.Order.{◌⊑◌, finite-⊑, ⊑-finite, ⊑_trans, ⊑-unbounded, ⊑-reaches, highest_least, ◌≼◌, ≼_trans, layer_value_mono, layer_value_finite, usable_mono, usable_state}
-use Rattle.model.specs.Theorems.Layers.NextLayer.{effect_on_cases, raised-old, raised-offer, gained-at, move_ok, layer_mono}
-use Rattle.model.specs.Theorems.Layers.Settled.{settled-closed}
+use Rattle.model.specs.Theorems.Layers.NextLayer.{effect_on_cases, raised_old, raised_offer, gained_at, move_ok, layer_mono}
+use Rattle.model.specs.Theorems.Layers.Settled.{settled_closed}
 
 -- ---- conditions and values of states, by their layers
 
 module _ {L : Limits} {props vars : ℕ} {b : Block} (ok : BlockOk L normal props vars b) where
   -- what is applicable in a state is usable in every layer above it
-  pub applicable-usable : (s : State) {l : Layer} → layer_of s ≼ l → T (applicable s b) → T (usable l b)
-  applicable-usable s h t = usable_mono ok h (subst T (sym (usable_state s ok)) t)
+  pub applicable_usable : (s : State) {l : Layer} → layer_of s ≼ l → T (applicable s b) → T (usable l b)
+  applicable_usable s h t = usable_mono ok h (subst T (sym (usable_state s ok)) t)
 
-  pub applicable-mono : (y x : State) → layer_of y ≼ layer_of x → T (applicable y b) → T (applicable x b)
-  applicable-mono y x h t = subst T (usable_state x ok) (applicable-usable y h t)
+  pub applicable_mono : (y x : State) → layer_of y ≼ layer_of x → T (applicable y b) → T (applicable x b)
+  applicable_mono y x h t = subst T (usable_state x ok) (applicable_usable y h t)
 
 module _ {L : Limits} {vars : ℕ} {e : Effect} (ok : EffectOk L normal vars e) where
-  pub value-below : (s : State) {l : Layer} → layer_of s ≼ l → finite (value s e) ⊑ layer_value l e
-  value-below s {l} h = subst (λ (x : Value). x ⊑ layer_value l e) (layer_value_finite s e) (layer_value_mono ok h)
+  pub value_below : (s : State) {l : Layer} → layer_of s ≼ l → finite (value s e) ⊑ layer_value l e
+  value_below s {l} h = subst (λ (x : Value). x ⊑ layer_value l e) (layer_value_finite s e) (layer_value_mono ok h)
 
-  pub value-mono : (y x : State) → layer_of y ≼ layer_of x → value y e ≤ℤ value x e
-  value-mono y x h = ⊑-finite (subst (λ (z : Value). finite (value y e) ⊑ z) (layer_value_finite x e) (value-below y h))
+  pub value_mono : (y x : State) → layer_of y ≼ layer_of x → value y e ≤ℤ value x e
+  value_mono y x h = ⊑-finite (subst (λ (z : Value). finite (value y e) ⊑ z) (layer_value_finite x e) (value_below y h))
 
 -- the value of a variable of a state, by its layer
 pub val_mono : (y x : State) → layer_of y ≼ layer_of x → (v : ℕ) → y.val v ≤ℤ x.val v
@@ -56,7 +56,7 @@ changed_offered {L} {props} {vars} {b} s {l} v ok h =
         → (s.val v +ℤ value s e) ≤ℤ s.val v
     falls {e} e-ok not-above =
         let positive = le_z (pos 1) (value s e) in
-        let above : T positive → ⊥ = λ t. not-above (⊑-reaches (⊑_trans (finite-⊑ (le_z_yes t)) (value-below e-ok s h))) in
+        let above : T positive → ⊥ = λ t. not-above (⊑-reaches (⊑_trans (finite-⊑ (le_z_yes t)) (value_below e-ok s h))) in
         let low : le_z (pos 1) (value s e) ≡ false = not-false positive above in
         omega (zlin, sum (s.val v) (value s e))
 
@@ -65,7 +65,7 @@ changed_offered {L} {props} {vars} {b} s {l} v ok h =
         → KindOk normal d
         → EffectOk L normal vars e
         → finite (changed d (s.val v) (value s e)) ⊑ offer l v d (layer_value l e)
-    by_kind assign e d-ok e-ok = value-below e-ok s h
+    by_kind assign e d-ok e-ok = value_below e-ok s h
     by_kind increase e d-ok e-ok =
         cond_cases (λ x. finite (s.val v +ℤ value s e) ⊑ x) (reaches (layer_value l e) (pos 1)) unbounded (l.val v)
         (λ t. ⊑-unbounded (finite (s.val v +ℤ value s e)))
@@ -85,10 +85,10 @@ relaxed_below {l} ms s b lt ok h t =
     record {
       has = λ p r. or_cases (s.has p) (adds p (get_or ms b [])) r
           (λ old. or_left (l.has p) (gained l p ms) (h.has p old))
-          (λ new. or_right (l.has p) (gained l p ms) (gained-at l p ms b lt (applicable-usable ok s h t) new));
+          (λ new. or_right (l.has p) (gained l p ms) (gained_at l p ms b lt (applicable_usable ok s h t) new));
       val = λ v. highest_least {x = finite (s.val v)} {y = finite (changed_by s v (effect_on v (get_or ms b [])))}
-          (⊑_trans (h.val v) (raised-old l v ms))
-          (⊑_trans (changed_offered s v ok h) (raised-offer l v ms b lt (applicable-usable ok s h t)));
+          (⊑_trans (h.val v) (raised_old l v ms))
+          (⊑_trans (changed_offered s v ok h) (raised_offer l v ms b lt (applicable_usable ok s h t)));
     }
 
 -- ---- lists of relaxed moves and a closed layer
@@ -103,7 +103,7 @@ pub closed_dominates :
     → Solves relaxed k s bs
     → T (usable l k.goal)
 unfolding move_at
-closed_dominates ok closed s [] h t = applicable-usable ok.goal s h t
+closed_dominates ok closed s [] h t = applicable_usable ok.goal s h t
 closed_dominates {k} ok closed s (b ∷ bs) h (lt, t, rest) =
     closed_dominates ok closed (relaxed (move_at k b) s) bs
     (≼_trans (relaxed_below k.moves s b lt (move_ok ok b lt) h t) closed)
@@ -122,7 +122,7 @@ pub no_plan :
 unfolding meets_goal layer_at layer
 no_plan {k} ok s t same unmet bs solves =
     false_not unmet
-    (closed_dominates ok (settled-closed ok s t same) s bs (layer_mono k.moves s {t = 0} {u = t} (omega arith)) solves)
+    (closed_dominates ok (settled_closed ok s t same) s bs (layer_mono k.moves s {t = 0} {u = t} (omega arith)) solves)
 
 -- ---- real and relaxed moves
 
@@ -140,9 +140,9 @@ real_below_relaxed b s =
 module _ {L : Limits} {props vars : ℕ} {b : Block} (ok : BlockOk L normal props vars b)
     (y x : State) (h : layer_of y ≼ layer_of x) where
   -- with weights above 0 and no −=, what an effect gives rises with the state
-  pub changedBy-mono : (v : ℕ) → changed_by y v (effect_on v b) ≤ℤ changed_by x v (effect_on v b)
+  pub changed_by_mono : (v : ℕ) → changed_by y v (effect_on v b) ≤ℤ changed_by x v (effect_on v b)
   unfolding changed_by changed
-  changedBy-mono v =
+  changed_by_mono v =
       effect_on_cases (λ o. changed_by y v o ≤ℤ changed_by x v o) (ItemOk L normal props vars) v b ok.items (val_mono y x h v)
       (λ e at-v e-ok. by_kind e.kind e e-ok.kind e-ok)
     where
@@ -151,18 +151,18 @@ module _ {L : Limits} {props vars : ℕ} {b : Block} (ok : BlockOk L normal prop
           → KindOk normal d
           → EffectOk L normal vars e
           → changed d (y.val v) (value y e) ≤ℤ changed d (x.val v) (value x e)
-      by_kind assign e d-ok e-ok = value-mono e-ok y x h
-      by_kind increase e d-ok e-ok = +-mono (val_mono y x h v) (value-mono e-ok y x h)
+      by_kind assign e d-ok e-ok = value_mono e-ok y x h
+      by_kind increase e d-ok e-ok = +-mono (val_mono y x h v) (value_mono e-ok y x h)
       by_kind decrease e d-ok e-ok = absurd d-ok
 
-  pub relaxed-mono : layer_of (relaxed b y) ≼ layer_of (relaxed b x)
+  pub relaxed_mono : layer_of (relaxed b y) ≼ layer_of (relaxed b x)
   unfolding relaxed layer_of
-  relaxed-mono =
+  relaxed_mono =
       record {
         has = λ p t. or_cases (y.has p) (adds p b) t
             (λ old. or_left (x.has p) (adds p b) (h.has p old))
             (or_right (x.has p) (adds p b));
-        val = λ v. finite-⊑ (larger_mono (val_mono y x h v) (changedBy-mono v));
+        val = λ v. finite-⊑ (larger_mono (val_mono y x h v) (changed_by_mono v));
       }
 
 -- a higher state is at least as good: what solves the relaxed task from a state solves it from every state above
@@ -174,11 +174,11 @@ pub solves_mono :
     → Solves relaxed k y bs
     → Solves relaxed k x bs
 unfolding move_at
-solves_mono ok y x [] h t = applicable-mono ok.goal y x h t
+solves_mono ok y x [] h t = applicable_mono ok.goal y x h t
 solves_mono {k} ok y x (b ∷ bs) h (lt, t, rest) =
     let m = move_at k b in
     let m-ok = move_ok ok b lt in
-    (lt, applicable-mono m-ok y x h t, solves_mono ok (relaxed m y) (relaxed m x) bs (relaxed-mono m-ok y x h) rest)
+    (lt, applicable_mono m-ok y x h t, solves_mono ok (relaxed m y) (relaxed m x) bs (relaxed_mono m-ok y x h) rest)
 
 -- a list that solves a normal task by real moves solves it by relaxed moves
 pub real_solves_relaxed :

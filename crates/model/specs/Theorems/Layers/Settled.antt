@@ -14,9 +14,9 @@ use Rattle.model.specs.Move.{State}
 use Rattle.model.specs.Layer.{Value, finite, unbounded, Layer, usable, offered, gained, raised, next, layer, same_value, same_layer, layer_at, settled}
 use Rattle.model.specs.Theorems.Reading.WellFormed.{All, ItemOk, TaskOk}
 use Rattle.model.specs.Theorems.Laws.Booleans.{T_true, true_t, not-false, false_not, T-stable, T-cases, T-equal, and_left, and_right, and_both, or_right, or_cases, beq_equal, equal_beq}
-use Rattle.model.specs.Theorems.Laws.Searching.{allBelow-at, allBelow-fails}
+use Rattle.model.specs.Theorems.Laws.Searching.{all_below_at, all_below_fails}
 use Rattle.model.specs.Theorems.Layers.Order.{◌⊑◌, ⊑_refl, ⊑_trans, ≡-⊑, ⊑-antisym, ◌≼◌, ≼_refl, ≼-antisym}
-use Rattle.model.specs.Theorems.Layers.NextLayer.{effect_on_cases, raised-offer, gained-at, next_above, next_least, move_ok, layer_rises}
+use Rattle.model.specs.Theorems.Layers.NextLayer.{effect_on_cases, raised_offer, gained_at, next_above, next_least, move_ok, layer_rises}
 
 -- ---- the comparison of values
 
@@ -38,26 +38,26 @@ antisym_same_value unbounded unbounded h k = tt
 -- ---- the comparison of layers, over the table's propositions and variables
 
 module _ (props vars : ℕ) (l k : Layer) where
-  abbrev sameProp : ℕ → Bool
-  sameProp p = beq (l.has p) (k.has p)
+  abbrev same_prop : ℕ → Bool
+  same_prop p = beq (l.has p) (k.has p)
 
-  abbrev sameVal : ℕ → Bool
-  sameVal v = same_value (l.val v) (k.val v)
+  abbrev same_val : ℕ → Bool
+  same_val v = same_value (l.val v) (k.val v)
 
-  pub sameLayer-has : T (same_layer props vars l k) → (p : ℕ) → p < props → l.has p ≡ k.has p
+  pub same_layer_has : T (same_layer props vars l k) → (p : ℕ) → p < props → l.has p ≡ k.has p
   unfolding same_layer
-  sameLayer-has t p h =
+  same_layer_has t p h =
       beq_equal (l.has p) (k.has p)
-      (allBelow-at sameProp props (and_left (all_below sameProp props) (all_below sameVal vars) t) p h)
+      (all_below_at same_prop props (and_left (all_below same_prop props) (all_below same_val vars) t) p h)
 
-  pub sameLayer-val : T (same_layer props vars l k) → (v : ℕ) → v < vars → l.val v ≡ k.val v
+  pub same_layer_val : T (same_layer props vars l k) → (v : ℕ) → v < vars → l.val v ≡ k.val v
   unfolding same_layer
-  sameLayer-val t v h =
+  same_layer_val t v h =
       same_value_equal (l.val v) (k.val v)
-      (allBelow-at sameVal vars (and_right (all_below sameProp props) (all_below sameVal vars) t) v h)
+      (all_below_at same_val vars (and_right (all_below same_prop props) (all_below same_val vars) t) v h)
 
   -- where a layer below another is not the same, a proposition is new or a value is not below the old one
-  pub sameLayer-fails :
+  pub same_layer_fails :
       {X : Type 0}
       → l ≼ k
       → (T (same_layer props vars l k) → ⊥)
@@ -65,19 +65,19 @@ module _ (props vars : ℕ) (l k : Layer) where
       → ((v : ℕ) → v < vars → (k.val v ⊑ l.val v → ⊥) → X)
       → X
   unfolding same_layer
-  sameLayer-fails {X} rises differ newProp newVal =
-      T-cases (all_below sameProp props)
-      (λ same. allBelow-fails sameVal vars (λ t. differ (and_both (all_below sameProp props) (all_below sameVal vars) same t)) by-val)
-      (λ other. allBelow-fails sameProp props other by-prop)
+  same_layer_fails {X} rises differ newProp newVal =
+      T-cases (all_below same_prop props)
+      (λ same. all_below_fails same_val vars (λ t. differ (and_both (all_below same_prop props) (all_below same_val vars) same t)) by_val)
+      (λ other. all_below_fails same_prop props other by_prop)
     where
-      by-val : (v : ℕ) → v < vars → (T (sameVal v) → ⊥) → X
-      by-val v h other = newVal v h (λ le. other (antisym_same_value (l.val v) (k.val v) (rises.val v) le))
+      by_val : (v : ℕ) → v < vars → (T (same_val v) → ⊥) → X
+      by_val v h other = newVal v h (λ le. other (antisym_same_value (l.val v) (k.val v) (rises.val v) le))
 
-      agree : (p : ℕ) → (T (k.has p) → T (l.has p)) → T (sameProp p)
+      agree : (p : ℕ) → (T (k.has p) → T (l.has p)) → T (same_prop p)
       agree p back = equal_beq (l.has p) (k.has p) (T-equal (l.has p) (k.has p) (rises.has p) back)
 
-      by-prop : (p : ℕ) → p < props → (T (sameProp p) → ⊥) → X
-      by-prop p h other =
+      by_prop : (p : ℕ) → p < props → (T (same_prop p) → ⊥) → X
+      by_prop p h other =
           T-cases (k.has p)
           (λ present. newProp p h (λ old. other (agree p (λ t. old))) present)
           (λ absent. absurd (other (agree p (λ t. absurd (absent t)))))
@@ -85,15 +85,15 @@ module _ (props vars : ℕ) (l k : Layer) where
 -- ---- a move names only what the table has
 
 module _ (L : Limits) (f : Form) (props vars : ℕ) where
-  pub adds-below : (p : ℕ) (b : Block) → All (ItemOk L f props vars) b → T (adds p b) → p < props
+  pub adds_below : (p : ℕ) (b : Block) → All (ItemOk L f props vars) b → T (adds p b) → p < props
   unfolding adds any is_add
-  adds-below p [] ok t = absurd t
-  adds-below p (need q ∷ b) ok t = adds-below p b ok.1 t
-  adds-below p (add q ∷ b) ok t =
-      or_cases (eqb q p) (adds p b) t (λ same. subst (λ (n : ℕ). n < props) (eqb→eq q p same) ok.0) (adds-below p b ok.1)
-  adds-below p (delete q ∷ b) ok t = adds-below p b ok.1 t
-  adds-below p (condition c ∷ b) ok t = adds-below p b ok.1 t
-  adds-below p (effect e ∷ b) ok t = adds-below p b ok.1 t
+  adds_below p [] ok t = absurd t
+  adds_below p (need q ∷ b) ok t = adds_below p b ok.1 t
+  adds_below p (add q ∷ b) ok t =
+      or_cases (eqb q p) (adds p b) t (λ same. subst (λ (n : ℕ). n < props) (eqb→eq q p same) ok.0) (adds_below p b ok.1)
+  adds_below p (delete q ∷ b) ok t = adds_below p b ok.1 t
+  adds_below p (condition c ∷ b) ok t = adds_below p b ok.1 t
+  adds_below p (effect e ∷ b) ok t = adds_below p b ok.1 t
 
 -- ---- what the comparison decides
 
@@ -106,7 +106,7 @@ pub unsettled_cases :
     → X
 unfolding settled layer_at
 unsettled_cases k s t e newProp newVal =
-    sameLayer-fails k.props k.vars (layer_at k s t) (layer_at k s (suc t)) (layer_rises k.moves s t) (false_not e)
+    same_layer_fails k.props k.vars (layer_at k s t) (layer_at k s (suc t)) (layer_rises k.moves s t) (false_not e)
     newProp newVal
 
 -- the two layers have the same propositions and the same values, of those that the table has
@@ -120,7 +120,7 @@ unfolding settled layer_at
 settled_agree k s t = (
   λ e.
       let same = true_t e in
-      record { props = sameLayer-has k.props k.vars l m same; vars = sameLayer-val k.props k.vars l m same },
+      record { props = same_layer_has k.props k.vars l m same; vars = same_layer_val k.props k.vars l m same },
   λ agree.
       T_true (settled k s t) (T-stable (settled k s t) (λ differ.
       unsettled_cases k s t (not-false (settled k s t) differ)
@@ -137,21 +137,21 @@ settled_agree k s t = (
 -- ---- a settled layer is closed: its next layer is not above it, anywhere
 
 module _ {L : Limits} {f : Form} {k : Task} (ok : TaskOk L f k) where
-  pub closed-within :
+  pub closed_within :
       (l : Layer)
       → ((p : ℕ) → p < k.props → T ((next k.moves l).has p) → T (l.has p))
       → ((v : ℕ) → v < k.vars → (next k.moves l).val v ⊑ l.val v)
       → next k.moves l ≼ l
   unfolding next offered
-  closed-within l props vals = next_least ms (≼_refl l) no-prop no_value
+  closed_within l props vals = next_least ms (≼_refl l) no_prop no_value
     where
       ms : List Block
       ms = k.moves
 
-      no-prop : (b p : ℕ) → b < length ms → T (usable l (get_or ms b [])) → T (adds p (get_or ms b [])) → T (l.has p)
-      no-prop b p h u a =
-          props p (adds-below L f k.props k.vars p (get_or ms b []) (move_ok ok b h).items a)
-          (or_right (l.has p) (gained l p ms) (gained-at l p ms b h u a))
+      no_prop : (b p : ℕ) → b < length ms → T (usable l (get_or ms b [])) → T (adds p (get_or ms b [])) → T (l.has p)
+      no_prop b p h u a =
+          props p (adds_below L f k.props k.vars p (get_or ms b []) (move_ok ok b h).items a)
+          (or_right (l.has p) (gained l p ms) (gained_at l p ms b h u a))
 
       no_value :
           (b v : ℕ)
@@ -163,19 +163,19 @@ module _ {L : Limits} {f : Form} {k : Task} (ok : TaskOk L f k) where
           (ItemOk L f k.props k.vars) v (get_or ms b []) (move_ok ok b h).items
           (λ le. ⊑_refl (l.val v))
           (λ e at-v e-ok le. ⊑_trans le (vals v (subst (λ (n : ℕ). n < k.vars) at-v e-ok.var)))
-          (raised-offer l v ms b h u)
+          (raised_offer l v ms b h u)
 
-  pub settled-closed : (s : State) (t : ℕ) → settled k s t ≡ true → next k.moves (layer_at k s t) ≼ layer_at k s t
+  pub settled_closed : (s : State) (t : ℕ) → settled k s t ≡ true → next k.moves (layer_at k s t) ≼ layer_at k s t
   unfolding layer_at layer
-  settled-closed s t e =
+  settled_closed s t e =
       let agree = (settled_agree k s t).0 e in
-      closed-within (layer_at k s t) (λ p h. subst T (sym (agree.props p h))) (λ v h. ≡-⊑ (sym (agree.vars v h)))
+      closed_within (layer_at k s t) (λ p h. subst T (sym (agree.props p h))) (λ v h. ≡-⊑ (sym (agree.vars v h)))
 
   -- "A next layer equal to layer t": `settled` holds exactly when the two layers are equal
-  pub settled-equal : (s : State) (t : ℕ) → (settled k s t ≡ true) ↔ (layer_at k s (suc t) ≡ layer_at k s t)
+  pub settled_equal : (s : State) (t : ℕ) → (settled k s t ≡ true) ↔ (layer_at k s (suc t) ≡ layer_at k s t)
   unfolding layer_at layer
-  settled-equal s t = (
-    λ e. ≼-antisym (settled-closed s t e) (next_above k.moves (layer_at k s t)),
+  settled_equal s t = (
+    λ e. ≼-antisym (settled_closed s t e) (next_above k.moves (layer_at k s t)),
     λ e.
         (settled_agree k s t).1 (record {
           props = λ p h. ap (λ (l : Layer). l.has p) (sym e);

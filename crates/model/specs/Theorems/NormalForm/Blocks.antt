@@ -84,57 +84,57 @@ remainder_cases P even odd (suc (suc r)) h = absurd (omega arith)
 -- ---- a normal block
 
 module _ (f : Item → Bool) where
-  pub all-normal : (b : Block) → all f (normal_block b) ≡ all (λ i. all f (normal_item i)) b
+  pub all_normal : (b : Block) → all f (normal_block b) ≡ all (λ i. all f (normal_item i)) b
   unfolding all normal_block
-  all-normal [] = refl
-  all-normal (i ∷ b) =
-      all_append f (normal_item i) (normal_block b) ∙ ap (λ (x : Bool). all f (normal_item i) && x) (all-normal b)
+  all_normal [] = refl
+  all_normal (i ∷ b) =
+      all_append f (normal_item i) (normal_block b) ∙ ap (λ (x : Bool). all f (normal_item i) && x) (all_normal b)
 
-  pub any-normal : (b : Block) → any f (normal_block b) ≡ any (λ i. any f (normal_item i)) b
+  pub any_normal : (b : Block) → any f (normal_block b) ≡ any (λ i. any f (normal_item i)) b
   unfolding any normal_block
-  any-normal [] = refl
-  any-normal (i ∷ b) =
-      any_append f (normal_item i) (normal_block b) ∙ ap (λ (x : Bool). any f (normal_item i) || x) (any-normal b)
+  any_normal [] = refl
+  any_normal (i ∷ b) =
+      any_append f (normal_item i) (normal_block b) ∙ ap (λ (x : Bool). any f (normal_item i) || x) (any_normal b)
 
   -- a test that no condition passes
-  pub any-condition :
+  pub any_condition :
       ((c : Condition) → f (condition c) ≡ false)
       → (o : Comparison) (ts : List Term) (c : ℤ)
       → any f (normal_condition o ts c) ≡ false
   unfolding any normal_condition least
-  any-condition h at_least ts c = rw h refl
-  any-condition h above ts c = rw h refl
-  any-condition h at_most ts c = rw h refl
-  any-condition h below ts c = rw h refl
-  any-condition h equal ts c = simp h
+  any_condition h at_least ts c = rw h refl
+  any_condition h above ts c = rw h refl
+  any_condition h at_most ts c = rw h refl
+  any_condition h below ts c = rw h refl
+  any_condition h equal ts c = simp h
 
   -- a test of an effect's variable alone
-  pub any-effect :
+  pub any_effect :
       (g : ℕ → Bool)
       → ((e : Effect) → f (effect e) ≡ g e.var)
       → (k : Kind) (v : ℕ) (ts : List Term) (c : ℤ)
       → any f (normal_effect k v ts c) ≡ (g (2 * v) || g (2 * v + 1))
   unfolding any normal_effect mirrored
-  any-effect g h assign v ts c = simp (h, or-false)
-  any-effect g h increase v ts c = simp (h, or-false)
-  any-effect g h decrease v ts c = simp (h, or-false)
+  any_effect g h assign v ts c = simp (h, or-false)
+  any_effect g h increase v ts c = simp (h, or-false)
+  any_effect g h decrease v ts c = simp (h, or-false)
 
 -- a test that no condition and no effect passes finds in a normal block what it finds in the block
 module _
     (f : Item → Bool)
     (no_condition : (c : Condition) → f (condition c) ≡ false)
     (no_effect : (e : Effect) → f (effect e) ≡ false) where
-  plain-item : (i : Item) → any f (normal_item i) ≡ f i
+  plain_item : (i : Item) → any f (normal_item i) ≡ f i
   unfolding any normal_item
-  plain-item (need p) = or-false (f (need p))
-  plain-item (add p) = or-false (f (add p))
-  plain-item (delete p) = or-false (f (delete p))
-  plain-item (condition c) = any-condition f no_condition c.comparison c.terms c.bound ∙ sym (no_condition c)
-  plain-item (effect e) =
-      any-effect f (λ v. false) no_effect e.kind e.var e.terms e.base ∙ sym (no_effect e)
+  plain_item (need p) = or-false (f (need p))
+  plain_item (add p) = or-false (f (add p))
+  plain_item (delete p) = or-false (f (delete p))
+  plain_item (condition c) = any_condition f no_condition c.comparison c.terms c.bound ∙ sym (no_condition c)
+  plain_item (effect e) =
+      any_effect f (λ v. false) no_effect e.kind e.var e.terms e.base ∙ sym (no_effect e)
 
-  pub any-plain : (b : Block) → any f (normal_block b) ≡ any f b
-  any-plain b = any-normal f b ∙ ap (λ (g : Item → Bool). any g b) (fun_ext plain-item)
+  pub any_plain : (b : Block) → any f (normal_block b) ≡ any f b
+  any_plain b = any_normal f b ∙ ap (λ (g : Item → Bool). any g b) (fun_ext plain_item)
 
 pub All-normal : (P : Item → Type 0) (b : Block) → All (λ i. All P (normal_item i)) b → All P (normal_block b)
 unfolding normal_block

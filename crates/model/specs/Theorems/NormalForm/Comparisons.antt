@@ -17,7 +17,7 @@ use Rattle.model.specs.Seen.{Seen, byte_after}
 use Rattle.model.specs.Reading.{Wanted, head_wanted, leaves_open, wrong3, wrong2, wrong6, operands, first_wrong, read_command, done, refused, wrong16}
 use Rattle.model.specs.NormalForm.{negated, least, normal_condition, normal_state}
 use Rattle.model.specs.Theorems.Laws.Booleans.{T_true, T-equal, not-false, and_left, and_right, and_both}
-use Rattle.model.specs.Theorems.Reading.Commands.{refusal-4, first_wrong_here, readCommand-refused, width_positive, command_of_code}
+use Rattle.model.specs.Theorems.Reading.Commands.{refusal_4, first_wrong_here, read_command_refused, width_positive, command_of_code}
 use Rattle.model.specs.Theorems.NormalForm.SignedSums.{signed_sum_lem, signed_negated_sum}
 
 -- ---- whole numbers
@@ -50,13 +50,13 @@ equal_test z c = (
 -- ---- "S ≥ c" and "−S ≥ c" as normal conditions: true in the normal state exactly when they are of the sum S in the state
 
 module _ (s : State) (ts : List Term) (c : ℤ) where
-  pub least-holds : holds (normal_state s) (least ts c) ≡ le_z c (sum s.val ts)
+  pub least_holds : holds (normal_state s) (least ts c) ≡ le_z c (sum s.val ts)
   unfolding holds least compares
-  least-holds = ap (le_z c) (signed_sum_lem s ts)
+  least_holds = ap (le_z c) (signed_sum_lem s ts)
 
-  pub least-negated-holds : holds (normal_state s) (least (negated ts) c) ≡ le_z c (neg_ℤ (sum s.val ts))
+  pub least_negated_holds : holds (normal_state s) (least (negated ts) c) ≡ le_z c (neg_ℤ (sum s.val ts))
   unfolding holds least compares
-  least-negated-holds = ap (le_z c) (signed_negated_sum s ts)
+  least_negated_holds = ap (le_z c) (signed_negated_sum s ts)
 
 -- ---- the five rules
 
@@ -75,53 +75,53 @@ pub record Rule (n : ℕ) (o : Comparison) (ts : List Term) (c : ℤ) (Says : �
 -- "Sum S:"
 module _ (ts : List Term) (c : ℤ) where
   -- "≥ c stays;"
-  pub at-least-rule : Rule 0 at_least ts c (λ S. c ≤ℤ S) (least ts c ∷ [])
+  pub at_least_rule : Rule 0 at_least ts c (λ S. c ≤ℤ S) (least ts c ∷ [])
   unfolding comparison_code holds compares normal_condition all
-  at-least-rule =
+  at_least_rule =
       record {
         number = refl;
         says = λ s. (λ h. h.le, λ t. le_z_yes t);
         becomes = refl;
-        means = λ s. sym (and-true _ ∙ least-holds s ts c);
+        means = λ s. sym (and-true _ ∙ least_holds s ts c);
       }
 
   -- "> c is S ≥ c+1;"
-  pub above-rule : Rule 1 above ts c (λ S. c <ℤ S) (least ts (c +ℤ pos 1) ∷ [])
+  pub above_rule : Rule 1 above ts c (λ S. c <ℤ S) (least ts (c +ℤ pos 1) ∷ [])
   unfolding comparison_code holds compares normal_condition all
-  above-rule =
+  above_rule =
       record {
         number = refl;
         says = λ s. (λ h. h.lt, λ t. lt_z_yes t);
         becomes = refl;
-        means = λ s. sym (and-true _ ∙ least-holds s ts (c +ℤ pos 1) ∙ above_test c (sum s.val ts));
+        means = λ s. sym (and-true _ ∙ least_holds s ts (c +ℤ pos 1) ∙ above_test c (sum s.val ts));
       }
 
   -- "≤ c is −S ≥ −c;"
-  pub at-most-rule : Rule 2 at_most ts c (λ S. S ≤ℤ c) (least (negated ts) (neg_ℤ c) ∷ [])
+  pub at_most_rule : Rule 2 at_most ts c (λ S. S ≤ℤ c) (least (negated ts) (neg_ℤ c) ∷ [])
   unfolding comparison_code holds compares normal_condition all
-  at-most-rule =
+  at_most_rule =
       record {
         number = refl;
         says = λ s. (λ h. h.le, λ t. le_z_yes t);
         becomes = refl;
-        means = λ s. sym (and-true _ ∙ least-negated-holds s ts (neg_ℤ c) ∙ at_most_test c (sum s.val ts));
+        means = λ s. sym (and-true _ ∙ least_negated_holds s ts (neg_ℤ c) ∙ at_most_test c (sum s.val ts));
       }
 
   -- "< c is −S ≥ 1−c;"
-  pub below-rule : Rule 3 below ts c (λ S. S <ℤ c) (least (negated ts) (pos 1 -ℤ c) ∷ [])
+  pub below_rule : Rule 3 below ts c (λ S. S <ℤ c) (least (negated ts) (pos 1 -ℤ c) ∷ [])
   unfolding comparison_code holds compares normal_condition all
-  below-rule =
+  below_rule =
       record {
         number = refl;
         says = λ s. (λ h. h.lt, λ t. lt_z_yes t);
         becomes = refl;
-        means = λ s. sym (and-true _ ∙ least-negated-holds s ts (pos 1 -ℤ c) ∙ below_test c (sum s.val ts));
+        means = λ s. sym (and-true _ ∙ least_negated_holds s ts (pos 1 -ℤ c) ∙ below_test c (sum s.val ts));
       }
 
   -- "= c is S ≥ c, then −S ≥ −c."
-  pub equal-rule : Rule 4 equal ts c (λ S. S ≡ c) (least ts c ∷ least (negated ts) (neg_ℤ c) ∷ [])
+  pub equal_rule : Rule 4 equal ts c (λ S. S ≡ c) (least ts c ∷ least (negated ts) (neg_ℤ c) ∷ [])
   unfolding comparison_code holds compares normal_condition all
-  equal-rule =
+  equal_rule =
       record {
         number = refl;
         says = λ s. equal_test (sum s.val ts) c;
@@ -129,15 +129,15 @@ module _ (ts : List Term) (c : ℤ) where
         means =
             λ s.
             sym
-            (ap₂ ◌&&◌ (least-holds s ts c)
-            (and-true _ ∙ least-negated-holds s ts (neg_ℤ c) ∙ at_most_test c (sum s.val ts)));
+            (ap₂ ◌&&◌ (least_holds s ts c)
+            (and-true _ ∙ least_negated_holds s ts (neg_ℤ c) ∙ at_most_test c (sum s.val ts)));
       }
 
 -- ---- "any other number is refused earlier"
 
 -- in a written table reading refuses a 43 that stands in its place, with all its operands, and has another number: 4, at the number
 module _ (L : Limits) (w : Wanted) (t : List ℕ) (s : Seen) where
-  pub other-refused :
+  pub other_refused :
       s.header.form ≡ written
       → T (in_place s.place close_condition)
       → get_or t s.at 0 ≡ code_of close_condition
@@ -145,10 +145,10 @@ module _ (L : Limits) (w : Wanted) (t : List ℕ) (s : Seen) where
       → 4 < byte_after t s 1
       → read_command L w t s ≡ done (refused (record { number = 4; place = s.at + 1 }))
   unfolding code_of wrong3 wrong2 wrong6 wrong16 head_wanted leaves_open after_term operands comparison_in_range
-  other-refused e placed code uncut other =
-      readCommand-refused L w t s close_condition _ (omega (arith, uncut, width_positive close_condition))
+  other_refused e placed code uncut other =
+      read_command_refused L w t s close_condition _ (omega (arith, uncut, width_positive close_condition))
       (ap command_of code ∙ known)
-      (refusal-4 L w t s close_condition 1 in_place_lem whole refl refl wrong)
+      (refusal_4 L w t s close_condition 1 in_place_lem whole refl refl wrong)
     where
       in_place_lem : wrong3 w s close_condition ≡ false
       in_place_lem = rw (T_true (in_place s.place close_condition) placed) (and-false (ltb 0 (length s.terms)))

@@ -40,29 +40,29 @@ mirrored_on :
     → effect_on j (mirrored k v ts c ++ b) ≡ pick (eqb v (j / 2)) (copy (eqb (j % 2) 0) k v ts c) (effect_on j b)
 unfolding effect_on mirrored
 mirrored_on j k v ts c b =
-    ap₂ first on-even on-odd
-    ∙ remainder_cases (λ even odd. first (on-v && even) (on-v && odd) ≡ pick on-v (copy even k v ts c) (effect_on j b))
-    (by-even on-v) (by-odd on-v) (j % 2) (omega arith)
+    ap₂ first on_even on_odd
+    ∙ remainder_cases (λ even odd. first (on_v && even) (on_v && odd) ≡ pick on_v (copy even k v ts c) (effect_on j b))
+    (by_even on_v) (by_odd on_v) (j % 2) (omega arith)
   where
-    on-v : Bool
-    on-v = eqb v (j / 2)
+    on_v : Bool
+    on_v = eqb v (j / 2)
 
-    on-even : eqb (2 * v) j ≡ (on-v && eqb (j % 2) 0)
-    on-even = signed_variable v 0 (2 * v) j (omega arith) (omega arith)
+    on_even : eqb (2 * v) j ≡ (on_v && eqb (j % 2) 0)
+    on_even = signed_variable v 0 (2 * v) j (omega arith) (omega arith)
 
-    on-odd : eqb (2 * v + 1) j ≡ (on-v && eqb (j % 2) 1)
-    on-odd = signed_variable v 1 (2 * v + 1) j (omega arith) (omega arith)
+    on_odd : eqb (2 * v + 1) j ≡ (on_v && eqb (j % 2) 1)
+    on_odd = signed_variable v 1 (2 * v + 1) j (omega arith) (omega arith)
 
     first : Bool → Bool → Option Effect
     first x y = pick x (copy true k v ts c) (pick y (copy false k v ts c) (effect_on j b))
 
-    by-even : (x : Bool) → first (x && true) (x && false) ≡ pick x (copy true k v ts c) (effect_on j b)
-    by-even true = refl
-    by-even false = refl
+    by_even : (x : Bool) → first (x && true) (x && false) ≡ pick x (copy true k v ts c) (effect_on j b)
+    by_even true = refl
+    by_even false = refl
 
-    by-odd : (x : Bool) → first (x && false) (x && true) ≡ pick x (copy false k v ts c) (effect_on j b)
-    by-odd true = refl
-    by-odd false = refl
+    by_odd : (x : Bool) → first (x && false) (x && true) ≡ pick x (copy false k v ts c) (effect_on j b)
+    by_odd true = refl
+    by_odd false = refl
 
 -- the value of −S with −c
 negated_value :
@@ -93,55 +93,55 @@ module _ (s : State) (j : ℕ) where
   abbrev pub Mirrors : Option Effect → Option Effect → Type 0
   Mirrors n o = changed_by (normal_state s) j n ≡ signed even (changed_by s (j / 2) o)
 
-  mirrored-change :
+  mirrored_change :
       (k : Kind) (v : ℕ) (ts : List Term) (c : ℤ) (b : Block) (e : Effect) (o : Option Effect)
       → Mirrors (some (copy even k v ts c)) (some e)
       → Mirrors (effect_on j b) o
       → Mirrors (effect_on j (mirrored k v ts c ++ b)) (pick (eqb v (j / 2)) e o)
-  mirrored-change k v ts c b e o here there =
+  mirrored_change k v ts c b e o here there =
       ap (changed_by (normal_state s) j) (mirrored_on j k v ts c b) ∙ either (eqb v (j / 2))
     where
-      either : (on-v : Bool) → Mirrors (pick on-v (copy even k v ts c) (effect_on j b)) (pick on-v e o)
+      either : (on_v : Bool) → Mirrors (pick on_v (copy even k v ts c) (effect_on j b)) (pick on_v e o)
       either true = here
       either false = there
 
-  effect-change :
+  effect_change :
       (k : Kind) (v : ℕ) (ts : List Term) (c : ℤ) (n b : Block)
       → Mirrors (effect_on j n) (effect_on (j / 2) b)
       → let e : Effect = record { kind = k; var = v; terms = ts; base = c } in
       Mirrors (effect_on j (normal_effect k v ts c ++ n)) (effect_on (j / 2) (effect e ∷ b))
   unfolding normal_effect effect_on changed_by changed value normal_state
-  effect-change assign v ts c n b there =
+  effect_change assign v ts c n b there =
       let e : Effect = record { kind = assign; var = v; terms = ts; base = c } in
-      mirrored-change assign v ts c n e (effect_on (j / 2) b) (copy_value s even assign v ts c) there
-  effect-change increase v ts c n b there =
+      mirrored_change assign v ts c n e (effect_on (j / 2) b) (copy_value s even assign v ts c) there
+  effect_change increase v ts c n b there =
       let e : Effect = record { kind = increase; var = v; terms = ts; base = c } in
-      mirrored-change increase v ts c n e (effect_on (j / 2) b) (copy_raise s even increase v (s.val (j / 2)) ts c) there
-  effect-change decrease v ts c n b there =
+      mirrored_change increase v ts c n e (effect_on (j / 2) b) (copy_raise s even increase v (s.val (j / 2)) ts c) there
+  effect_change decrease v ts c n b there =
       let e : Effect = record { kind = decrease; var = v; terms = ts; base = c } in
-      mirrored-change increase v (negated ts) (neg_ℤ c) n e (effect_on (j / 2) b)
+      mirrored_change increase v (negated ts) (neg_ℤ c) n e (effect_on (j / 2) b)
       (copy_raise s even increase v (s.val (j / 2)) (negated ts) (neg_ℤ c)
       ∙ ap (λ (z : ℤ). signed even (s.val (j / 2) +ℤ z)) (negated_value s ts c))
       there
 
-  condition-effect :
+  condition_effect :
       (o : Comparison) (ts : List Term) (c : ℤ) (b : Block)
       → effect_on j (normal_condition o ts c ++ b) ≡ effect_on j b
   unfolding effect_on normal_condition least
-  condition-effect at_least ts c b = refl
-  condition-effect above ts c b = refl
-  condition-effect at_most ts c b = refl
-  condition-effect below ts c b = refl
-  condition-effect equal ts c b = refl
+  condition_effect at_least ts c b = refl
+  condition_effect above ts c b = refl
+  condition_effect at_most ts c b = refl
+  condition_effect below ts c b = refl
+  condition_effect equal ts c b = refl
 
   -- What a block makes of a variable, its normal form makes of 2i, and the negative of it of 2i+1.
-  pub normal-change : (b : Block) → Mirrors (effect_on j (normal_block b)) (effect_on (j / 2) b)
+  pub normal_change : (b : Block) → Mirrors (effect_on j (normal_block b)) (effect_on (j / 2) b)
   unfolding effect_on changed_by normal_block normal_item normal_state
-  normal-change [] = refl
-  normal-change (need p ∷ b) = normal-change b
-  normal-change (add p ∷ b) = normal-change b
-  normal-change (delete p ∷ b) = normal-change b
-  normal-change (condition c ∷ b) =
-      ap (changed_by (normal_state s) j) (condition-effect c.comparison c.terms c.bound (normal_block b))
-      ∙ normal-change b
-  normal-change (effect e ∷ b) = effect-change e.kind e.var e.terms e.base (normal_block b) b (normal-change b)
+  normal_change [] = refl
+  normal_change (need p ∷ b) = normal_change b
+  normal_change (add p ∷ b) = normal_change b
+  normal_change (delete p ∷ b) = normal_change b
+  normal_change (condition c ∷ b) =
+      ap (changed_by (normal_state s) j) (condition_effect c.comparison c.terms c.bound (normal_block b))
+      ∙ normal_change b
+  normal_change (effect e ∷ b) = effect_change e.kind e.var e.terms e.base (normal_block b) b (normal_change b)

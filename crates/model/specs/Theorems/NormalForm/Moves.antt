@@ -8,25 +8,25 @@ use Rattle.std.proofs.Math.ListN.{get_or-map}
 use Rattle.model.specs.Task.{Block, Task, is_add, is_delete, adds, deletes}
 use Rattle.model.specs.Move.{State, applicable, real, move_at, Solves}
 use Rattle.model.specs.NormalForm.{normal_block, normal_task, normal_state}
-use Rattle.model.specs.Theorems.NormalForm.Blocks.{any-plain}
-use Rattle.model.specs.Theorems.NormalForm.Conditions.{normal-applicable}
-use Rattle.model.specs.Theorems.NormalForm.Effects.{normal-change}
+use Rattle.model.specs.Theorems.NormalForm.Blocks.{any_plain}
+use Rattle.model.specs.Theorems.NormalForm.Conditions.{normal_applicable}
+use Rattle.model.specs.Theorems.NormalForm.Effects.{normal_change}
 
 -- "All else keeps its order, deletes too."
 pub normal_adds : (p : ℕ) (b : Block) → adds p (normal_block b) ≡ adds p b
 unfolding adds is_add
-normal_adds p b = any-plain (is_add p) (λ c. refl) (λ e. refl) b
+normal_adds p b = any_plain (is_add p) (λ c. refl) (λ e. refl) b
 
 pub normal_deletes : (p : ℕ) (b : Block) → deletes p (normal_block b) ≡ deletes p b
 unfolding deletes is_delete
-normal_deletes p b = any-plain (is_delete p) (λ c. refl) (λ e. refl) b
+normal_deletes p b = any_plain (is_delete p) (λ c. refl) (λ e. refl) b
 
 -- A real move of the normal table gives the normal form of what the written one gives.
 pub normal_real : (b : Block) (s : State) → real (normal_block b) (normal_state s) ≡ normal_state (real b s)
 unfolding real normal_state
 normal_real b s = λ i. record {
   has = λ p. normal_adds p b i || (s.has p && not (normal_deletes p b i));
-  val = λ j. normal-change s j b i;
+  val = λ j. normal_change s j b i;
 }
 
 pub normal_move : (k : Task) (b : ℕ) → move_at (normal_task k) b ≡ normal_block (move_at k b)
@@ -46,14 +46,14 @@ after_move k b s = ap (λ (m : Block). real m (normal_state s)) (normal_move k b
 pub move_applicable :
     (k : Task) (b : ℕ) (s : State)
     → applicable (normal_state s) (move_at (normal_task k) b) ≡ applicable s (move_at k b)
-move_applicable k b s = ap (applicable (normal_state s)) (normal_move k b) ∙ normal-applicable s (move_at k b)
+move_applicable k b s = ap (applicable (normal_state s)) (normal_move k b) ∙ normal_applicable s (move_at k b)
 
 -- "each move's conditions hold when it runs and the goal holds at the end", move by move
 same_solutions :
     (k : Task) (bs : List ℕ) (s : State)
     → Solves real (normal_task k) (normal_state s) bs ≡ Solves real k s bs
 unfolding normal_task
-same_solutions k [] s = ap T (normal-applicable s k.goal)
+same_solutions k [] s = ap T (normal_applicable s k.goal)
 same_solutions k (b ∷ bs) s =
     λ i.
     (b < normal_moves k i)

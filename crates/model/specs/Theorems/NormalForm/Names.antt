@@ -9,7 +9,7 @@ use Rattle.model.specs.Task.{Term, Comparison, at_least, above, at_most, below, 
 use Rattle.model.specs.NormalForm.{negated, signed_sum, least, normal_condition, mirrored, normal_effect, normal_item, normal_block}
 use Rattle.model.specs.Theorems.Reading.WellFormed.{Once}
 use Rattle.model.specs.Theorems.Laws.Booleans.{true_t, T-equal, T-cases, or_left, or_right, or_cases}
-use Rattle.model.specs.Theorems.NormalForm.Blocks.{any-normal, any-condition, any-effect, any-plain}
+use Rattle.model.specs.Theorems.NormalForm.Blocks.{any_normal, any_condition, any_effect, any_plain}
 
 -- a condition names nothing
 condition_free : (c : Condition) (b : Block) → T (not (any (clashes (condition c)) b))
@@ -52,26 +52,26 @@ half_test w v = T-equal (eqb w (2 * v) || eqb w (2 * v + 1)) (eqb (w / 2) v) for
 
 -- an effect on a signed variable of v meets in a normal block what an effect on v meets in the block
 module _ (x e : Effect) (half : x.var / 2 ≡ e.var) where
-  effect-item : (i : Item) → any (clashes (effect x)) (normal_item i) ≡ clashes (effect e) i
+  effect_item : (i : Item) → any (clashes (effect x)) (normal_item i) ≡ clashes (effect e) i
   unfolding any clashes normal_item
-  effect-item (need p) = refl
-  effect-item (add p) = refl
-  effect-item (delete p) = refl
-  effect-item (condition c) = any-condition (clashes (effect x)) (λ d. refl) c.comparison c.terms c.bound
-  effect-item (effect f) =
-      any-effect (clashes (effect x)) (eqb x.var) (λ d. refl) f.kind f.var f.terms f.base
+  effect_item (need p) = refl
+  effect_item (add p) = refl
+  effect_item (delete p) = refl
+  effect_item (condition c) = any_condition (clashes (effect x)) (λ d. refl) c.comparison c.terms c.bound
+  effect_item (effect f) =
+      any_effect (clashes (effect x)) (eqb x.var) (λ d. refl) f.kind f.var f.terms f.base
       ∙ half_test x.var f.var
       ∙ ap (λ (u : ℕ). eqb u f.var) half
 
-  effect-clashes : (b : Block) → any (clashes (effect x)) (normal_block b) ≡ any (clashes (effect e)) b
-  effect-clashes b = any-normal (clashes (effect x)) b ∙ ap (λ (g : Item → Bool). any g b) (fun_ext effect-item)
+  effect_clashes : (b : Block) → any (clashes (effect x)) (normal_block b) ≡ any (clashes (effect e)) b
+  effect_clashes b = any_normal (clashes (effect x)) b ∙ ap (λ (g : Item → Bool). any g b) (fun_ext effect_item)
 
 module _
     (e : Effect) (b : Block) (free : T (not (any (clashes (effect e)) b))) (once : Once (normal_block b)) where
   -- an effect and its mirror are on two variables
-  mirrored-once : (k : Kind) (ts : List Term) (c : ℤ) → Once (mirrored k e.var ts c ++ normal_block b)
+  mirrored_once : (k : Kind) (ts : List Term) (c : ℤ) → Once (mirrored k e.var ts c ++ normal_block b)
   unfolding mirrored any clashes
-  mirrored-once k ts c = (rw apart (alone even (omega arith)), (alone odd (omega arith), once))
+  mirrored_once k ts c = (rw apart (alone even (omega arith)), (alone odd (omega arith), once))
     where
       even : Effect
       even = record { kind = k; var = 2 * e.var; terms = signed_sum ts; base = c }
@@ -80,16 +80,16 @@ module _
       odd = record { kind = k; var = 2 * e.var + 1; terms = signed_sum (negated ts); base = neg_ℤ c }
 
       alone : (x : Effect) → x.var / 2 ≡ e.var → T (not (any (clashes (effect x)) (normal_block b)))
-      alone x half = rw (effect-clashes x e half b) free
+      alone x half = rw (effect_clashes x e half b) free
 
       apart : eqb (2 * e.var) (2 * e.var + 1) ≡ false
       apart = ne_eqb (2 * e.var) (2 * e.var + 1) (λ h. omega arith)
 
-  effect-once : (k : Kind) (ts : List Term) (c : ℤ) → Once (normal_effect k e.var ts c ++ normal_block b)
+  effect_once : (k : Kind) (ts : List Term) (c : ℤ) → Once (normal_effect k e.var ts c ++ normal_block b)
   unfolding normal_effect
-  effect-once assign ts c = mirrored-once assign ts c
-  effect-once increase ts c = mirrored-once increase ts c
-  effect-once decrease ts c = mirrored-once increase (negated ts) (neg_ℤ c)
+  effect_once assign ts c = mirrored_once assign ts c
+  effect_once increase ts c = mirrored_once increase ts c
+  effect_once decrease ts c = mirrored_once increase (negated ts) (neg_ℤ c)
 
 -- "In a block a proposition is named once at most by 50, and once at most by 2B and 2D together; a move has one effect at
 -- most on a variable": the normal form keeps that.
@@ -97,12 +97,12 @@ pub normal_once : (b : Block) → Once b → Once (normal_block b)
 unfolding normal_block normal_item clashes
 normal_once [] once = tt
 normal_once (need p ∷ b) once =
-    (rw (any-plain (clashes (need p)) (λ c. refl) (λ e. refl) b) once.0, normal_once b once.1)
+    (rw (any_plain (clashes (need p)) (λ c. refl) (λ e. refl) b) once.0, normal_once b once.1)
 normal_once (add p ∷ b) once =
-    (rw (any-plain (clashes (add p)) (λ c. refl) (λ e. refl) b) once.0, normal_once b once.1)
+    (rw (any_plain (clashes (add p)) (λ c. refl) (λ e. refl) b) once.0, normal_once b once.1)
 normal_once (delete p ∷ b) once =
-    (rw (any-plain (clashes (delete p)) (λ c. refl) (λ e. refl) b) once.0, normal_once b once.1)
+    (rw (any_plain (clashes (delete p)) (λ c. refl) (λ e. refl) b) once.0, normal_once b once.1)
 normal_once (condition c ∷ b) once =
     condition_once c.comparison c.terms c.bound (normal_block b) (normal_once b once.1)
 normal_once (effect e ∷ b) once =
-    effect-once e b once.0 (normal_once b once.1) e.kind e.terms e.base
+    effect_once e b once.0 (normal_once b once.1) e.kind e.terms e.base

@@ -13,7 +13,7 @@ use Rattle.model.specs.Calls.{normal_bytes}
 use Rattle.model.specs.StateTable.{state_refusal}
 use Rattle.model.specs.Theorems.Reading.WellFormed.{TaskOk}
 use Rattle.model.specs.Theorems.Reading.Kept.{kept_length}
-use Rattle.model.specs.Theorems.Reading.Accepted.{reading-length, reading-limit, reading_form, reading_task, reading-active}
+use Rattle.model.specs.Theorems.Reading.Accepted.{reading_length, reading_limit, reading_form, reading_task, reading_active}
 use Rattle.model.specs.Theorems.NormalForm.SignedSums.{negative, negated_map}
 use Rattle.model.specs.Theorems.Reading.Active.{AllActive, only_checks}
 use Rattle.model.specs.Theorems.NormalForm.Active.{normal_all_active}
@@ -163,13 +163,13 @@ normal_read {L} k small room ok does short =
 -- the print of an accepted written table's task is as long as the table
 pub written_length_lem : (t : List ℕ) {w : Table} → reading paper (only written) t ≡ accepted w → length (task_bytes written w.task) ≡ length t
 written_length_lem t {w} e =
-    ap (λ (f : Form). length (task_bytes f w.task)) (sym (reading_form paper written t e)) ∙ sym (reading-length paper (only written) t e)
+    ap (λ (f : Form). length (task_bytes f w.task)) (sym (reading_form paper written t e)) ∙ sym (reading_length paper (only written) t e)
 
 -- "written 32,000 .. bytes at most"
 pub written_short : (t : List ℕ) {w : Table} → reading paper (only written) t ≡ accepted w → length (task_bytes written w.task) ≤ 32_000
 unfolding paper length_limit
 written_short t {w} e =
-    let limit : length t ≤ 32_000 = reading-limit paper (only written) t e in
+    let limit : length t ≤ 32_000 = reading_limit paper (only written) t e in
     omega (arith, written_length_lem t e)
 
 -- The normal form of every accepted written table is a table that decide and plan accept: head 4E with the same propositions,
@@ -181,7 +181,7 @@ pub normal_accepted :
 unfolding paper
 normal_accepted t {w} e =
     normal_read w.task paper_small (omega arith) (reading_task paper written t e)
-    (reading-active paper (only written) t e (only_checks written)) (written_short t e)
+    (reading_active paper (only written) t e (only_checks written)) (written_short t e)
 
 -- ---- the state
 

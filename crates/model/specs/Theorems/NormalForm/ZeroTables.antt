@@ -19,7 +19,7 @@ use Rattle.model.specs.StateTable.{state_of, state_refusal}
 use Rattle.model.specs.Calls.{Output, writes, turns, fitted, write_answer, output_after, normal_of, normalised, normalise_answer, normalise_out, result_of, moved, step_with_state, step_of, stepped, step_answer, step_out, on_output, prepared, decide_answer, plan_answer, plan_memory, plan_out, campaign_decision, campaign_plan, campaign_memory, campaign_out}
 use Rattle.model.specs.Listing.{listing_bytes, refusal_text, ready_text, listing}
 use Rattle.model.specs.Theorems.Reading.WellFormed.{All, TaskOk}
-use Rattle.model.specs.Theorems.Reading.Accepted.{reading_task, reading-active}
+use Rattle.model.specs.Theorems.Reading.Accepted.{reading_task, reading_active}
 use Rattle.model.specs.Theorems.Reading.Active.{AllActive, only_checks}
 use Rattle.model.specs.Theorems.Reading.Kept.{kept_length}
 use Rattle.model.specs.Theorems.Printing.Passing.{paper_small}
@@ -115,51 +115,51 @@ step_same L k bs b none =
 -- ---- the calls
 
 accepted_active : (t : List ℕ) {w : Table} → reading paper (only written) t ≡ accepted w → AllActive w.task.moves
-accepted_active t read = reading-active paper (only written) t read (only_checks written)
+accepted_active t read = reading_active paper (only written) t read (only_checks written)
 
 module _ (t : List ℕ) {w : Table} (read : reading paper (only written) t ≡ accepted w) where
   -- the table without its terms of weight 0
   abbrev pub lean : List ℕ
   lean = task_bytes written (without_zero w.task)
 
-  pub lean-accepted : reading paper (only written) lean ≡ accepted (printed_table written (without_zero w.task))
+  pub lean_accepted : reading paper (only written) lean ≡ accepted (printed_table written (without_zero w.task))
   unfolding paper length_limit without_zero
-  lean-accepted =
+  lean_accepted =
       print_read_only written (without_zero w.task) paper_small (without_ok w.task (reading_task paper written t read))
       (without_active w.task.moves (accepted_active t read))
       (omega (arith, without_shorter w.task, written_short t read))
 
-  lean-normalised : (size : ℕ) → normalised paper lean size ≡ normalised paper t size
+  lean_normalised : (size : ℕ) → normalised paper lean size ≡ normalised paper t size
   unfolding normalised normal_of printed_table
-  lean-normalised size =
-      ap (λ (v : Verdict). fitted size (normal_of v)) lean-accepted
+  lean_normalised size =
+      ap (λ (v : Verdict). fitted size (normal_of v)) lean_accepted
       ∙ ap (λ (bs : List ℕ). fitted size (writes bs)) (without_normal_bytes w.task)
       ∙ ap (λ (v : Verdict). fitted size (normal_of v)) (sym read)
 
   -- "the normal form drops it": normalise answers and writes the same
-  pub lean-normalise-answer : (out : List ℕ) → normalise_answer paper lean out ≡ normalise_answer paper t out
+  pub lean_normalise_answer : (out : List ℕ) → normalise_answer paper lean out ≡ normalise_answer paper t out
   unfolding normalise_answer
-  lean-normalise-answer out = ap write_answer (lean-normalised (length out))
+  lean_normalise_answer out = ap write_answer (lean_normalised (length out))
 
-  pub lean-normalise-out : (out : List ℕ) → normalise_out paper lean out ≡ normalise_out paper t out
+  pub lean_normalise_out : (out : List ℕ) → normalise_out paper lean out ≡ normalise_out paper t out
   unfolding normalise_out
-  lean-normalise-out out = ap (λ (o : Output). output_after o out) (lean-normalised (length out))
+  lean_normalise_out out = ap (λ (o : Output). output_after o out) (lean_normalised (length out))
 
-  lean-stepped : (bs : List ℕ) (b size : ℕ) → stepped paper lean bs b size ≡ stepped paper t bs b size
+  lean_stepped : (bs : List ℕ) (b size : ℕ) → stepped paper lean bs b size ≡ stepped paper t bs b size
   unfolding stepped step_of printed_table without_zero
-  lean-stepped bs b size =
-      ap (λ (v : Verdict). fitted size (step_of paper v bs b)) lean-accepted
+  lean_stepped bs b size =
+      ap (λ (v : Verdict). fitted size (step_of paper v bs b)) lean_accepted
       ∙ ap (fitted size) (step_same paper w.task bs b (state_refusal paper w.task.props w.task.vars bs))
       ∙ ap (λ (v : Verdict). fitted size (step_of paper v bs b)) (sym read)
 
   -- "a real step passes over it": so does step
-  pub lean-step-answer : (bs : List ℕ) (b : ℕ) (out : List ℕ) → step_answer paper lean bs b out ≡ step_answer paper t bs b out
+  pub lean_step_answer : (bs : List ℕ) (b : ℕ) (out : List ℕ) → step_answer paper lean bs b out ≡ step_answer paper t bs b out
   unfolding step_answer
-  lean-step-answer bs b out = ap write_answer (lean-stepped bs b (length out))
+  lean_step_answer bs b out = ap write_answer (lean_stepped bs b (length out))
 
-  pub lean-step-out : (bs : List ℕ) (b : ℕ) (out : List ℕ) → step_out paper lean bs b out ≡ step_out paper t bs b out
+  pub lean_step_out : (bs : List ℕ) (b : ℕ) (out : List ℕ) → step_out paper lean bs b out ≡ step_out paper t bs b out
   unfolding step_out
-  lean-step-out bs b out = ap (λ (o : Output). output_after o out) (lean-stepped bs b (length out))
+  lean_step_out bs b out = ap (λ (o : Output). output_after o out) (lean_stepped bs b (length out))
 
 -- ---- tables that differ only in terms of weight 0
 
@@ -191,8 +191,8 @@ module _
   alike : {X : Type 0} (f : List ℕ → X) → f (lean t first) ≡ f t → f (lean u second) ≡ f u → f t ≡ f u
   alike f e g = sym e ∙ ap (λ (k : Task). f (task_bytes written k)) same ∙ g
 
-  same-normalised : (size : ℕ) → normalised paper t size ≡ normalised paper u size
-  same-normalised size = alike (λ (l : List ℕ). normalised paper l size) (lean-normalised t first size) (lean-normalised u second size)
+  same_normalised : (size : ℕ) → normalised paper t size ≡ normalised paper u size
+  same_normalised size = alike (λ (l : List ℕ). normalised paper l size) (lean_normalised t first size) (lean_normalised u second size)
 
   -- "A written term with weight 0 is to be read as no contribution."
   pub same_answers : SameAnswers t u
@@ -200,23 +200,23 @@ module _
   same_answers =
       record {
         normalise = λ out. (
-          alike (λ (l : List ℕ). normalise_answer paper l out) (lean-normalise-answer t first out) (lean-normalise-answer u second out),
-          alike (λ (l : List ℕ). normalise_out paper l out) (lean-normalise-out t first out) (lean-normalise-out u second out),
+          alike (λ (l : List ℕ). normalise_answer paper l out) (lean_normalise_answer t first out) (lean_normalise_answer u second out),
+          alike (λ (l : List ℕ). normalise_out paper l out) (lean_normalise_out t first out) (lean_normalise_out u second out),
         );
         step = λ bs b out. (
-          alike (λ (l : List ℕ). step_answer paper l bs b out) (lean-step-answer t first bs b out) (lean-step-answer u second bs b out),
-          alike (λ (l : List ℕ). step_out paper l bs b out) (lean-step-out t first bs b out) (lean-step-out u second bs b out),
+          alike (λ (l : List ℕ). step_answer paper l bs b out) (lean_step_answer t first bs b out) (lean_step_answer u second bs b out),
+          alike (λ (l : List ℕ). step_out paper l bs b out) (lean_step_out t first bs b out) (lean_step_out u second bs b out),
         );
         decision = λ bs normalOut mem.
-            ap (λ (o : Output). on_output o (λ nb. decide_answer paper nb bs mem) (λ r. decide.Refused r)) (same-normalised (length normalOut));
+            ap (λ (o : Output). on_output o (λ nb. decide_answer paper nb bs mem) (λ r. decide.Refused r)) (same_normalised (length normalOut));
         plan = λ bs normalOut mem out.
-            ap (λ (o : Output). on_output o (λ nb. plan_answer paper nb bs mem out) (λ r. plan.Refused r)) (same-normalised (length normalOut));
+            ap (λ (o : Output). on_output o (λ nb. plan_answer paper nb bs mem out) (λ r. plan.Refused r)) (same_normalised (length normalOut));
         memory = λ bs normalOut mem.
-            ap (λ (o : Output). on_output o (λ nb. plan_memory paper nb bs mem) (λ r. mem)) (same-normalised (length normalOut));
+            ap (λ (o : Output). on_output o (λ nb. plan_memory paper nb bs mem) (λ r. mem)) (same_normalised (length normalOut));
         records = λ bs normalOut mem out.
-            ap (λ (o : Output). on_output o (λ nb. plan_out paper nb bs mem out) (λ r. out)) (same-normalised (length normalOut));
+            ap (λ (o : Output). on_output o (λ nb. plan_out paper nb bs mem out) (λ r. out)) (same_normalised (length normalOut));
         listed = λ bs.
-            ap (λ (o : Output). on_output o (λ nb. ready_text paper (prepared paper nb bs)) (λ r. refusal_text r)) (same-normalised listing_bytes);
+            ap (λ (o : Output). on_output o (λ nb. ready_text paper (prepared paper nb bs)) (λ r. refusal_text r)) (same_normalised listing_bytes);
       }
 
 -- "Refusal 4 no longer covers it": where a table is accepted, so is the print of any task k that differs from it only in terms of weight 0,

@@ -114,48 +114,48 @@ module _
     (f : Item → Bool)
     (same-condition : (c : Condition) → f (item_without (condition c)) ≡ f (condition c))
     (same_effect : (e : Effect) → f (item_without (effect e)) ≡ f (effect e)) where
-  item-test : (i : Item) → f (item_without i) ≡ f i
+  item_test : (i : Item) → f (item_without i) ≡ f i
   unfolding item_without
-  item-test (need p) = refl
-  item-test (add p) = refl
-  item-test (delete p) = refl
-  item-test (condition c) = same-condition c
-  item-test (effect e) = same_effect e
+  item_test (need p) = refl
+  item_test (add p) = refl
+  item_test (delete p) = refl
+  item_test (condition c) = same-condition c
+  item_test (effect e) = same_effect e
 
-  any-without : (b : Block) → any f (block_without b) ≡ any f b
+  any_without : (b : Block) → any f (block_without b) ≡ any f b
   unfolding any block_without
-  any-without [] = refl
-  any-without (i ∷ b) = ap₂ ◌||◌ (item-test i) (any-without b)
+  any_without [] = refl
+  any_without (i ∷ b) = ap₂ ◌||◌ (item_test i) (any_without b)
 
   all_without : (b : Block) → all f (block_without b) ≡ all f b
   unfolding all block_without
   all_without [] = refl
-  all_without (i ∷ b) = ap₂ ◌&&◌ (item-test i) (all_without b)
+  all_without (i ∷ b) = ap₂ ◌&&◌ (item_test i) (all_without b)
 
 -- ---- edges: "It makes no := edge"
 
 module _ (u v : ℕ) where
-  block-edge : (b : Block) → any (item_edge u v) (block_without b) ≡ any (item_edge u v) b
+  block_edge : (b : Block) → any (item_edge u v) (block_without b) ≡ any (item_edge u v) b
   unfolding item_edge item_without
-  block-edge b =
-      any-without (item_edge u v) (λ c. refl)
+  block_edge b =
+      any_without (item_edge u v) (λ c. refl)
       (λ e. ap (λ (ts : List Term). is_assign e.kind && eqb e.var v && any (λ t. eqb t.var u) ts) (kept_again e.terms))
       b
 
-  blocks-edge : (bs : List Block) → any (λ m. any (item_edge u v) m) (map block_without bs) ≡ any (λ m. any (item_edge u v) m) bs
+  blocks_edge : (bs : List Block) → any (λ m. any (item_edge u v) m) (map block_without bs) ≡ any (λ m. any (item_edge u v) m) bs
   unfolding any
-  blocks-edge [] = refl
-  blocks-edge (b ∷ bs) = ap₂ ◌||◌ (block-edge b) (blocks-edge bs)
+  blocks_edge [] = refl
+  blocks_edge (b ∷ bs) = ap₂ ◌||◌ (block_edge b) (blocks_edge bs)
 
-  pub without-edge : (k : Task) → edge (without_zero k) u v ≡ edge k u v
+  pub without_edge : (k : Task) → edge (without_zero k) u v ≡ edge k u v
   unfolding edge without_zero
-  without-edge k = blocks-edge k.moves
+  without_edge k = blocks_edge k.moves
 
 without_walk : (k : Task) (n v : ℕ) → walk_to (without_zero k) n v ≡ walk_to k n v
 unfolding walk_to without_zero
 without_walk k zero v = refl
 without_walk k (suc n) v =
-    λ i. any_below (λ u. elim (without-edge u v k i) [ true ↦ without_walk k n u i | false ↦ false ]) k.vars
+    λ i. any_below (λ u. elim (without_edge u v k i) [ true ↦ without_walk k n u i | false ↦ false ]) k.vars
 
 pub without_circular : (k : Task) → circular (without_zero k) ≡ circular k
 unfolding circular without_zero
@@ -170,11 +170,11 @@ without_applicable s b =
 
 without_adds : (p : ℕ) (b : Block) → adds p (block_without b) ≡ adds p b
 unfolding adds is_add item_without
-without_adds p b = any-without (is_add p) (λ c. refl) (λ e. refl) b
+without_adds p b = any_without (is_add p) (λ c. refl) (λ e. refl) b
 
 without_deletes : (p : ℕ) (b : Block) → deletes p (block_without b) ≡ deletes p b
 unfolding deletes is_delete item_without
-without_deletes p b = any-without (is_delete p) (λ c. refl) (λ e. refl) b
+without_deletes p b = any_without (is_delete p) (λ c. refl) (λ e. refl) b
 
 without_change : (s : State) (v : ℕ) (b : Block) → changed_by s v (effect_on v (block_without b)) ≡ changed_by s v (effect_on v b)
 unfolding effect_on changed_by value block_without item_without
@@ -189,10 +189,10 @@ without_change s v (effect e ∷ b) = either (eqb e.var v) (without_change s v b
     less = record { kind = e.kind; var = e.var; terms = kept e.terms; base = e.base }
 
     either :
-        (on-v : Bool)
+        (on_v : Bool)
         → changed_by s v (effect_on v (block_without b)) ≡ changed_by s v (effect_on v b)
-        → changed_by s v (elim on-v [ true ↦ some less | false ↦ effect_on v (block_without b) ])
-        ≡ changed_by s v (elim on-v [ true ↦ some e | false ↦ effect_on v b ])
+        → changed_by s v (elim on_v [ true ↦ some less | false ↦ effect_on v (block_without b) ])
+        ≡ changed_by s v (elim on_v [ true ↦ some e | false ↦ effect_on v b ])
     either true later = ap (λ (z : ℤ). changed e.kind (s.val v) (z +ℤ e.base)) (kept_sum s.val e.terms)
     either false later = later
 
@@ -235,8 +235,8 @@ without_solves k bs s = (transport (same_solutions k bs s), transport (sym (same
 -- ---- checks
 
 module _ (L : Limits) (f : Form) (vars : ℕ) where
-  sum-ok : (ts : List Term) → SumOk L f vars ts → SumOk L f vars (kept ts)
-  sum-ok ts ok =
+  sum_ok : (ts : List Term) → SumOk L f vars ts → SumOk L f vars (kept ts)
+  sum_ok ts ok =
       record {
         terms = kept_all (TermOk L f vars) ts ok.terms;
         few = omega (arith, kept_length ts, ok.few);
@@ -249,17 +249,17 @@ module _ (L : Limits) (f : Form) (vars : ℕ) where
   item_ok props (add p) ok = ok
   item_ok props (delete p) ok = ok
   item_ok props (condition c) ok =
-      record { sum = sum-ok c.terms ok.sum; comparison = ok.comparison; bound = ok.bound }
+      record { sum = sum_ok c.terms ok.sum; comparison = ok.comparison; bound = ok.bound }
   item_ok props (effect e) ok =
-      record { var = ok.var; kind = ok.kind; sum = sum-ok e.terms ok.sum; base = ok.base }
+      record { var = ok.var; kind = ok.kind; sum = sum_ok e.terms ok.sum; base = ok.base }
 
 item_clashes : (i : Item) (b : Block) → any (clashes (item_without i)) (block_without b) ≡ any (clashes i) b
 unfolding clashes item_without
-item_clashes (need p) b = any-without (clashes (need p)) (λ c. refl) (λ e. refl) b
-item_clashes (add p) b = any-without (clashes (add p)) (λ c. refl) (λ e. refl) b
-item_clashes (delete p) b = any-without (clashes (delete p)) (λ c. refl) (λ e. refl) b
-item_clashes (condition c) b = any-without (clashes (condition c)) (λ d. refl) (λ e. refl) b
-item_clashes (effect e) b = any-without (clashes (effect e)) (λ c. refl) (λ f. refl) b
+item_clashes (need p) b = any_without (clashes (need p)) (λ c. refl) (λ e. refl) b
+item_clashes (add p) b = any_without (clashes (add p)) (λ c. refl) (λ e. refl) b
+item_clashes (delete p) b = any_without (clashes (delete p)) (λ c. refl) (λ e. refl) b
+item_clashes (condition c) b = any_without (clashes (condition c)) (λ d. refl) (λ e. refl) b
+item_clashes (effect e) b = any_without (clashes (effect e)) (λ c. refl) (λ f. refl) b
 
 block_once : (b : Block) → Once b → Once (block_without b)
 unfolding block_without
@@ -282,14 +282,14 @@ without_ok {L} {f} k ok =
       props = ok.props;
       vars = ok.vars;
       moves = omega (arith, without_moves k, ok.moves);
-      blocks = All-of-map (BlockOk L f k.props k.vars) block_without k.moves block-ok ok.blocks;
-      goal = block-ok k.goal ok.goal;
+      blocks = All-of-map (BlockOk L f k.props k.vars) block_without k.moves block_ok ok.blocks;
+      goal = block_ok k.goal ok.goal;
       goal_items = All-of-map GoalItem item_without k.goal goal_item ok.goal_items;
       no_circle = without_circular k ∙ ok.no_circle;
     }
   where
-    block-ok : (b : Block) → BlockOk L f k.props k.vars b → BlockOk L f k.props k.vars (block_without b)
-    block-ok b h =
+    block_ok : (b : Block) → BlockOk L f k.props k.vars b → BlockOk L f k.props k.vars (block_without b)
+    block_ok b h =
         record {
           items = All-of-map (ItemOk L f k.props k.vars) item_without b (item_ok L f k.vars k.props) h.items;
           once = block_once b h.once;
@@ -302,29 +302,29 @@ module _ (L : Limits) (f : Form) (vars : ℕ) where
   abbrev pub SumsOk : Block → Type 0
   SumsOk b = All (λ (i : Item). SumOk L f vars (terms_of i)) b
 
-  item-filled : (props : ℕ) (i : Item) → ItemOk L f props vars (item_without i) → SumOk L f vars (terms_of i) → ItemOk L f props vars i
+  item_filled : (props : ℕ) (i : Item) → ItemOk L f props vars (item_without i) → SumOk L f vars (terms_of i) → ItemOk L f props vars i
   unfolding item_without terms_of
-  item-filled props (need p) ok sum = ok
-  item-filled props (add p) ok sum = ok
-  item-filled props (delete p) ok sum = ok
-  item-filled props (condition c) ok sum = record { sum = sum; comparison = ok.comparison; bound = ok.bound }
-  item-filled props (effect e) ok sum = record { var = ok.var; kind = ok.kind; sum = sum; base = ok.base }
+  item_filled props (need p) ok sum = ok
+  item_filled props (add p) ok sum = ok
+  item_filled props (delete p) ok sum = ok
+  item_filled props (condition c) ok sum = record { sum = sum; comparison = ok.comparison; bound = ok.bound }
+  item_filled props (effect e) ok sum = record { var = ok.var; kind = ok.kind; sum = sum; base = ok.base }
 
-  block-filled : (props : ℕ) (b : Block) → BlockOk L f props vars (block_without b) → SumsOk b → BlockOk L f props vars b
+  block_filled : (props : ℕ) (b : Block) → BlockOk L f props vars (block_without b) → SumsOk b → BlockOk L f props vars b
   unfolding block_without
-  block-filled props b ok sums = record { items = items b ok.items sums; once = once b ok.once }
+  block_filled props b ok sums = record { items = items b ok.items sums; once = once b ok.once }
     where
       items : (b : Block) → All (ItemOk L f props vars) (map item_without b) → SumsOk b → All (ItemOk L f props vars) b
       items [] h s = tt
-      items (i ∷ b) h s = (item-filled props i h.0 s.0, items b h.1 s.1)
+      items (i ∷ b) h s = (item_filled props i h.0 s.0, items b h.1 s.1)
 
       once : (b : Block) → Once (map item_without b) → Once b
       once [] h = tt
       once (i ∷ b) h = (subst (λ (x : Bool). T (not x)) (item_clashes i b) h.0, once b h.1)
 
-  blocks-filled : (props : ℕ) (bs : List Block) → All (BlockOk L f props vars) (map block_without bs) → All SumsOk bs → All (BlockOk L f props vars) bs
-  blocks-filled props [] ok sums = tt
-  blocks-filled props (b ∷ bs) ok sums = (block-filled props b ok.0 sums.0, blocks-filled props bs ok.1 sums.1)
+  blocks_filled : (props : ℕ) (bs : List Block) → All (BlockOk L f props vars) (map block_without bs) → All SumsOk bs → All (BlockOk L f props vars) bs
+  blocks_filled props [] ok sums = tt
+  blocks_filled props (b ∷ bs) ok sums = (block_filled props b ok.0 sums.0, blocks_filled props bs ok.1 sums.1)
 
 goal_filled : (b : Block) → All GoalItem (block_without b) → All GoalItem b
 unfolding block_without item_without
@@ -348,8 +348,8 @@ filled_ok {L} {f} k ok moves goal =
       props = ok.props;
       vars = ok.vars;
       moves = omega (arith, without_moves k, ok.moves);
-      blocks = blocks-filled L f k.vars k.props k.moves ok.blocks moves;
-      goal = block-filled L f k.vars k.props k.goal ok.goal goal;
+      blocks = blocks_filled L f k.vars k.props k.moves ok.blocks moves;
+      goal = block_filled L f k.vars k.props k.goal ok.goal goal;
       goal_items = goal_filled k.goal ok.goal_items;
       no_circle = sym (without_circular k) ∙ ok.no_circle;
     }

@@ -17,14 +17,14 @@ use Rattle.model.specs.Pddl.{Domain, Problem, domain_text, problem_text, domain_
 use Rattle.model.specs.PddlMeaning.{IsPlan, TextPlan}
 use Rattle.model.specs.Theorems.Reading.Accepted.{reading_task}
 use Rattle.model.specs.Theorems.Reading.States.{accepted_state, state_bytes_same, state_canonical}
-use Rattle.model.specs.Theorems.Printing.Outputs.{fitted-whole, fitted_short, fitted_cases, written_part}
+use Rattle.model.specs.Theorems.Printing.Outputs.{fitted_whole, fitted_short, fitted_cases, written_part}
 use Rattle.model.specs.Theorems.Campaigns.Demand3.{Given, DecideNoPlan}
-use Rattle.model.specs.Theorems.Campaigns.OneCall.{campaign-promise}
-use Rattle.model.specs.Theorems.Pddl.Declared.{Declared, text-declared}
-use Rattle.model.specs.Theorems.Pddl.Plans.{plan-solves}
+use Rattle.model.specs.Theorems.Campaigns.OneCall.{campaign_promise}
+use Rattle.model.specs.Theorems.Pddl.Declared.{Declared, text_declared}
+use Rattle.model.specs.Theorems.Pddl.Plans.{plan_solves}
 use Rattle.model.specs.Theorems.Pddl.Documents.{one_document}
-use Rattle.model.specs.Theorems.Pddl.Text.{conditions_of, Same, whole_goal, one-text}
-use Rattle.model.specs.Theorems.Pddl.Sizes.{accepted-size}
+use Rattle.model.specs.Theorems.Pddl.Text.{conditions_of, Same, whole_goal, one_text}
+use Rattle.model.specs.Theorems.Pddl.Sizes.{accepted_size}
 
 -- ---- what a call that writes was given
 
@@ -53,25 +53,25 @@ unfitted size (writes bs) {x} =
     fitted_cases size bs (λ (o : Output). o ≡ writes x → writes bs ≡ writes x) (λ h e. e) (λ h e. absurd (no_text e))
 
 module _ (L : Limits) (t bs x : List ℕ) where
-  with-state :
+  with_state :
       (k : Table) (o : Option Refusal)
       → reading L (only written) t ≡ accepted k
       → state_refusal L k.task.props k.task.vars bs ≡ o
       → text_with_state k.task bs o ≡ writes x
       → Wrote L t bs x
   unfolding text_with_state
-  with-state k (some r) read state e = absurd (no_text e)
-  with-state k none read state e = record { table = k; read = read; state = state; text = cc }
+  with_state k (some r) read state e = absurd (no_text e)
+  with_state k none read state e = record { table = k; read = read; state = state; text = cc }
 
-  with-table : (v : Verdict) → reading L (only written) t ≡ v → text_of L v bs ≡ writes x → Wrote L t bs x
+  with_table : (v : Verdict) → reading L (only written) t ≡ v → text_of L v bs ≡ writes x → Wrote L t bs x
   unfolding text_of
-  with-table (refused r) read e = absurd (no_text e)
-  with-table (accepted k) read e = with-state k (state_refusal L k.task.props k.task.vars bs) read refl e
+  with_table (refused r) read e = absurd (no_text e)
+  with_table (accepted k) read e = with_state k (state_refusal L k.task.props k.task.vars bs) read refl e
 
   -- "exactly that text is written"
   pub wrote : (size : ℕ) → pddl_text L t bs size ≡ writes x → Wrote L t bs x
   unfolding pddl_text
-  wrote size e = with-table (reading L (only written) t) refl (unfitted size (text_of L (reading L (only written) t) bs) e)
+  wrote size e = with_table (reading L (only written) t) refl (unfitted size (text_of L (reading L (only written) t) bs) e)
 
 -- an accepted table and an accepted state: the text is written where it fits, and 13 is answered where it does not
 module _ (L : Limits) (t bs : List ℕ) (size : ℕ) {k : Table} (read : reading L (only written) t ≡ accepted k)
@@ -86,11 +86,11 @@ module _ (L : Limits) (t bs : List ℕ) (size : ℕ) {k : Table} (read : reading
         ap (λ (v : Verdict). fitted size (text_of L v bs)) read
         ∙ ap (λ (o : Option Refusal). fitted size (text_with_state k.task bs o)) right
 
-    pub text-fits : length text ≤ size → pddl_text L t bs size ≡ writes text
-    text-fits h = answered ∙ fitted-whole size text h
+    pub text_fits : length text ≤ size → pddl_text L t bs size ≡ writes text
+    text_fits h = answered ∙ fitted_whole size text h
 
-    pub text-too-long : size < length text → pddl_text L t bs size ≡ turns (record { number = 13; place = 0 })
-    text-too-long h = answered ∙ fitted_short size text h
+    pub text_too_long : size < length text → pddl_text L t bs size ≡ turns (record { number = 13; place = 0 })
+    text_too_long h = answered ∙ fitted_short size text h
 
 -- ten bytes for each byte of the table and 10,000 more are enough for any state
 pub text_always :
@@ -98,7 +98,7 @@ pub text_always :
     → state_refusal paper k.task.props k.task.vars bs ≡ none
     → 10 * length t + 10_000 ≤ size
     → pddl_text paper t bs size ≡ writes (task_text k.task (state_of k.task.props bs))
-text_always t bs size read right h = text-fits paper t bs size read right (omega (arith, accepted-size t bs read right))
+text_always t bs size read right h = text_fits paper t bs size read right (omega (arith, accepted_size t bs read right))
 
 -- an answer of n bytes: the first n bytes of the output are the text
 pub wrote_part :
@@ -123,7 +123,7 @@ same_text : {L : Limits} {t u bs cs x y : List ℕ} (w : Wrote L t bs x) (z : Wr
 same_text {L} {t} {u} {bs} {cs} w z e =
     record {
       same = same;
-      goal = sym (goal-whole t w) ∙ same.goal ∙ goal-whole u z;
+      goal = sym (goal_whole t w) ∙ same.goal ∙ goal_whole u z;
       state = λ all-bs all-cs.
           sym (state_canonical (accepted_state L k.props k.vars bs w.state) all-bs)
           ∙ state_bytes_same k.props k.vars (state_in w) (state_in z) same.state.has same.state.val
@@ -138,10 +138,10 @@ same_text {L} {t} {u} {bs} {cs} w z e =
     n = task_in z
 
     same : Same k n (state_in w) (state_in z)
-    same = one-text k n (state_in w) (state_in z) (w.text ∙ e ∙ sym z.text)
+    same = one_text k n (state_in w) (state_in z) (w.text ∙ e ∙ sym z.text)
 
-    goal-whole : (l : List ℕ) {ds d : List ℕ} (v : Wrote L l ds d) → conditions_of (task_in v).goal ≡ (task_in v).goal
-    goal-whole l v = whole_goal (task_in v).goal (reading_task L written l v.read).goal_items
+    goal_whole : (l : List ℕ) {ds d : List ℕ} (v : Wrote L l ds d) → conditions_of (task_in v).goal ≡ (task_in v).goal
+    goal_whole l v = whole_goal (task_in v).goal (reading_task L written l v.read).goal_items
 
 -- "Two tables with states that give the same text have the same state, moves and goal": calls whose outputs start with the same bytes,
 -- as many as each answers, were given the same
@@ -161,12 +161,12 @@ module _ {L : Limits} {t bs x : List ℕ} (w : Wrote L t bs x) where
   unfolding task_text
   declared d p e =
       let same = one_document (domain_of (task_in w)) d (problem_of (task_in w) (state_in w)) p (w.text ∙ sym e) in
-      subst₂ Declared same.0 same.1 (text-declared (reading_task L written t w.read) (state_in w))
+      subst₂ Declared same.0 same.1 (text_declared (reading_task L written t w.read) (state_in w))
 
   -- A list of actions is a plan of the text exactly when the list of moves solves the table from the state.
-  pub text-plans : (ms : List ℕ) → TextPlan x ms ↔ Solves real (task_in w) (state_in w) ms
+  pub text_plans : (ms : List ℕ) → TextPlan x ms ↔ Solves real (task_in w) (state_in w) ms
   unfolding task_text
-  text-plans ms = (
+  text_plans ms = (
     λ p.
         let same = one_document p.domain domain p.problem problem (p.text ∙ sym w.text) in
         solves.0 (subst₂ (λ (d : Domain) (q : Problem). IsPlan d q ms) same.0 same.1 p.plan),
@@ -180,7 +180,7 @@ module _ {L : Limits} {t bs x : List ℕ} (w : Wrote L t bs x) where
       problem = problem_of (task_in w) (state_in w)
 
       solves : IsPlan (domain_of (task_in w)) (problem_of (task_in w) (state_in w)) ms ↔ Solves real (task_in w) (state_in w) ms
-      solves = plan-solves (task_in w) (state_in w) (reading_task L written t w.read) ms
+      solves = plan_solves (task_in w) (state_in w) (reading_task L written t w.read) ms
 
 -- Where normalise and decide in one call answer "no plan", the text has no plan.
 pub no_plan_text :
@@ -193,5 +193,5 @@ pub no_plan_text :
     → ⊥
 no_plan_text {t} {bs} {x} {normalOut} {layers} {out} w g answer ms p =
     let same : w.table ≡ g.table = cc (w.read, g.read) in
-    ((campaign-promise t bs normalOut layers out).claim g).unsolvable answer ms
-    (subst (λ (k : Table). Solves real k.task (state_of k.task.props bs) ms) same ((text-plans w ms).0 p))
+    ((campaign_promise t bs normalOut layers out).claim g).unsolvable answer ms
+    (subst (λ (k : Table). Solves real k.task (state_of k.task.props bs) ms) same ((text_plans w ms).0 p))

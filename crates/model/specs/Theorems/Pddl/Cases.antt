@@ -14,7 +14,7 @@ use Rattle.model.specs.Theorems.Campaigns.Tables.{zeros, m1, m1_normal, empty_go
 use Rattle.model.specs.Theorems.Campaigns.Cases.{grid}
 use Rattle.model.specs.Theorems.Campaigns.Computing.{computing}
 use Rattle.model.specs.Theorems.Campaigns.Instance.{table_in, m1_table}
-use Rattle.model.specs.Theorems.Pddl.Calls.{Wrote, text-plans}
+use Rattle.model.specs.Theorems.Pddl.Calls.{Wrote, text_plans}
 
 -- lines of text, each with its end
 unfoldable pub text_lines : List String → List ℕ
@@ -176,7 +176,7 @@ m1_wrote = record { table = m1_table; read = refl; state = refl; text = refl }
 
 pub m1_plan : TextPlan m1_text (0 ∷ 0 ∷ 2 ∷ 1 ∷ 1 ∷ 1 ∷ 0 ∷ 1 ∷ [])
 unfolding computing m1 m1_table table_in m1_wrote
-m1_plan = (text-plans m1_wrote (0 ∷ 0 ∷ 2 ∷ 1 ∷ 1 ∷ 1 ∷ 0 ∷ 1 ∷ [])).1 solved
+m1_plan = (text_plans m1_wrote (0 ∷ 0 ∷ 2 ∷ 1 ∷ 1 ∷ 1 ∷ 0 ∷ 1 ∷ [])).1 solved
   where
     solved : Solves real m1_table.task (state_of 1 (zeros 9)) (0 ∷ 0 ∷ 2 ∷ 1 ∷ 1 ∷ 1 ∷ 0 ∷ 1 ∷ [])
     solved =

@@ -10,8 +10,8 @@ use Rattle.model.specs.Task.{Form, Term, need, add, delete, condition, effect, B
 use Rattle.model.specs.Move.{State}
 use Rattle.model.specs.Pddl.{Expression, number, fluent, plus, times, Formula, atom, compare, Change, gain, lose, alter, Action, Domain, Fact, given, equals, Problem, sum_of, compare_of, alter_of, formulas_of, changes_of, action_of, actions_from, domain_of, problem_of}
 use Rattle.model.specs.Theorems.Reading.WellFormed.{All, TermOk, ItemOk, Once, BlockOk, TaskOk}
-use Rattle.model.specs.Theorems.Laws.Listed.{in-All, in-tabulate, tabulate-in}
-use Rattle.model.specs.Theorems.Pddl.Facts.{given-in, in-equals, equals-in}
+use Rattle.model.specs.Theorems.Laws.Listed.{in_all, in_tabulate, tabulate_in}
+use Rattle.model.specs.Theorems.Pddl.Facts.{given_in, in_equals, equals_in}
 use Rattle.model.specs.Theorems.Pddl.Changes.{any_changes}
 
 -- ---- what is asked, over the grammar alone
@@ -118,77 +118,77 @@ single (effect e ∷ b) o = (
 )
 
 module _ {L : Limits} {f : Form} {k : Task} (ok : TaskOk L f k) where
-  prop-declared : (p : ℕ) → p < k.props → In p (domain_of k).predicates
+  prop_declared : (p : ℕ) → p < k.props → In p (domain_of k).predicates
   unfolding domain_of
-  prop-declared p h = in-tabulate (λ j. j) 0 k.props p (omega arith) (omega arith)
+  prop_declared p h = in_tabulate (λ j. j) 0 k.props p (omega arith) (omega arith)
 
-  var-declared : (v : ℕ) → v < k.vars → In v (domain_of k).functions
+  var_declared : (v : ℕ) → v < k.vars → In v (domain_of k).functions
   unfolding domain_of
-  var-declared v h = in-tabulate (λ j. j) 0 k.vars v (omega arith) (omega arith)
+  var_declared v h = in_tabulate (λ j. j) 0 k.vars v (omega arith) (omega arith)
 
-  sum-declared : (ts : List Term) (c : ℤ) → All (TermOk L f k.vars) ts → ExpressionDeclared (domain_of k) (sum_of ts c)
+  sum_declared : (ts : List Term) (c : ℤ) → All (TermOk L f k.vars) ts → ExpressionDeclared (domain_of k) (sum_of ts c)
   unfolding sum_of
-  sum-declared [] c a = tt
-  sum-declared (t ∷ ts) c a = ((tt, var-declared t.var a.0.var), sum-declared ts c a.1)
+  sum_declared [] c a = tt
+  sum_declared (t ∷ ts) c a = ((tt, var_declared t.var a.0.var), sum_declared ts c a.1)
 
-  formulas-declared : (b : Block) → All (ItemOk L f k.props k.vars) b → All (FormulaDeclared (domain_of k)) (formulas_of b)
+  formulas_declared : (b : Block) → All (ItemOk L f k.props k.vars) b → All (FormulaDeclared (domain_of k)) (formulas_of b)
   unfolding formulas_of compare_of
-  formulas-declared [] a = tt
-  formulas-declared (need p ∷ b) a = (prop-declared p a.0, formulas-declared b a.1)
-  formulas-declared (add p ∷ b) a = formulas-declared b a.1
-  formulas-declared (delete p ∷ b) a = formulas-declared b a.1
-  formulas-declared (condition c ∷ b) a = ((sum-declared c.terms (pos 0) a.0.sum.terms, tt), formulas-declared b a.1)
-  formulas-declared (effect e ∷ b) a = formulas-declared b a.1
+  formulas_declared [] a = tt
+  formulas_declared (need p ∷ b) a = (prop_declared p a.0, formulas_declared b a.1)
+  formulas_declared (add p ∷ b) a = formulas_declared b a.1
+  formulas_declared (delete p ∷ b) a = formulas_declared b a.1
+  formulas_declared (condition c ∷ b) a = ((sum_declared c.terms (pos 0) a.0.sum.terms, tt), formulas_declared b a.1)
+  formulas_declared (effect e ∷ b) a = formulas_declared b a.1
 
-  changes-declared : (b : Block) → All (ItemOk L f k.props k.vars) b → All (ChangeDeclared (domain_of k)) (changes_of b)
+  changes_declared : (b : Block) → All (ItemOk L f k.props k.vars) b → All (ChangeDeclared (domain_of k)) (changes_of b)
   unfolding changes_of alter_of
-  changes-declared [] a = tt
-  changes-declared (need p ∷ b) a = changes-declared b a.1
-  changes-declared (add p ∷ b) a = (prop-declared p a.0, changes-declared b a.1)
-  changes-declared (delete p ∷ b) a = (prop-declared p a.0, changes-declared b a.1)
-  changes-declared (condition c ∷ b) a = changes-declared b a.1
-  changes-declared (effect e ∷ b) a =
-      ((var-declared e.var a.0.var, sum-declared e.terms e.base a.0.sum.terms), changes-declared b a.1)
+  changes_declared [] a = tt
+  changes_declared (need p ∷ b) a = changes_declared b a.1
+  changes_declared (add p ∷ b) a = (prop_declared p a.0, changes_declared b a.1)
+  changes_declared (delete p ∷ b) a = (prop_declared p a.0, changes_declared b a.1)
+  changes_declared (condition c ∷ b) a = changes_declared b a.1
+  changes_declared (effect e ∷ b) a =
+      ((var_declared e.var a.0.var, sum_declared e.terms e.base a.0.sum.terms), changes_declared b a.1)
 
-  actions-declared :
+  actions_declared :
       (n : ℕ) (ms : List Block) → All (BlockOk L f k.props k.vars) ms → All (ActionDeclared (domain_of k)) (actions_from n ms)
   unfolding actions_from action_of
-  actions-declared n [] a = tt
-  actions-declared n (m ∷ ms) a = (
+  actions_declared n [] a = tt
+  actions_declared n (m ∷ ms) a = (
     record {
-      conditions = formulas-declared m a.0.items;
-      changes = changes-declared m a.0.items;
+      conditions = formulas_declared m a.0.items;
+      changes = changes_declared m a.0.items;
       single = single m a.0.once;
     },
-    actions-declared (suc n) ms a.1,
+    actions_declared (suc n) ms a.1,
   )
 
-  fact-declared : (s : State) (x : Fact) → In x (problem_of k s).init → FactDeclared (domain_of k) x
+  fact_declared : (s : State) (x : Fact) → In x (problem_of k s).init → FactDeclared (domain_of k) x
   unfolding problem_of
-  fact-declared s (given p) i = prop-declared p (given-in s k.props k.vars p i).0
-  fact-declared s (equals v z) i = var-declared v (equals-in s k.props k.vars v z i).0
+  fact_declared s (given p) i = prop_declared p (given_in s k.props k.vars p i).0
+  fact_declared s (equals v z) i = var_declared v (equals_in s k.props k.vars v z i).0
 
-  fluent-valued :
+  fluent_valued :
       (s : State) (v : ℕ)
       → In v (domain_of k).functions
       → (z : ℤ) × In (equals v z) (problem_of k s).init × ((y : ℤ) → In (equals v y) (problem_of k s).init → y ≡ z)
   unfolding problem_of domain_of
-  fluent-valued s v i = (
+  fluent_valued s v i = (
     s.val v,
-    in-equals s k.props k.vars v (tabulate-in (λ j. j) v 0 k.vars i (λ j h e. omega (arith, e))),
-    λ y t. (equals-in s k.props k.vars v y t).1,
+    in_equals s k.props k.vars v (tabulate_in (λ j. j) v 0 k.vars i (λ j h e. omega (arith, e))),
+    λ y t. (equals_in s k.props k.vars v y t).1,
   )
 
   -- the text of a task that meets every check, in any state
-  pub text-declared : (s : State) → Declared (domain_of k) (problem_of k s)
+  pub text_declared : (s : State) → Declared (domain_of k) (problem_of k s)
   unfolding problem_of domain_of
-  text-declared s =
+  text_declared s =
       record {
         predicates = distinct_numbers 0 k.props;
         functions = distinct_numbers 0 k.vars;
         names = subst Distinct (sym (names_are 0 k.moves)) (distinct_numbers 0 (length k.moves));
-        actions = actions-declared 0 k.moves ok.blocks;
-        init = in-All (FactDeclared (domain_of k)) (problem_of k s).init (fact-declared s);
-        goal = formulas-declared k.goal ok.goal.items;
-        valued = fluent-valued s;
+        actions = actions_declared 0 k.moves ok.blocks;
+        init = in_all (FactDeclared (domain_of k)) (problem_of k s).init (fact_declared s);
+        goal = formulas_declared k.goal ok.goal.items;
+        valued = fluent_valued s;
       }

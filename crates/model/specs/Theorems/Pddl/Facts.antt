@@ -10,7 +10,7 @@ use Rattle.model.specs.Lists.{In}
 use Rattle.model.specs.Move.{State}
 use Rattle.model.specs.Pddl.{Fact, given, equals, truths, values}
 use Rattle.model.specs.Theorems.Laws.Searching.{below_suc}
-use Rattle.model.specs.Theorems.Laws.Listed.{in_left, in_right, in_either, in-tabulate, tabulate-in}
+use Rattle.model.specs.Theorems.Laws.Listed.{in_left, in_right, in_either, in_tabulate, tabulate_in}
 
 -- ---- facts that are the same are of one kind, of one name and of one value
 
@@ -30,13 +30,13 @@ equals_value e = cc
 
 module _ (s : State) where
   -- the first of the propositions is listed where it is true
-  pub truths-first :
+  pub truths_first :
       (P : List Fact → Type 0) (p n : ℕ)
       → (T (s.has p) → P (given p ∷ truths s (suc p) n))
       → ((T (s.has p) → ⊥) → P (truths s (suc p) n))
       → P (truths s p (suc n))
   unfolding truths
-  truths-first P p n f g = go (s.has p) f g
+  truths_first P p n f g = go (s.has p) f g
     where
       go :
           (b : Bool)
@@ -46,28 +46,28 @@ module _ (s : State) where
       go true f g = f tt
       go false f g = g (λ t. t)
 
-  in-truths : (p n i : ℕ) → p ≤ i → i < p + n → T (s.has i) → In (given i) (truths s p n)
-  in-truths p zero i h k t = absurd (omega arith)
-  in-truths p (suc n) i h k t =
-      below_suc p i (omega arith) (λ l. later (in-truths (suc p) n i (omega arith) (omega arith) t))
+  in_truths : (p n i : ℕ) → p ≤ i → i < p + n → T (s.has i) → In (given i) (truths s p n)
+  in_truths p zero i h k t = absurd (omega arith)
+  in_truths p (suc n) i h k t =
+      below_suc p i (omega arith) (λ l. later (in_truths (suc p) n i (omega arith) (omega arith) t))
       (λ e.
-      truths-first (In (given i)) p n (λ yes-p. inl (ap given (sym e)))
+      truths_first (In (given i)) p n (λ yes-p. inl (ap given (sym e)))
       (λ no-p. absurd (no-p (subst (λ (j : ℕ). T (s.has j)) (sym e) t))))
     where
       later : In (given i) (truths s (suc p) n) → In (given i) (truths s p (suc n))
-      later t = truths-first (In (given i)) p n (λ yes-p. inr t) (λ no-p. t)
+      later t = truths_first (In (given i)) p n (λ yes-p. inr t) (λ no-p. t)
 
-  truths-in :
+  truths_in :
       {X : Type 0} (x : Fact) (p n : ℕ)
       → In x (truths s p n)
       → ((i : ℕ) → i < p + n → x ≡ given i → T (s.has i) → X)
       → X
-  truths-in x p zero = λ t g. absurd (unfold truths in t)
-  truths-in {X} x p (suc n) =
-      truths-first (λ l. In x l → ((i : ℕ) → i < p + suc n → x ≡ given i → T (s.has i) → X) → X) p n
+  truths_in x p zero = λ t g. absurd (unfold truths in t)
+  truths_in {X} x p (suc n) =
+      truths_first (λ l. In x l → ((i : ℕ) → i < p + suc n → x ≡ given i → T (s.has i) → X) → X) p n
       (λ yes-p t g.
-      ⊎_elim (λ e. g p (omega arith) e yes-p) (λ u. truths-in x (suc p) n u (λ i h. g i (omega arith))) t)
-      (λ no-p t g. truths-in x (suc p) n t (λ i h. g i (omega arith)))
+      ⊎_elim (λ e. g p (omega arith) e yes-p) (λ u. truths_in x (suc p) n u (λ i h. g i (omega arith))) t)
+      (λ no-p t g. truths_in x (suc p) n t (λ i h. g i (omega arith)))
 
   -- ---- `:init`
 
@@ -76,30 +76,30 @@ module _ (s : State) where
     facts = truths s 0 props ++ values s vars
 
     -- a true proposition is listed, and what is listed is true
-    pub in-given : (p : ℕ) → p < props → T (s.has p) → In (given p) facts
-    in-given p h t = in_left (given p) (truths s 0 props) (values s vars) (in-truths 0 props p (omega arith) (omega arith) t)
+    pub in_given : (p : ℕ) → p < props → T (s.has p) → In (given p) facts
+    in_given p h t = in_left (given p) (truths s 0 props) (values s vars) (in_truths 0 props p (omega arith) (omega arith) t)
 
-    pub given-in : (p : ℕ) → In (given p) facts → (p < props) × T (s.has p)
+    pub given_in : (p : ℕ) → In (given p) facts → (p < props) × T (s.has p)
     unfolding values
-    given-in p t =
+    given_in p t =
         in_either (given p) (truths s 0 props) (values s vars) t
         (λ u.
-        truths-in (given p) 0 props u
+        truths_in (given p) 0 props u
         (λ i h e true-i. (omega (arith, given_name e), subst (λ (j : ℕ). T (s.has j)) (sym (given_name e)) true-i)))
-        (λ u. tabulate-in (λ v. equals v (s.val v)) (given p) 0 vars u (λ j h e. absurd (given_equals e)))
+        (λ u. tabulate_in (λ v. equals v (s.val v)) (given p) 0 vars u (λ j h e. absurd (given_equals e)))
 
     -- each variable's value is listed, and no other
-    pub in-equals : (v : ℕ) → v < vars → In (equals v (s.val v)) facts
+    pub in_equals : (v : ℕ) → v < vars → In (equals v (s.val v)) facts
     unfolding values
-    in-equals v h =
+    in_equals v h =
         in_right (equals v (s.val v)) (truths s 0 props) (values s vars)
-        (in-tabulate (λ u. equals u (s.val u)) 0 vars v (omega arith) (omega arith))
+        (in_tabulate (λ u. equals u (s.val u)) 0 vars v (omega arith) (omega arith))
 
-    pub equals-in : (v : ℕ) (z : ℤ) → In (equals v z) facts → (v < vars) × (z ≡ s.val v)
+    pub equals_in : (v : ℕ) (z : ℤ) → In (equals v z) facts → (v < vars) × (z ≡ s.val v)
     unfolding values
-    equals-in v z t =
+    equals_in v z t =
         in_either (equals v z) (truths s 0 props) (values s vars) t
-        (λ u. truths-in (equals v z) 0 props u (λ i h e true-i. absurd (given_equals (sym e))))
+        (λ u. truths_in (equals v z) 0 props u (λ i h e true-i. absurd (given_equals (sym e))))
         (λ u.
-        tabulate-in (λ j. equals j (s.val j)) (equals v z) 0 vars u
+        tabulate_in (λ j. equals j (s.val j)) (equals v z) 0 vars u
         (λ j h e. (omega (arith, equals_name e), equals_value e ∙ ap s.val (sym (equals_name e)))))

@@ -65,10 +65,10 @@ module _ (vars : ℕ) (few_vars : vars ≤ 16) where
       simp length-append
       (omega (arith, sum_size ts c ok.1 small, number_size 3 t.weight (omega arith), head_size t.var (omega arith)))
 
-  condition-size :
+  condition_size :
       (c : Condition) → ConditionOk paper written vars c → length (formula_text (compare_of c)) ≤ 21 * length c.terms + 22
   unfolding formula_text compare_of expression_text ascii paper
-  condition-size c ok =
+  condition_size c ok =
       let bound : nat_abs c.bound ≤ 1_000_000 = ok.bound in
       simp length-append
       (omega (
@@ -78,9 +78,9 @@ module _ (vars : ℕ) (few_vars : vars ≤ 16) where
         number_size 6 c.bound (omega arith),
       ))
 
-  effect-size : (e : Effect) → EffectOk paper written vars e → length (change_text (alter_of e)) ≤ 21 * length e.terms + 26
+  effect_size : (e : Effect) → EffectOk paper written vars e → length (change_text (alter_of e)) ≤ 21 * length e.terms + 26
   unfolding change_text alter_of ascii paper
-  effect-size e ok =
+  effect_size e ok =
       let base : nat_abs e.base ≤ 1_000_000 = ok.base in
       let var : e.var < vars = ok.var in
       simp length-append
@@ -157,7 +157,7 @@ module _ (props vars : ℕ) (few_props : props ≤ 120) (few_vars : vars ≤ 16)
         items_more (condition c) b,
         length_item (condition c),
         lines_more indent formula_text (compare_of c) (formulas_of b),
-        condition-size vars few_vars c ok.0,
+        condition_size vars few_vars c ok.0,
         block_size b ok.1,
       )
   block_size (effect e ∷ b) ok =
@@ -166,35 +166,35 @@ module _ (props vars : ℕ) (few_props : props ≤ 120) (few_vars : vars ≤ 16)
         items_more (effect e) b,
         length_item (effect e),
         lines_more "      " change_text (alter_of e) (changes_of b),
-        effect-size vars few_vars e ok.0,
+        effect_size vars few_vars e ok.0,
         block_size b ok.1,
       )
 
 -- ---- moves
 
 module _ (props vars : ℕ) (few_props : props ≤ 120) (few_vars : vars ≤ 16) where
-  action-size :
+  action_size :
       (n : ℕ) (b : Block)
       → n < 1000
       → All (ItemOk paper written props vars) b
       → length (action_text (action_of n b)) ≤ 10 * length (items_bytes b) + 80
   unfolding action_text action_of ascii
-  action-size n b few ok =
+  action_size n b few ok =
       simp length-append
       (omega (arith, decimal_within 2 n few, block_size props vars few_props few_vars "      " (omega arith) b ok))
 
-  pub actions-size :
+  pub actions_size :
       (n : ℕ) (ms : List Block)
       → n + length ms ≤ 64
       → All (BlockOk paper written props vars) ms
       → length (lines "  " action_text (actions_from n ms)) ≤ 10 * length (moves_bytes ms) + 73 * length ms + 1
   unfolding actions_from moves_bytes ascii
-  actions-size n [] few ok = omega (arith, lines_none "  " action_text)
-  actions-size n (m ∷ ms) few ok =
+  actions_size n [] few ok = omega (arith, lines_none "  " action_text)
+  actions_size n (m ∷ ms) few ok =
       omega (
         arith,
         lines_more "  " action_text (action_of n m) (actions_from (suc n) ms),
-        action-size n m (omega arith) ok.0.items,
-        actions-size (suc n) ms (omega arith) ok.1,
+        action_size n m (omega arith) ok.0.items,
+        actions_size (suc n) ms (omega arith) ok.1,
         length-append (items_bytes m) (moves_bytes ms),
       )

@@ -11,7 +11,7 @@ use Rattle.model.specs.PddlMeaning.{value_in, Compares, Satisfies, SatisfiesAll}
 use Rattle.model.specs.Theorems.Reading.WellFormed.{All}
 use Rattle.model.specs.Theorems.Laws.Booleans.{and_left, and_right, and_both}
 use Rattle.model.specs.Theorems.NormalForm.Comparisons.{equal_test}
-use Rattle.model.specs.Theorems.Laws.Listed.{All-in, in-All}
+use Rattle.model.specs.Theorems.Laws.Listed.{All-in, in_all}
 
 -- the text's sum is the sum of the terms and the constant
 pub sum_value : (s : State) (ts : List Term) (c : ℤ) → value_in s (sum_of ts c) ≡ sum s.val ts +ℤ c
@@ -59,6 +59,6 @@ all_true s (effect e ∷ b) = all_true s b
 -- the conditions of a block's text are all true in a state exactly where the block's conditions hold
 pub block_true : (s : State) (b : Block) → SatisfiesAll s (formulas_of b) ↔ T (applicable s b)
 block_true s b = (
-  λ a. (all_true s b).0 (in-All (Satisfies s) (formulas_of b) a),
+  λ a. (all_true s b).0 (in_all (Satisfies s) (formulas_of b) a),
   λ t. All-in (Satisfies s) (formulas_of b) ((all_true s b).1 t),
 )

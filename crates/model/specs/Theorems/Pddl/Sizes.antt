@@ -17,36 +17,36 @@ use Rattle.model.specs.StateTable.{state_of, state_refusal}
 use Rattle.model.specs.Ascii.{ascii}
 use Rattle.model.specs.Pddl.{given, equals, atom_text, head_text, lines, declarations, domain_text, fact_text, problem_text, domain_of, truths, values, problem_of, task_text, text_with_state, text_of, pddl_text, pddl_answer}
 use Rattle.model.specs.Theorems.Reading.WellFormed.{TaskOk}
-use Rattle.model.specs.Theorems.Reading.Accepted.{reading_form, reading-length, reading-limit, reading_task}
+use Rattle.model.specs.Theorems.Reading.Accepted.{reading_form, reading_length, reading_limit, reading_task}
 use Rattle.model.specs.Theorems.Reading.Places.{Full, Small, IfSome, IfRefused, small_wider, state_refused}
 use Rattle.model.specs.Theorems.Sizes.Answers.{place_limit, WriteSmall, OutputSmall, answer_small, fitted_small, table_refused}
 use Rattle.model.specs.Theorems.Sizes.States.{SmallState, accepted_small}
-use Rattle.model.specs.Theorems.Pddl.Facts.{truths-first}
-use Rattle.model.specs.Theorems.Pddl.ItemSizes.{number_size, atom_size, head_size, lines_none, lines_more, block_size, actions-size}
+use Rattle.model.specs.Theorems.Pddl.Facts.{truths_first}
+use Rattle.model.specs.Theorems.Pddl.ItemSizes.{number_size, atom_size, head_size, lines_none, lines_more, block_size, actions_size}
 
 -- ---- declarations
 
 module _ (print : ℕ → List ℕ) (short : (n : ℕ) → n < 1000 → length (print n) ≤ 6) where
-  names-size : (i n : ℕ) → i + n ≤ 1000 → length (lines "    " print (tabulate (λ j. j) i n)) ≤ 11 * n + 1
+  names_size : (i n : ℕ) → i + n ≤ 1000 → length (lines "    " print (tabulate (λ j. j) i n)) ≤ 11 * n + 1
   unfolding tabulate ascii
-  names-size i zero few = omega (arith, lines_none "    " print)
-  names-size i (suc n) few =
+  names_size i zero few = omega (arith, lines_none "    " print)
+  names_size i (suc n) few =
       omega (
         arith,
         lines_more "    " print i (tabulate (λ j. j) (suc i) n),
         short i (omega arith),
-        names-size (suc i) n (omega arith),
+        names_size (suc i) n (omega arith),
       )
 
-  declarations-size :
+  declarations_size :
       (word : String) (n : ℕ)
       → n ≤ 1000
       → length (declarations word print (tabulate (λ j. j) 0 n)) ≤ length (ascii word) + 11 * n + 1
   unfolding declarations tabulate
-  declarations-size word zero few = omega arith
-  declarations-size word (suc n) few =
+  declarations_size word zero few = omega arith
+  declarations_size word (suc n) few =
       let names = lines "    " print (tabulate (λ j. j) 0 (suc n)) in
-      omega (arith, length-append (ascii word) names, names-size 0 (suc n) (omega arith))
+      omega (arith, length-append (ascii word) names, names_size 0 (suc n) (omega arith))
 
 -- ---- facts
 
@@ -58,33 +58,33 @@ lines_append indent print (x ∷ xs) ys =
     omega (arith, lines_more indent print x (xs ++ ys), lines_more indent print x xs, lines_append indent print xs ys)
 
 module _ (s : State) where
-  truths-size : (p n : ℕ) → p + n ≤ 1000 → length (lines "    " fact_text (truths s p n)) ≤ 11 * n + 1
+  truths_size : (p n : ℕ) → p + n ≤ 1000 → length (lines "    " fact_text (truths s p n)) ≤ 11 * n + 1
   unfolding fact_text ascii
-  truths-size p zero few = unfold truths in omega (arith, lines_none "    " fact_text)
-  truths-size p (suc n) few =
+  truths_size p zero few = unfold truths in omega (arith, lines_none "    " fact_text)
+  truths_size p (suc n) few =
       let rest = truths s (suc p) n in
-      let small : length (lines "    " fact_text rest) ≤ 11 * n + 1 = truths-size (suc p) n (omega arith) in
-      truths-first s (λ l. length (lines "    " fact_text l) ≤ 11 * suc n + 1) p n
+      let small : length (lines "    " fact_text rest) ≤ 11 * n + 1 = truths_size (suc p) n (omega arith) in
+      truths_first s (λ l. length (lines "    " fact_text l) ≤ 11 * suc n + 1) p n
       (λ yes-p. omega (arith, small, lines_more "    " fact_text (given p) rest, atom_size p (omega arith)))
       (λ no-p. omega (arith, small))
 
-  fact-size : (v : ℕ) → v < 1000 → nat_abs (s.val v) ≤ 1_000_000 → length (fact_text (equals v (s.val v))) ≤ 19
+  fact_size : (v : ℕ) → v < 1000 → nat_abs (s.val v) ≤ 1_000_000 → length (fact_text (equals v (s.val v))) ≤ 19
   unfolding fact_text ascii
-  fact-size v few small = simp length-append (omega (arith, head_size v few, number_size 6 (s.val v) (omega arith)))
+  fact_size v few small = simp length-append (omega (arith, head_size v few, number_size 6 (s.val v) (omega arith)))
 
-  values-size :
+  values_size :
       (i n : ℕ)
       → i + n ≤ 1000
       → ((v : ℕ) → v < i + n → nat_abs (s.val v) ≤ 1_000_000)
       → length (lines "    " fact_text (tabulate (λ v. equals v (s.val v)) i n)) ≤ 24 * n + 1
   unfolding tabulate ascii
-  values-size i zero few small = omega (arith, lines_none "    " fact_text)
-  values-size i (suc n) few small =
+  values_size i zero few small = omega (arith, lines_none "    " fact_text)
+  values_size i (suc n) few small =
       omega (
         arith,
         lines_more "    " fact_text (equals i (s.val i)) (tabulate (λ v. equals v (s.val v)) (suc i) n),
-        fact-size i (omega arith) (small i (omega arith)),
-        values-size (suc i) n (omega arith) (λ v h. small v (omega arith)),
+        fact_size i (omega arith) (small i (omega arith)),
+        values_size (suc i) n (omega arith) (λ v h. small v (omega arith)),
       )
 
 -- ---- the text
@@ -98,60 +98,60 @@ module _ (k : Task) (s : State) (ok : TaskOk paper written k) (small : SmallStat
   unfolding paper
   few_vars = ok.vars
 
-  few-moves : length k.moves ≤ 64
+  few_moves : length k.moves ≤ 64
   unfolding paper
-  few-moves = ok.moves
+  few_moves = ok.moves
 
-  domain-size : length (domain_text (domain_of k)) ≤ 10 * length (moves_bytes k.moves) + 7_000
+  domain_size : length (domain_text (domain_of k)) ≤ 10 * length (moves_bytes k.moves) + 7_000
   unfolding domain_text domain_of ascii
-  domain-size =
+  domain_size =
       simp length-append
       (omega (
         arith,
         few_props,
         few_vars,
-        few-moves,
-        declarations-size atom_text atom_size "\n  (:predicates" k.props (omega (arith, few_props)),
-        declarations-size head_text head_size "\n  (:functions" k.vars (omega (arith, few_vars)),
-        actions-size k.props k.vars few_props few_vars 0 k.moves (omega (arith, few-moves)) ok.blocks,
+        few_moves,
+        declarations_size atom_text atom_size "\n  (:predicates" k.props (omega (arith, few_props)),
+        declarations_size head_text head_size "\n  (:functions" k.vars (omega (arith, few_vars)),
+        actions_size k.props k.vars few_props few_vars 0 k.moves (omega (arith, few_moves)) ok.blocks,
       ))
 
-  problem-size : length (problem_text (problem_of k s)) ≤ 10 * length (items_bytes k.goal) + 3_000
+  problem_size : length (problem_text (problem_of k s)) ≤ 10 * length (items_bytes k.goal) + 3_000
   unfolding problem_text problem_of values ascii
-  problem-size =
+  problem_size =
       simp length-append
       (omega (
         arith,
         few_props,
         few_vars,
         lines_append "    " fact_text (truths s 0 k.props) (values s k.vars),
-        truths-size s 0 k.props (omega (arith, few_props)),
-        values-size s 0 k.vars (omega (arith, few_vars)) (λ v h. small.values v (omega arith)),
+        truths_size s 0 k.props (omega (arith, few_props)),
+        values_size s 0 k.vars (omega (arith, few_vars)) (λ v h. small.values v (omega arith)),
         block_size k.props k.vars few_props few_vars "    " (omega arith) k.goal ok.goal.items,
       ))
 
   -- the text of a task within every limit, from a state within ±1,000,000
-  pub text-size : length (task_text k s) ≤ 10 * length (task_bytes written k) + 10_000
+  pub text_size : length (task_text k s) ≤ 10 * length (task_bytes written k) + 10_000
   unfolding task_text task_bytes
-  text-size = simp length-append (omega (arith, domain-size, problem-size))
+  text_size = simp length-append (omega (arith, domain_size, problem_size))
 
 -- the text of an accepted table and an accepted state
 module _ (t bs : List ℕ) {k : Table} (read : reading paper (only written) t ≡ accepted k)
     (right : state_refusal paper k.task.props k.task.vars bs ≡ none)
   where
-    pub accepted-size : length (task_text k.task (state_of k.task.props bs)) ≤ 10 * length t + 10_000
-    accepted-size =
+    pub accepted_size : length (task_text k.task (state_of k.task.props bs)) ≤ 10 * length t + 10_000
+    accepted_size =
         omega (
           arith,
-          text-size k.task (state_of k.task.props bs) (reading_task paper written t read)
+          text_size k.task (state_of k.task.props bs) (reading_task paper written t read)
               (accepted_small k.task.props k.task.vars bs right),
-          reading-length paper (only written) t read
+          reading_length paper (only written) t read
               ∙ ap (λ (f : Form). length (task_bytes f k.task)) (reading_form paper written t read),
         )
 
-    pub accepted-most : length (task_text k.task (state_of k.task.props bs)) ≤ 330_000
+    pub accepted_most : length (task_text k.task (state_of k.task.props bs)) ≤ 330_000
     unfolding length_limit paper
-    accepted-most = omega (arith, accepted-size, reading-limit paper (only written) t read)
+    accepted_most = omega (arith, accepted_size, reading_limit paper (only written) t read)
 
 -- the call writes at most so much
 pub pddl_small : (t bs out : List ℕ) → WriteSmall 330_000 (pddl_answer paper t bs out)
@@ -164,7 +164,7 @@ pddl_small t bs out =
         (k : Table) → reading paper (only written) t ≡ accepted k
         → (r : Option Refusal) → state_refusal paper k.task.props k.task.vars bs ≡ r → IfSome (Full (k.task.props + 4 * k.task.vars)) r
         → OutputSmall 330_000 (text_with_state k.task bs r)
-    by_state k e none right h = accepted-most t bs e right
+    by_state k e none right h = accepted_most t bs e right
     by_state k e (some r) right h =
         let ok = reading_task paper written t e in small_wider (omega arith) (omega (arith, ok.props, ok.vars)) h
 

@@ -10,10 +10,10 @@ use Rattle.model.specs.Task.{Term, Item, need, add, delete, condition, effect, B
 use Rattle.model.specs.Move.{State}
 use Rattle.model.specs.Pddl.{Expression, number, fluent, plus, times, Formula, atom, compare, Change, gain, lose, alter, Action, Domain, Fact, given, equals, Problem, domain_text, problem_text, sum_of, compare_of, alter_of, formulas_of, changes_of, action_of, actions_from, domain_of, truths, values, problem_of, task_text}
 use Rattle.model.specs.PddlMeaning.{Initial}
-use Rattle.model.specs.Theorems.Laws.Searching.{length-tabulate, tabulate_same}
+use Rattle.model.specs.Theorems.Laws.Searching.{length_tabulate, tabulate_same}
 use Rattle.model.specs.Theorems.Reading.WellFormed.{All, GoalItem}
 use Rattle.model.specs.Theorems.Reading.Agreeing.{AgreeBelow}
-use Rattle.model.specs.Theorems.Pddl.Plans.{initial-agrees, trimmed, initial-exists}
+use Rattle.model.specs.Theorems.Pddl.Plans.{initial_agrees, trimmed, initial_exists}
 use Rattle.model.specs.Theorems.Pddl.Documents.{one_document}
 
 -- ---- what is the same
@@ -145,53 +145,53 @@ module _ (k n : Task) (s t : State) (e : task_text k s ≡ task_text n t) where
   unfolding task_text
   both = one_document (domain_of k) (domain_of n) (problem_of k s) (problem_of n t) e
 
-  same-props : k.props ≡ n.props
+  same_props : k.props ≡ n.props
   unfolding domain_of
-  same-props =
-      sym (length-tabulate (λ (p : ℕ). p) 0 k.props)
+  same_props =
+      sym (length_tabulate (λ (p : ℕ). p) 0 k.props)
       ∙ ap (λ (d : Domain). length d.predicates) both.0
-      ∙ length-tabulate (λ (p : ℕ). p) 0 n.props
+      ∙ length_tabulate (λ (p : ℕ). p) 0 n.props
 
-  same-vars : k.vars ≡ n.vars
+  same_vars : k.vars ≡ n.vars
   unfolding domain_of
-  same-vars =
-      sym (length-tabulate (λ (v : ℕ). v) 0 k.vars)
+  same_vars =
+      sym (length_tabulate (λ (v : ℕ). v) 0 k.vars)
       ∙ ap (λ (d : Domain). length d.functions) both.0
-      ∙ length-tabulate (λ (v : ℕ). v) 0 n.vars
+      ∙ length_tabulate (λ (v : ℕ). v) 0 n.vars
 
-  same-actions : actions_from 0 k.moves ≡ actions_from 0 n.moves
+  same_actions : actions_from 0 k.moves ≡ actions_from 0 n.moves
   unfolding domain_of
-  same-actions = ap (λ (d : Domain). d.actions) both.0
+  same_actions = ap (λ (d : Domain). d.actions) both.0
 
   -- an initial state of the one text is one of the other
   same_state : AgreeBelow k.props k.vars s t
   same_state =
       let x = trimmed k s in
-      let start : Initial (problem_of k s).init x = initial-exists k s in
-      let of-s = initial-agrees k s x start in
-      let of-t = initial-agrees n t x (subst (λ (p : Problem). Initial p.init x) both.1 start) in
+      let start : Initial (problem_of k s).init x = initial_exists k s in
+      let of-s = initial_agrees k s x start in
+      let of-t = initial_agrees n t x (subst (λ (p : Problem). Initial p.init x) both.1 start) in
       record {
-        has = λ p h. sym (of-s.has p h) ∙ of-t.has p (omega (arith, same-props));
-        val = λ v h. sym (of-s.val v h) ∙ of-t.val v (omega (arith, same-vars));
+        has = λ p h. sym (of-s.has p h) ∙ of-t.has p (omega (arith, same_props));
+        val = λ v h. sym (of-s.val v h) ∙ of-t.val v (omega (arith, same_vars));
       }
 
-  same-goal : conditions_of k.goal ≡ conditions_of n.goal
+  same_goal : conditions_of k.goal ≡ conditions_of n.goal
   unfolding problem_of
-  same-goal =
+  same_goal =
       sym (conditions_back k.goal) ∙ ap (λ (p : Problem). map formula_item p.goal) both.1 ∙ conditions_back n.goal
 
   -- "Two tables with states that give the same text have the same state, moves and goal, the conditions and the effects of each in
   -- the same order."
-  pub one-text : Same k n s t
-  one-text =
+  pub one_text : Same k n s t
+  one_text =
       record {
-        props = same-props;
-        vars = same-vars;
+        props = same_props;
+        vars = same_vars;
         state = same_state;
         conditions =
-            sym (moves_conditions 0 k.moves) ∙ ap (map action_conditions) same-actions ∙ moves_conditions 0 n.moves;
-        effects = sym (moves_effects 0 k.moves) ∙ ap (map action_effects) same-actions ∙ moves_effects 0 n.moves;
-        goal = same-goal;
+            sym (moves_conditions 0 k.moves) ∙ ap (map action_conditions) same_actions ∙ moves_conditions 0 n.moves;
+        effects = sym (moves_effects 0 k.moves) ∙ ap (map action_effects) same_actions ∙ moves_effects 0 n.moves;
+        goal = same_goal;
       }
 
 -- ---- the other way round

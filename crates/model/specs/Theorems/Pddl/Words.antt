@@ -9,7 +9,7 @@ use Rattle.model.specs.Listing.{decimal}
 use Rattle.model.specs.Ascii.{ascii}
 use Rattle.model.specs.Pddl.{number_text, atom_text, head_text, lines}
 use Rattle.model.specs.Theorems.Reading.WellFormed.{All}
-use Rattle.model.specs.Theorems.Printing.Decimals.{Digit, value_of, decimal-value, decimal-digits, decimal-some}
+use Rattle.model.specs.Theorems.Printing.Decimals.{Digit, value_of, decimal_value, decimal_digits, decimal_some}
 
 -- x and y, printed before r and q, split alike
 abbrev pub Splits : {A : Type 0} → (A → List ℕ) → A → A → List ℕ → List ℕ → Type 0
@@ -71,11 +71,11 @@ digits_split (d ∷ ds) (c ∷ es) r q a b h k e =
 
 pub decimal_splits : Delimited decimal
 decimal_splits m n r q h k e =
-    let s = digits_split (decimal m) (decimal n) r q (decimal-digits m) (decimal-digits n) h k e in
-    (sym (decimal-value m) ∙ ap value_of s.0 ∙ decimal-value n, s.1)
+    let s = digits_split (decimal m) (decimal n) r q (decimal_digits m) (decimal_digits n) h k e in
+    (sym (decimal_value m) ∙ ap value_of s.0 ∙ decimal_value n, s.1)
 
 decimal_first : (n : ℕ) (r : List ℕ) → 48 ≤ get_or (decimal n ++ r) 0 0
-decimal_first n r = go (decimal n) (decimal-digits n) (decimal-some n)
+decimal_first n r = go (decimal n) (decimal_digits n) (decimal_some n)
   where
     go : (ds : List ℕ) → All Digit ds → 0 < length ds → 48 ≤ get_or (ds ++ r) 0 0
     go [] a h = absurd (omega arith)

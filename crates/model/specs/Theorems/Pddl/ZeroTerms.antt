@@ -14,12 +14,12 @@ use Rattle.model.specs.StateTable.{state_of}
 use Rattle.model.specs.Pddl.{task_text}
 use Rattle.model.specs.PddlMeaning.{TextPlan}
 use Rattle.model.specs.Theorems.Reading.WellFormed.{All, GoalItem}
-use Rattle.model.specs.Theorems.Reading.Accepted.{reading_task, reading_form, reading-canonical}
+use Rattle.model.specs.Theorems.Reading.Accepted.{reading_task, reading_form, reading_canonical}
 use Rattle.model.specs.Theorems.Reading.Kept.{kept_in, kept_again}
 use Rattle.model.specs.Theorems.NormalForm.Blocks.{All-of-map}
 use Rattle.model.specs.Theorems.NormalForm.ZeroTerms.{item_without, block_without, without_zero, without_solves, goal_item}
-use Rattle.model.specs.Theorems.Pddl.Text.{conditions_of, effects_of, whole_goal, one-text}
-use Rattle.model.specs.Theorems.Pddl.Calls.{Wrote, task_in, state_in, text-plans}
+use Rattle.model.specs.Theorems.Pddl.Text.{conditions_of, effects_of, whole_goal, one_text}
+use Rattle.model.specs.Theorems.Pddl.Calls.{Wrote, task_in, state_in, text_plans}
 
 -- ---- a block from its conditions, its effects and how they are mixed
 
@@ -71,18 +71,18 @@ one_list (b ∷ bs) (c ∷ cs) shape conditions effects =
 -- ---- tasks that differ only in terms of weight 0
 
 module _ (k n : Task) (s t : State) (same : without_zero k ≡ without_zero n) (text : task_text k s ≡ task_text n t) where
-  one-moves : k.moves ≡ n.moves
+  one_moves : k.moves ≡ n.moves
   unfolding without_zero
-  one-moves =
-      let e = one-text k n s t text in
+  one_moves =
+      let e = one_text k n s t text in
       one_list k.moves n.moves (ap (λ (x : Task). x.moves) same) e.conditions e.effects
 
   -- if their texts are the same, so are they
-  pub one-task : All GoalItem k.goal → All GoalItem n.goal → k ≡ n
-  one-task k-goal n-goal =
-      let e = one-text k n s t text in
+  pub one_task : All GoalItem k.goal → All GoalItem n.goal → k ≡ n
+  one_task k-goal n-goal =
+      let e = one_text k n s t text in
       let goal : k.goal ≡ n.goal = sym (whole_goal k.goal k-goal) ∙ e.goal ∙ whole_goal n.goal n-goal in
-      λ i. record { props = e.props i; vars = e.vars i; moves = one-moves i; goal = goal i }
+      λ i. record { props = e.props i; vars = e.vars i; moves = one_moves i; goal = goal i }
 
 -- ---- a task and what is left of it without them
 
@@ -147,24 +147,24 @@ task_twice k =
 
 module _ (k : Task) (s t : State) (text : task_text (without_zero k) s ≡ task_text k t) where
   -- "The PDDL text writes it out": where a sum of a move has a term of weight 0, the text without it is another, in any state
-  pub zero-in-move : (m : Block) → In m k.moves → ZeroIn m → ⊥
+  pub zero_in_move : (m : Block) → In m k.moves → ZeroIn m → ⊥
   unfolding without_zero
-  zero-in-move m i z =
-      block_differs m z (each_same block_without k.moves (one-moves (without_zero k) k s t (task_twice k) text) m i)
+  zero_in_move m i z =
+      block_differs m z (each_same block_without k.moves (one_moves (without_zero k) k s t (task_twice k) text) m i)
 
   -- so it is where a sum of the goal has one
-  pub zero-in-goal : All GoalItem k.goal → ZeroIn k.goal → ⊥
+  pub zero_in_goal : All GoalItem k.goal → ZeroIn k.goal → ⊥
   unfolding without_zero block_without
-  zero-in-goal conditions z =
+  zero_in_goal conditions z =
       block_differs k.goal z
       (ap (λ (x : Task). x.goal)
-      (one-task (without_zero k) k s t (task_twice k) text (All-of-map GoalItem item_without k.goal goal_item conditions) conditions))
+      (one_task (without_zero k) k s t (task_twice k) text (All-of-map GoalItem item_without k.goal goal_item conditions) conditions))
 
 -- ---- over bytes
 
 written_bytes : {L : Limits} {t bs x : List ℕ} (w : Wrote L t bs x) → AllBytes t → t ≡ task_bytes written (task_in w)
 written_bytes {L} {t} w all =
-    reading-canonical L (only written) t w.read all
+    reading_canonical L (only written) t w.read all
     ∙ ap (λ (f : Form). task_bytes f (task_in w)) (reading_form L written t w.read)
 
 -- two tables of bytes that differ only in terms of weight 0 and have the same text are the same
@@ -177,7 +177,7 @@ pub one_table :
     → t ≡ u
 one_table {L} {t} {u} w z text same all-t all-u =
     let one : task_in w ≡ task_in z =
-    one-task (task_in w) (task_in z) (state_in w) (state_in z) same (w.text ∙ text ∙ sym z.text)
+    one_task (task_in w) (task_in z) (state_in w) (state_in z) same (w.text ∙ text ∙ sym z.text)
     (reading_task L written t w.read).goal_items (reading_task L written u z.read).goal_items
     in
     written_bytes w all-t ∙ ap (task_bytes written) one ∙ sym (written_bytes z all-u)
@@ -187,11 +187,11 @@ module _ {L : Limits} {t u bs x y : List ℕ} (w : Wrote L t bs x) (z : Wrote L 
   abbrev solved : Task → Type 0
   solved k = Solves real k (state_of k.props bs) ms
 
-  pub same-plans : TextPlan x ms ↔ TextPlan y ms
+  pub same_plans : TextPlan x ms ↔ TextPlan y ms
   unfolding without_zero
-  same-plans =
+  same_plans =
       let k = without_solves (task_in w) ms (state_in w) in
       let n = without_solves (task_in z) ms (state_in z) in (
-        λ p. (text-plans z ms).1 (n.0 (subst solved same (k.1 ((text-plans w ms).0 p)))),
-        λ p. (text-plans w ms).1 (k.0 (subst solved (sym same) (n.1 ((text-plans z ms).0 p)))),
+        λ p. (text_plans z ms).1 (n.0 (subst solved same (k.1 ((text_plans w ms).0 p)))),
+        λ p. (text_plans w ms).1 (k.0 (subst solved (sym same) (n.1 ((text_plans z ms).0 p)))),
       )

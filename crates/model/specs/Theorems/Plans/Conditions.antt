@@ -15,8 +15,8 @@ use Rattle.model.specs.Theorems.Reading.WellFormed.{All, TermOk, SumOk, EffectOk
 use Rattle.model.specs.Theorems.Laws.Booleans.{and_left, and_right, and_both}
 use Rattle.model.specs.Theorems.Laws.Searching.{All-map}
 use Rattle.model.specs.Theorems.Layers.Order.{finite-⊑, ⊑-reaches, layer_sum_finite}
-use Rattle.model.specs.Theorems.Plans.Targets.{Above, low_reaches, Each, each_map, wantProp-each, Sat, wantProp-old, wantProp-new}
-use Rattle.model.specs.Theorems.Plans.Wanting.{wantSum-each, wantSum-old, wantSum-enough}
+use Rattle.model.specs.Theorems.Plans.Targets.{Above, low_reaches, Each, each_map, want_prop_each, Sat, want_prop_old, want_prop_new}
+use Rattle.model.specs.Theorems.Plans.Wanting.{want_sum_each, want_sum_old, want_sum_enough}
 
 -- each want names a proposition or a variable of the table, and the layer has it
 pub record Had (props vars : ℕ) (l : Layer) (w : Wants) : Type 0 where
@@ -26,70 +26,70 @@ pub had_sat : {props vars : ℕ} {l : Layer} {w : Wants} → Had props vars l w 
 had_sat h = record { each = each_map (λ p t. t.1) (λ v z t. t.1) h.each }
 
 module _ {x : Layer} (l : Layer) (s : State) where
-  wantItem-old : (w : Wants) (i : Item) → Sat (want_item l s w i) x → Sat w x
+  want_item_old : (w : Wants) (i : Item) → Sat (want_item l s w i) x → Sat w x
   unfolding want_item
-  wantItem-old w (need p) h = wantProp-old w p h
-  wantItem-old w (condition c) h = wantSum-old l s w c.terms c.bound h
-  wantItem-old w (add p) h = h
-  wantItem-old w (delete p) h = h
-  wantItem-old w (effect e) h = h
+  want_item_old w (need p) h = want_prop_old w p h
+  want_item_old w (condition c) h = want_sum_old l s w c.terms c.bound h
+  want_item_old w (add p) h = h
+  want_item_old w (delete p) h = h
+  want_item_old w (effect e) h = h
 
-  pub wantBlock-old : (w : Wants) (b : Block) → Sat (want_block l s w b) x → Sat w x
+  pub want_block_old : (w : Wants) (b : Block) → Sat (want_block l s w b) x → Sat w x
   unfolding want_block
-  wantBlock-old w [] h = h
-  wantBlock-old w (i ∷ b) h = wantItem-old w i (wantBlock-old (want_item l s w i) b h)
+  want_block_old w [] h = h
+  want_block_old w (i ∷ b) h = want_item_old w i (want_block_old (want_item l s w i) b h)
 
 module _ (L : Limits) (props vars : ℕ) (l : Layer) (s : State) where
-  pub wantSum-had :
+  pub want_sum_had :
       (w : Wants) (ts : List Term) (c : ℤ)
       → SumOk L normal vars ts
       → Had props vars l w
       → Had props vars l (want_sum l s w ts c)
-  wantSum-had w ts c ok h =
+  want_sum_had w ts c ok h =
       record {
         each =
-            wantSum-each l s w ts c
+            want_sum_each l s w ts c
             (All-map {P = TermOk L normal vars} ts (λ t t-ok z r. (t-ok.var, r)) ok.terms) h.each;
       }
 
-  wantItem-had :
+  want_item_had :
       (w : Wants) (i : Item)
       → ItemOk L normal props vars i
       → T (holds_in l i)
       → Had props vars l w
       → Had props vars l (want_item l s w i)
   unfolding want_item holds_in
-  wantItem-had w (need p) ok t h = record { each = wantProp-each h.each (ok, t) }
-  wantItem-had w (condition c) ok t h = wantSum-had w c.terms c.bound ok.sum h
-  wantItem-had w (add p) ok t h = h
-  wantItem-had w (delete p) ok t h = h
-  wantItem-had w (effect e) ok t h = h
+  want_item_had w (need p) ok t h = record { each = want_prop_each h.each (ok, t) }
+  want_item_had w (condition c) ok t h = want_sum_had w c.terms c.bound ok.sum h
+  want_item_had w (add p) ok t h = h
+  want_item_had w (delete p) ok t h = h
+  want_item_had w (effect e) ok t h = h
 
   -- the conditions of a block that is usable in the layer can be had there
-  pub wantBlock-had :
+  pub want_block_had :
       (w : Wants) (b : Block)
       → All (ItemOk L normal props vars) b
       → T (usable l b)
       → Had props vars l w
       → Had props vars l (want_block l s w b)
   unfolding want_block usable all
-  wantBlock-had w [] ok t h = h
-  wantBlock-had w (i ∷ b) ok t h =
-      wantBlock-had (want_item l s w i) b ok.1 (and_right (holds_in l i) (all (holds_in l) b) t)
-      (wantItem-had w i ok.0 (and_left (holds_in l i) (all (holds_in l) b) t) h)
+  want_block_had w [] ok t h = h
+  want_block_had w (i ∷ b) ok t h =
+      want_block_had (want_item l s w i) b ok.1 (and_right (holds_in l i) (all (holds_in l) b) t)
+      (want_item_had w i ok.0 (and_left (holds_in l i) (all (holds_in l) b) t) h)
 
   -- the sum is at least the layer's if that is finite, and at least c if it is not
-  pub wantSum-low :
+  pub want_sum_low :
       (w : Wants) (ts : List Term) (c : ℤ) {y : State}
       → SumOk L normal vars ts
       → Above s y
       → Sat (want_sum l s w ts c) (layer_of y)
       → low_value (layer_sum l.val ts) c ≤ℤ sum y.val ts
-  wantSum-low w ts c ok above h =
+  want_sum_low w ts c ok above h =
       let positive = All-map {P = TermOk L normal vars} ts (λ t t-ok. t-ok.weight.0) ok.terms in
-      wantSum-enough l above w ts c positive h
+      want_sum_enough l above w ts c positive h
 
-  wantItem-enough :
+  want_item_enough :
       (w : Wants) (i : Item) {y : State}
       → ItemOk L normal props vars i
       → Above s y
@@ -97,17 +97,17 @@ module _ (L : Limits) (props vars : ℕ) (l : Layer) (s : State) where
       → Sat (want_item l s w i) (layer_of y)
       → T (holds_in (layer_of y) i)
   unfolding want_item holds_in layer_of
-  wantItem-enough w (need p) ok above t h = wantProp-new w p h
-  wantItem-enough w (condition c) {y} ok above t h =
+  want_item_enough w (need p) ok above t h = want_prop_new w p h
+  want_item_enough w (condition c) {y} ok above t h =
       let low = low_reaches (layer_sum l.val c.terms) c.bound t in
-      let enough = wantSum-low w c.terms c.bound ok.sum above h in
+      let enough = want_sum_low w c.terms c.bound ok.sum above h in
       ⊑-reaches (rw (layer_sum_finite y.val c.terms) (finite-⊑ (≤_trans low enough)))
-  wantItem-enough w (add p) ok above t h = tt
-  wantItem-enough w (delete p) ok above t h = tt
-  wantItem-enough w (effect e) ok above t h = tt
+  want_item_enough w (add p) ok above t h = tt
+  want_item_enough w (delete p) ok above t h = tt
+  want_item_enough w (effect e) ok above t h = tt
 
   -- and they hold in every state at least as high as the first that meets what is wanted for them
-  pub wantBlock-enough :
+  pub want_block_enough :
       (w : Wants) (b : Block) {y : State}
       → All (ItemOk L normal props vars) b
       → Above s y
@@ -115,23 +115,23 @@ module _ (L : Limits) (props vars : ℕ) (l : Layer) (s : State) where
       → Sat (want_block l s w b) (layer_of y)
       → T (usable (layer_of y) b)
   unfolding want_block usable all
-  wantBlock-enough w [] ok above t h = tt
-  wantBlock-enough w (i ∷ b) {y} ok above t h =
+  want_block_enough w [] ok above t h = tt
+  want_block_enough w (i ∷ b) {y} ok above t h =
       let u = want_item l s w i in
       and_both (holds_in (layer_of y) i) (all (holds_in (layer_of y)) b)
-      (wantItem-enough w i ok.0 above (and_left (holds_in l i) (all (holds_in l) b) t) (wantBlock-old l s u b h))
-      (wantBlock-enough u b ok.1 above (and_right (holds_in l i) (all (holds_in l) b) t) h)
+      (want_item_enough w i ok.0 above (and_left (holds_in l i) (all (holds_in l) b) t) (want_block_old l s u b h))
+      (want_block_enough u b ok.1 above (and_right (holds_in l i) (all (holds_in l) b) t) h)
 
   -- the effect's value is at least the layer's if that is finite, and at least d if it is not
-  pub wantEffect-enough :
+  pub want_effect_enough :
       (w : Wants) (e : Effect) (d : ℤ) {y : State}
       → EffectOk L normal vars e
       → Above s y
       → Sat (want_sum l s w e.terms (d -ℤ e.base)) (layer_of y)
       → low_value (layer_value l e) d ≤ℤ value y e
   unfolding value layer_value plus low_value
-  wantEffect-enough w e d {y} ok above h =
-      go (layer_sum l.val e.terms) (wantSum-low w e.terms (d -ℤ e.base) ok.sum above h)
+  want_effect_enough w e d {y} ok above h =
+      go (layer_sum l.val e.terms) (want_sum_low w e.terms (d -ℤ e.base) ok.sum above h)
     where
       z : ℤ
       z = sum y.val e.terms

@@ -18,10 +18,10 @@ use Rattle.model.specs.Layer.{Value, finite, unbounded, Layer, reaches, usable, 
 use Rattle.model.specs.Plan.{low_value, adder, achieves, achiever, demand, step_size, runs}
 use Rattle.model.specs.Theorems.Reading.WellFormed.{KindOk, EffectOk}
 use Rattle.model.specs.Theorems.Laws.Booleans.{and_left, and_right, and_both, or_left, or_right, or_cases, cond_cases}
-use Rattle.model.specs.Theorems.Laws.Searching.{firstFrom-cases}
+use Rattle.model.specs.Theorems.Laws.Searching.{first_from_cases}
 use Rattle.model.specs.Theorems.Layers.Order.{finite-⊑, ⊑-unbounded, ⊑_trans, ⊑-reaches, ◌≼◌}
-use Rattle.model.specs.Theorems.Layers.NextLayer.{raised-cases, gained-cases}
-use Rattle.model.specs.Theorems.Layers.Relaxation.{value-mono, val_mono}
+use Rattle.model.specs.Theorems.Layers.NextLayer.{raised_cases, gained_cases}
+use Rattle.model.specs.Theorems.Layers.Relaxation.{value_mono, val_mono}
 use Rattle.model.specs.Theorems.Plans.Targets.{Above, above_refl, above_trans, low_reaches}
 use Rattle.model.specs.Theorems.Plans.Wanting.{positive_size}
 
@@ -35,7 +35,7 @@ module _ (k : Task) (l : Layer) where
       → ((b : ℕ) → b < length k.moves → T (usable l (move_at k b)) → T (test (move_at k b)) → P (some b))
       → P (first_from (λ b. usable l (move_at k b) && test (move_at k b)) 0 (length k.moves))
   first_found P test not-all-fail found =
-      firstFrom-cases (λ b. usable l (move_at k b) && test (move_at k b)) P 0 (length k.moves)
+      first_from_cases (λ b. usable l (move_at k b) && test (move_at k b)) P 0 (length k.moves)
       (λ b low high t before. found b (omega arith) (left b t) (right b t))
       (λ nobody. absurd (not-all-fail (λ b lt u t. nobody b (omega arith) (omega arith) (both b u t))))
     where
@@ -49,28 +49,28 @@ module _ (k : Task) (l : Layer) where
       right b = and_right (usable l (move_at k b)) (test (move_at k b))
 
   -- a proposition that the next layer has and this one lacks is gained
-  pub gained-new : (p : ℕ) → T ((next k.moves l).has p) → (T (l.has p) → ⊥) → T (gained l p k.moves)
+  pub gained_new : (p : ℕ) → T ((next k.moves l).has p) → (T (l.has p) → ⊥) → T (gained l p k.moves)
   unfolding next
-  gained-new p t lacks = or_cases (l.has p) (gained l p k.moves) t (λ has. absurd (lacks has)) (λ u. u)
+  gained_new p t lacks = or_cases (l.has p) (gained l p k.moves) t (λ has. absurd (lacks has)) (λ u. u)
 
   -- a proposition that the next layer gains is added by a move usable in this one
-  pub adder-found :
+  pub adder_found :
       (P : Option ℕ → Type 0) (p : ℕ)
       → T (gained l p k.moves)
       → ((b : ℕ) → b < length k.moves → T (usable l (move_at k b)) → T (adds p (move_at k b)) → P (some b))
       → P (adder k l p)
   unfolding adder move_at
-  adder-found P p t found = first_found P (adds p) (λ nobody. gained-cases l p k.moves t nobody) found
+  adder_found P p t found = first_found P (adds p) (λ nobody. gained_cases l p k.moves t nobody) found
 
   -- what reaches a target that the variable does not is a := with such a value, or a += with a value above 0
-  offered-achieves :
+  offered_achieves :
       (v : ℕ) (z : ℤ) (o : Option Effect)
       → (T (reaches (l.val v) z) → ⊥)
       → T (reaches (offered l v o) z)
       → T (achieves l z o)
   unfolding offered achieves offer demand
-  offered-achieves v z none low t = low t
-  offered-achieves v z (some e) low t = by_kind e.kind t
+  offered_achieves v z none low t = low t
+  offered_achieves v z (some e) low t = by_kind e.kind t
     where
       gains : Bool
       gains = reaches (layer_value l e) (pos 1)
@@ -78,33 +78,33 @@ module _ (k : Task) (l : Layer) where
       by_kind : (d : Kind) → T (reaches (offer l v d (layer_value l e)) z) → T (reaches (layer_value l e) (demand d z))
       by_kind assign t = t
       by_kind increase t =
-          cond_cases (λ x. T (reaches x z) → T gains) gains unbounded (l.val v) (λ gain r. gain) (λ no-gain r. absurd (low r)) t
+          cond_cases (λ x. T (reaches x z) → T gains) gains unbounded (l.val v) (λ gain r. gain) (λ no_gain r. absurd (low r)) t
       by_kind decrease t = absurd (low t)
 
   -- and back: what passes Plan's test offers the target
-  pub achieves-offered : {L : Limits} (v : ℕ) (z : ℤ) (e : Effect) → EffectOk L normal k.vars e → T (reaches (layer_value l e) (demand e.kind z)) → T (reaches (offered l v (some e)) z)
+  pub achieves_offered : {L : Limits} (v : ℕ) (z : ℤ) (e : Effect) → EffectOk L normal k.vars e → T (reaches (layer_value l e) (demand e.kind z)) → T (reaches (offered l v (some e)) z)
   unfolding offered offer demand
-  achieves-offered v z e e-ok t = by_kind e.kind e-ok.kind t
+  achieves_offered v z e e-ok t = by_kind e.kind e-ok.kind t
     where
       by_kind : (d : Kind) → KindOk normal d → T (reaches (layer_value l e) (demand d z)) → T (reaches (offer l v d (layer_value l e)) z)
       by_kind assign d-ok r = r
       by_kind increase d-ok r =
           cond_cases (λ y. T (reaches y z)) (reaches (layer_value l e) (pos 1)) unbounded (l.val v)
-          (λ gain. ⊑-reaches (⊑-unbounded (finite z))) (λ no-gain. absurd (no-gain r))
+          (λ gain. ⊑-reaches (⊑-unbounded (finite z))) (λ no_gain. absurd (no_gain r))
       by_kind decrease d-ok r = absurd d-ok
 
   -- a target that the next layer reaches and this one does not is achieved by a move usable in this one
-  pub achiever-found :
+  pub achiever_found :
       (P : Option ℕ → Type 0) (v : ℕ) (z : ℤ)
       → (T (reaches (l.val v) z) → ⊥)
       → T (reaches (raised l v k.moves) z)
       → ((b : ℕ) → b < length k.moves → T (usable l (move_at k b)) → T (achieves l z (effect_on v (move_at k b))) → P (some b))
       → P (achiever k l v z)
   unfolding achiever move_at
-  achiever-found P v z low t found =
+  achiever_found P v z low t found =
       first_found P (λ m. achieves l z (effect_on v m))
-      (λ nobody. raised-cases l v (λ x. T (reaches x z) → ⊥) k.moves low
-      (λ b lt u r. nobody b lt u (offered-achieves v z (effect_on v (move_at k b)) low r)) t)
+      (λ nobody. raised_cases l v (λ x. T (reaches x z) → ⊥) k.moves low
+      (λ b lt u r. nobody b lt u (offered_achieves v z (effect_on v (move_at k b)) low r)) t)
       found
 
 -- ---- runs of a move
@@ -161,34 +161,34 @@ step_low unbounded t = (refl, omega arith)
 module _
     {L : Limits} {vars : ℕ} {e : Effect} (ok : EffectOk L normal vars e)
     (b : Block) (v : ℕ) (at-v : effect_on v b ≡ some e) where
-  relaxed-gives : (y : State) {d : Kind} → e.kind ≡ d → changed d (y.val v) (value y e) ≤ℤ (relaxed b y).val v
+  relaxed_gives : (y : State) {d : Kind} → e.kind ≡ d → changed d (y.val v) (value y e) ≤ℤ (relaxed b y).val v
   unfolding relaxed changed_by
-  relaxed-gives y i = rw (at-v, ← i) (larger_right (y.val v) (changed_by y v (some e)))
+  relaxed_gives y i = rw (at-v, ← i) (larger_right (y.val v) (changed_by y v (some e)))
 
   -- n runs of a += whose value is g or more add n · g or more
-  times-lift :
+  times_lift :
       (n g : ℕ) (y : State)
       → e.kind ≡ increase
       → pos g ≤ℤ value y e
       → (y.val v +ℤ pos (n * g)) ≤ℤ (repeated n b y).val v
   unfolding repeated changed
-  times-lift zero g y i h = omega (zlin, Linear.sum (y.val v) (pos (0 * g)))
-  times-lift (suc n) g y i h =
+  times_lift zero g y i h = omega (zlin, Linear.sum (y.val v) (pos (0 * g)))
+  times_lift (suc n) g y i h =
       let x = relaxed b y in
-      let once : (y.val v +ℤ value y e) ≤ℤ x.val v = relaxed-gives y i in
-      let later = times-lift n g x i (≤_trans h (value-mono ok y x (relaxed_above b y).order)) in
+      let once : (y.val v +ℤ value y e) ≤ℤ x.val v = relaxed_gives y i in
+      let later = times_lift n g x i (≤_trans h (value_mono ok y x (relaxed_above b y).order)) in
       let sum = Linear.sum in
       omega (zlin, sum (y.val v) (value y e), sum (y.val v) (pos (suc n * g)), sum (x.val v) (pos (n * g)))
 
   -- a := run once gives T or more; a += run (T − state value of v)/d times gives the state's value and count × d, or more
-  pub runs-reach :
+  pub runs_reach :
       (x : Value) (z : ℤ) {s y : State}
       → T (reaches x (demand e.kind z))
       → Above s y
       → low_value x (demand e.kind z) ≤ℤ value y e
       → z ≤ℤ (repeated (runs e.kind z (s.val v) x) b y).val v
   unfolding demand runs changed repeated
-  runs-reach x z {s} {y} t above h = by_kind e.kind refl ok.kind t h
+  runs_reach x z {s} {y} t above h = by_kind e.kind refl ok.kind t h
     where
       by_kind :
           (d : Kind)
@@ -197,11 +197,11 @@ module _
           → T (reaches x (demand d z))
           → low_value x (demand d z) ≤ℤ value y e
           → z ≤ℤ (repeated (runs d z (s.val v) x) b y).val v
-      by_kind assign i d-ok t h = ≤_trans (≤_trans (low_reaches x z t) h) (relaxed-gives y i)
+      by_kind assign i d-ok t h = ≤_trans (≤_trans (low_reaches x z t) h) (relaxed_gives y i)
       by_kind increase i d-ok t h =
           let g = step_size x in
           let n = up (ceiling (z -ℤ s.val v) g) in
-          let lift = times-lift n g y i (rw (step_low x t).0 h) in
+          let lift = times_lift n g y i (rw (step_low x t).0 h) in
           let way = enough_runs z (s.val v) g (step_low x t).1 in
           omega (zlin, val_mono s y above.order v, Linear.sum (y.val v) (pos (n * g)), Linear.sum (s.val v) (pos (n * g)))
       by_kind decrease i d-ok t h = absurd d-ok

@@ -12,25 +12,25 @@ use Rattle.model.specs.Theorems.Reading.WellFormed.{All, ItemOk, TaskOk}
 use Rattle.model.specs.Theorems.Laws.Booleans.{cond_cases}
 use Rattle.model.specs.Theorems.Layers.NextLayer.{move_ok}
 use Rattle.model.specs.Theorems.Plans.Targets.{Above, above_trans, sat_mono, Sat}
-use Rattle.model.specs.Theorems.Plans.Conditions.{Had, wantBlock-old, wantBlock-had, wantBlock-enough}
+use Rattle.model.specs.Theorems.Plans.Conditions.{Had, want_block_old, want_block_had, want_block_enough}
 use Rattle.model.specs.Theorems.Plans.Supporting.{repeated, repeated_more}
 
 -- ---- counts
 
 module _ (f : ℕ → ℕ) (b n : ℕ) where
   -- "A move taken twice in a layer keeps its larger count."
-  counted-old : (c : ℕ) → f c ≤ counted f b n c
+  counted_old : (c : ℕ) → f c ≤ counted f b n c
   unfolding counted
-  counted-old c = cond_cases (λ m. f c ≤ m) (eqb c b) (max (f c) n) (f c) (λ e. omega arith) (λ e. omega arith)
+  counted_old c = cond_cases (λ m. f c ≤ m) (eqb c b) (max (f c) n) (f c) (λ e. omega arith) (λ e. omega arith)
 
-  pub counted-new : n ≤ counted f b n b
+  pub counted_new : n ≤ counted f b n b
   unfolding counted
-  counted-new = cond_cases (λ m. n ≤ m) (eqb b b) (max (f b) n) (f b) (λ e. omega arith) (λ e. absurd (e (eqb_refl b)))
+  counted_new = cond_cases (λ m. n ≤ m) (eqb b b) (max (f b) n) (f b) (λ e. omega arith) (λ e. absurd (e (eqb_refl b)))
 
   -- a move that is counted was counted before, or it is b
-  counted-cases : {X : Type 0} (c : ℕ) → 1 ≤ counted f b n c → (1 ≤ f c → X) → (c ≡ b → X) → X
+  counted_cases : {X : Type 0} (c : ℕ) → 1 ≤ counted f b n c → (1 ≤ f c → X) → (c ≡ b → X) → X
   unfolding counted
-  counted-cases {X} c h old new =
+  counted_cases {X} c h old new =
       cond_cases (λ m. 1 ≤ m → X) (eqb c b) (max (f c) n) (f c) (λ e k. new (eqb→eq c b e)) (λ e k. old k) h
 
 -- ---- what holds of the wants and counts of one layer while they are made
@@ -96,8 +96,8 @@ module _ (k : Task) (l : Layer) (s : State) where
         → Ran k d.count 0 (length k.moves) y z
         → Q z
 
-  pub leads-grows : {d e : Descent} {Q : State → Type 0} → Grows d e → Leads d Q → Leads e Q
-  leads-grows g h =
+  pub leads_grows : {d e : Descent} {Q : State → Type 0} → Grows d e → Leads d Q → Leads e Q
+  leads_grows g h =
       record { leads = λ y z above sat ran. h.leads y z above (g.wants (layer_of y) sat) (ran_fewer g.count ran) }
 
   -- e is d with what it takes for Q
@@ -150,17 +150,17 @@ module _ {L : Limits} {k : Task} (ok : TaskOk L normal k) (l : Layer) (s : State
       record {
         good = record {
           had = had;
-          move = λ c h. counted-cases d.count b n c h (good.move c) (λ e. rw e lt);
-          enabled = λ c h y above sat. counted-cases d.count b n c h
-              (λ old. good.enabled c old y above (old-wants (layer_of y) sat))
-              (λ e. rw e (wantBlock-enough L k.props k.vars l s d.wants m items above enabled (wants (layer_of y) sat)));
+          move = λ c h. counted_cases d.count b n c h (good.move c) (λ e. rw e lt);
+          enabled = λ c h y above sat. counted_cases d.count b n c h
+              (λ old. good.enabled c old y above (old_wants (layer_of y) sat))
+              (λ e. rw e (want_block_enough L k.props k.vars l s d.wants m items above enabled (wants (layer_of y) sat)));
         };
-        grows = record { wants = old-wants; count = counted-old d.count b n };
+        grows = record { wants = old_wants; count = counted_old d.count b n };
         leads = record {
           leads = λ y z above sat ran.
               let one = ran.each b (omega arith) (omega arith) in
               up-Q (repeated n m one.before) z
-              (above_trans (repeated_more n (counted d.count b n b) m one.before (counted-new d.count b n)) one.end)
+              (above_trans (repeated_more n (counted d.count b n b) m one.before (counted_new d.count b n)) one.end)
               (leads-Q one.before (above_trans above one.start) (sat_mono sat one.start.order));
         };
       }
@@ -171,15 +171,15 @@ module _ {L : Limits} {k : Task} (ok : TaskOk L normal k) (l : Layer) (s : State
       items : All (ItemOk L normal k.props k.vars) m
       items = (move_ok ok b lt).items
 
-      old-wants : (x : Layer) → Sat u x → Sat d.wants x
-      old-wants x t = wantBlock-old l s d.wants m (wants x t)
+      old_wants : (x : Layer) → Sat u x → Sat d.wants x
+      old_wants x t = want_block_old l s d.wants m (wants x t)
 
   -- what is wanted for it can be had in the layer
-  pub block-had :
+  pub block_had :
       {u : Wants} (b : ℕ)
       → b < length k.moves
       → T (usable l (move_at k b))
       → Had k.props k.vars l u
       → Had k.props k.vars l (want_block l s u (move_at k b))
   unfolding move_at
-  block-had {u} b lt enabled had = wantBlock-had L k.props k.vars l s u (move_at k b) (move_ok ok b lt).items enabled had
+  block_had {u} b lt enabled had = want_block_had L k.props k.vars l s u (move_at k b) (move_ok ok b lt).items enabled had

@@ -38,18 +38,18 @@ pub each_map :
 each_map {w} f g h = record { props = λ p t. f p (h.props p t); targets = λ v. target_map (g v) (w.target v) (h.targets v) }
 
 module _ {P : ℕ → Type 0} {Q : ℕ → ℤ → Type 0} where
-  pub noWants-each : Each P Q no_wants
+  pub no_wants_each : Each P Q no_wants
   unfolding no_wants
-  noWants-each = record { props = λ p. absurd; targets = λ v. tt }
+  no_wants_each = record { props = λ p. absurd; targets = λ v. tt }
 
-  pub wantProp-each : {w : Wants} {p : ℕ} → Each P Q w → P p → Each P Q (want_prop w p)
+  pub want_prop_each : {w : Wants} {p : ℕ} → Each P Q w → P p → Each P Q (want_prop w p)
   unfolding want_prop
-  wantProp-each {w} {p} h q =
+  want_prop_each {w} {p} h q =
       record { props = λ r t. or_cases (w.props r) (eqb r p) t (h.props r) (λ e. rw (eqb→eq r p e) q); targets = h.targets }
 
-  pub wantValue-each : {w : Wants} {v : ℕ} {z : ℤ} → Each P Q w → Q v z → Each P Q (want_value w v z)
+  pub want_value_each : {w : Wants} {v : ℕ} {z : ℤ} → Each P Q w → Q v z → Each P Q (want_value w v z)
   unfolding want_value
-  wantValue-each {w} {v} {z} h q =
+  want_value_each {w} {v} {z} h q =
       record {
         props = h.props;
         targets =
@@ -103,18 +103,18 @@ raise_new x free z h = h
 raise_new x (least y) z h = reaches_lower x (larger_right y z) h
 
 module _ {x : Layer} where
-  pub wantProp-old : (w : Wants) (p : ℕ) → Sat (want_prop w p) x → Sat w x
+  pub want_prop_old : (w : Wants) (p : ℕ) → Sat (want_prop w p) x → Sat w x
   unfolding want_prop
-  wantProp-old w p h =
+  want_prop_old w p h =
       record { each = record { props = λ r t. h.each.props r (or_left (w.props r) (eqb r p) t); targets = h.each.targets } }
 
-  pub wantProp-new : (w : Wants) (p : ℕ) → Sat (want_prop w p) x → T (x.has p)
+  pub want_prop_new : (w : Wants) (p : ℕ) → Sat (want_prop w p) x → T (x.has p)
   unfolding want_prop
-  wantProp-new w p h = h.each.props p (or_right (w.props p) (eqb p p) (eqb_refl p))
+  want_prop_new w p h = h.each.props p (or_right (w.props p) (eqb p p) (eqb_refl p))
 
-  pub wantValue-old : (w : Wants) (v : ℕ) (z : ℤ) → Sat (want_value w v z) x → Sat w x
+  pub want_value_old : (w : Wants) (v : ℕ) (z : ℤ) → Sat (want_value w v z) x → Sat w x
   unfolding want_value
-  wantValue-old w v z h =
+  want_value_old w v z h =
       record {
         each = record {
           props = h.each.props;
@@ -125,9 +125,9 @@ module _ {x : Layer} where
         };
       }
 
-  pub wantValue-new : (w : Wants) (v : ℕ) (z : ℤ) → Sat (want_value w v z) x → T (reaches (x.val v) z)
+  pub want_value_new : (w : Wants) (v : ℕ) (z : ℤ) → Sat (want_value w v z) x → T (reaches (x.val v) z)
   unfolding want_value
-  wantValue-new w v z h =
+  want_value_new w v z h =
       cond_cases (λ t. Reached (x.val v) t → T (reaches (x.val v) z)) (eqb v v) (raise_target (w.target v) z) (w.target v)
       (λ e. raise_new (x.val v) (w.target v) z) (λ e. absurd (e (eqb_refl v))) (h.each.targets v)
 

@@ -15,7 +15,7 @@ use Rattle.model.specs.Plan.{Wants, want_value, low, low_value, want_finite, low
 use Rattle.model.specs.Theorems.Reading.WellFormed.{All, Rising}
 use Rattle.model.specs.Theorems.Layers.Order.{finite-⊑, ⊑-finite, reaches-⊑, times_mono}
 use Rattle.model.specs.Theorems.Layers.Relaxation.{val_mono}
-use Rattle.model.specs.Theorems.Plans.Targets.{Above, reaches_own, reaches_any, low_plus, low_finite, low_unbounded, Each, wantValue-each, Sat, wantValue-old, wantValue-new}
+use Rattle.model.specs.Theorems.Plans.Targets.{Above, reaches_own, reaches_any, low_plus, low_finite, low_unbounded, Each, want_value_each, Sat, want_value_old, want_value_new}
 
 -- ---- term by term
 
@@ -27,26 +27,26 @@ abbrev share : Layer → State → Term → List Term → ℤ → ℤ
 share l s t ts c = ceiling (c -ℤ sum (low l s) ts) (nat_abs t.weight)
 
 module _ (l : Layer) (w : Wants) (t : Term) (ts : List Term) where
-  pub wantFinite-finite : {z : ℤ} → l.val t.var ≡ finite z → want_finite l w (t ∷ ts) ≡ want_finite l (want_value w t.var z) ts
+  pub want_finite_finite : {z : ℤ} → l.val t.var ≡ finite z → want_finite l w (t ∷ ts) ≡ want_finite l (want_value w t.var z) ts
   unfolding want_finite
-  wantFinite-finite e = rw (e, want_finite)
+  want_finite_finite e = rw (e, want_finite)
 
-  pub wantFinite-unbounded : l.val t.var ≡ unbounded → want_finite l w (t ∷ ts) ≡ want_finite l w ts
+  pub want_finite_unbounded : l.val t.var ≡ unbounded → want_finite l w (t ∷ ts) ≡ want_finite l w ts
   unfolding want_finite
-  wantFinite-unbounded e = rw (e, want_finite)
+  want_finite_unbounded e = rw (e, want_finite)
 
   module _ (s : State) (c : ℤ) where
     -- a finite variable's target is its value, and c is less by what the term gives
-    pub wantSum-finite : {z : ℤ} → l.val t.var ≡ finite z → want_sum l s w (t ∷ ts) c ≡ want_sum l s (want_value w t.var z) ts (c -ℤ (t.weight *ℤ z))
+    pub want_sum_finite : {z : ℤ} → l.val t.var ≡ finite z → want_sum l s w (t ∷ ts) c ≡ want_sum l s (want_value w t.var z) ts (c -ℤ (t.weight *ℤ z))
     unfolding want_sum want_finite lowest_unbounded rest_terms sum
-    wantSum-finite {z} e =
+    want_sum_finite {z} e =
         rw (e, want_finite, lowest_unbounded, rest_terms, low_finite l s t.var e)
         (ap (want_quotient (want_finite l (want_value w t.var z) ts) (lowest_unbounded l ts)) (sym (sub_sub c (t.weight *ℤ z) (sum (low l s) (rest_terms l ts)))))
 
     -- the first unbounded one is the lowest, and the terms behind it are the rest
-    pub wantSum-unbounded : l.val t.var ≡ unbounded → want_sum l s w (t ∷ ts) c ≡ want_value (want_finite l w ts) t.var (share l s t ts c)
+    pub want_sum_unbounded : l.val t.var ≡ unbounded → want_sum l s w (t ∷ ts) c ≡ want_value (want_finite l w ts) t.var (share l s t ts c)
     unfolding want_sum want_finite lowest_unbounded rest_terms want_quotient
-    wantSum-unbounded e = rw (e, want_finite, lowest_unbounded, rest_terms)
+    want_sum_unbounded e = rw (e, want_finite, lowest_unbounded, rest_terms)
 
 -- a value is finite or unbounded
 value_cases : {A : Type 0} (x : Value) → ((z : ℤ) → x ≡ finite z → A) → (x ≡ unbounded → A) → A
@@ -54,24 +54,24 @@ value_cases (finite z) f g = f z refl
 value_cases unbounded f g = g refl
 
 module _ (l : Layer) (w : Wants) (t : Term) (ts : List Term) (P : Wants → Type 0) where
-  pub wantFinite-cases :
+  pub want_finite_cases :
       ((z : ℤ) → l.val t.var ≡ finite z → P (want_finite l (want_value w t.var z) ts))
       → (l.val t.var ≡ unbounded → P (want_finite l w ts))
       → P (want_finite l w (t ∷ ts))
-  wantFinite-cases f g =
+  want_finite_cases f g =
       value_cases (l.val t.var)
-      (λ z e. subst P (sym (wantFinite-finite l w t ts e)) (f z e))
-      (λ e. subst P (sym (wantFinite-unbounded l w t ts e)) (g e))
+      (λ z e. subst P (sym (want_finite_finite l w t ts e)) (f z e))
+      (λ e. subst P (sym (want_finite_unbounded l w t ts e)) (g e))
 
-  pub wantSum-cases :
+  pub want_sum_cases :
       (s : State) (c : ℤ)
       → ((z : ℤ) → l.val t.var ≡ finite z → P (want_sum l s (want_value w t.var z) ts (c -ℤ (t.weight *ℤ z))))
       → (l.val t.var ≡ unbounded → P (want_value (want_finite l w ts) t.var (share l s t ts c)))
       → P (want_sum l s w (t ∷ ts) c)
-  wantSum-cases s c f g =
+  want_sum_cases s c f g =
       value_cases (l.val t.var)
-      (λ z e. subst P (sym (wantSum-finite l w t ts s c e)) (f z e))
-      (λ e. subst P (sym (wantSum-unbounded l w t ts s c e)) (g e))
+      (λ z e. subst P (sym (want_sum_finite l w t ts s c e)) (f z e))
+      (λ e. subst P (sym (want_sum_unbounded l w t ts s c e)) (g e))
 
 pub want_sum_nil : (l : Layer) (s : State) (w : Wants) (c : ℤ) → want_sum l s w [] c ≡ w
 unfolding want_sum want_finite lowest_unbounded rest_terms want_quotient
@@ -84,44 +84,44 @@ abbrev pub Offered : (ℕ → ℤ → Type 0) → Layer → Term → Type 0
 Offered Q l t = (z : ℤ) → T (reaches (l.val t.var) z) → Q t.var z
 
 module _ {P : ℕ → Type 0} {Q : ℕ → ℤ → Type 0} (l : Layer) where
-  wantFinite-each : (w : Wants) (ts : List Term) → All (Offered Q l) ts → Each P Q w → Each P Q (want_finite l w ts)
+  want_finite_each : (w : Wants) (ts : List Term) → All (Offered Q l) ts → Each P Q w → Each P Q (want_finite l w ts)
   unfolding want_finite
-  wantFinite-each w [] a h = h
-  wantFinite-each w (t ∷ ts) a h =
-      wantFinite-cases l w t ts (Each P Q)
-      (λ z e. wantFinite-each (want_value w t.var z) ts a.1 (wantValue-each h (a.0 z (reaches_own e))))
-      (λ e. wantFinite-each w ts a.1 h)
+  want_finite_each w [] a h = h
+  want_finite_each w (t ∷ ts) a h =
+      want_finite_cases l w t ts (Each P Q)
+      (λ z e. want_finite_each (want_value w t.var z) ts a.1 (want_value_each h (a.0 z (reaches_own e))))
+      (λ e. want_finite_each w ts a.1 h)
 
-  pub wantSum-each :
+  pub want_sum_each :
       (s : State) (w : Wants) (ts : List Term) (c : ℤ)
       → All (Offered Q l) ts
       → Each P Q w
       → Each P Q (want_sum l s w ts c)
-  wantSum-each s w [] c a h = subst (Each P Q) (sym (want_sum_nil l s w c)) h
-  wantSum-each s w (t ∷ ts) c a h =
-      wantSum-cases l w t ts (Each P Q) s c
-      (λ z e. wantSum-each s (want_value w t.var z) ts (c -ℤ (t.weight *ℤ z)) a.1
-      (wantValue-each h (a.0 z (reaches_own e))))
-      (λ e. wantValue-each (wantFinite-each w ts a.1 h) (a.0 (share l s t ts c) (reaches_any (share l s t ts c) e)))
+  want_sum_each s w [] c a h = subst (Each P Q) (sym (want_sum_nil l s w c)) h
+  want_sum_each s w (t ∷ ts) c a h =
+      want_sum_cases l w t ts (Each P Q) s c
+      (λ z e. want_sum_each s (want_value w t.var z) ts (c -ℤ (t.weight *ℤ z)) a.1
+      (want_value_each h (a.0 z (reaches_own e))))
+      (λ e. want_value_each (want_finite_each w ts a.1 h) (a.0 (share l s t ts c) (reaches_any (share l s t ts c) e)))
 
 -- ---- what was wanted before stays wanted
 
 module _ {x : Layer} (l : Layer) where
-  wantFinite-old : (w : Wants) (ts : List Term) → Sat (want_finite l w ts) x → Sat w x
+  want_finite_old : (w : Wants) (ts : List Term) → Sat (want_finite l w ts) x → Sat w x
   unfolding want_finite
-  wantFinite-old w [] h = h
-  wantFinite-old w (t ∷ ts) h =
-      wantFinite-cases l w t ts (λ u. Sat u x → Sat w x)
-      (λ z e k. wantValue-old w t.var z (wantFinite-old (want_value w t.var z) ts k))
-      (λ e. wantFinite-old w ts)
+  want_finite_old w [] h = h
+  want_finite_old w (t ∷ ts) h =
+      want_finite_cases l w t ts (λ u. Sat u x → Sat w x)
+      (λ z e k. want_value_old w t.var z (want_finite_old (want_value w t.var z) ts k))
+      (λ e. want_finite_old w ts)
       h
 
-  pub wantSum-old : (s : State) (w : Wants) (ts : List Term) (c : ℤ) → Sat (want_sum l s w ts c) x → Sat w x
-  wantSum-old s w [] c h = subst (λ u. Sat u x) (want_sum_nil l s w c) h
-  wantSum-old s w (t ∷ ts) c h =
-      wantSum-cases l w t ts (λ u. Sat u x → Sat w x) s c
-      (λ z e k. wantValue-old w t.var z (wantSum-old s (want_value w t.var z) ts (c -ℤ (t.weight *ℤ z)) k))
-      (λ e k. wantFinite-old w ts (wantValue-old (want_finite l w ts) t.var (share l s t ts c) k))
+  pub want_sum_old : (s : State) (w : Wants) (ts : List Term) (c : ℤ) → Sat (want_sum l s w ts c) x → Sat w x
+  want_sum_old s w [] c h = subst (λ u. Sat u x) (want_sum_nil l s w c) h
+  want_sum_old s w (t ∷ ts) c h =
+      want_sum_cases l w t ts (λ u. Sat u x → Sat w x) s c
+      (λ z e k. want_value_old w t.var z (want_sum_old s (want_value w t.var z) ts (c -ℤ (t.weight *ℤ z)) k))
+      (λ e k. want_finite_old w ts (want_value_old (want_finite l w ts) t.var (share l s t ts c) k))
       h
 
 -- ---- meeting what is wanted is enough
@@ -147,59 +147,59 @@ lifted c r w h =
 
 module _ (l : Layer) {s y : State} (above : Above s y) where
   -- the target z on the variable of a term, met
-  term-enough :
+  term_enough :
       (t : Term) (z : ℤ)
       → Positive t
       → T (reaches ((layer_of y).val t.var) z)
       → (t.weight *ℤ z) ≤ℤ (t.weight *ℤ y.val t.var)
   unfolding layer_of
-  term-enough t z ok r = weighted ok (⊑-finite (reaches-⊑ (finite (y.val t.var)) z r))
+  term_enough t z ok r = weighted ok (⊑-finite (reaches-⊑ (finite (y.val t.var)) z r))
 
-  wantFinite-enough :
+  want_finite_enough :
       (w : Wants) (ts : List Term)
       → All Positive ts
       → Sat (want_finite l w ts) (layer_of y)
       → sum (low l s) ts ≤ℤ sum y.val ts
   unfolding want_finite sum
-  wantFinite-enough w [] ok h = ≤-refl (pos 0)
-  wantFinite-enough w (t ∷ ts) ok h =
-      wantFinite-cases l w t ts (λ u. Sat u (layer_of y) → sum (low l s) (t ∷ ts) ≤ℤ sum y.val (t ∷ ts))
+  want_finite_enough w [] ok h = ≤-refl (pos 0)
+  want_finite_enough w (t ∷ ts) ok h =
+      want_finite_cases l w t ts (λ u. Sat u (layer_of y) → sum (low l s) (t ∷ ts) ≤ℤ sum y.val (t ∷ ts))
       (λ z e k.
       let u = want_value w t.var z in
       rw (low_finite l s t.var e)
       (+-mono
-      (term-enough t z ok.0 (wantValue-new w t.var z (wantFinite-old l u ts k)))
-      (wantFinite-enough u ts ok.1 k)))
+      (term_enough t z ok.0 (want_value_new w t.var z (want_finite_old l u ts k)))
+      (want_finite_enough u ts ok.1 k)))
       (λ e k. rw (low_unbounded l s t.var e)
-      (+-mono (weighted ok.0 (val_mono s y above.order t.var)) (wantFinite-enough w ts ok.1 k)))
+      (+-mono (weighted ok.0 (val_mono s y above.order t.var)) (want_finite_enough w ts ok.1 k)))
       h
 
   -- in every state at least as high as the first that has the targets, the sum is at least the layer's if that is finite, and
   -- at least c if it is not
-  pub wantSum-enough :
+  pub want_sum_enough :
       (w : Wants) (ts : List Term) (c : ℤ)
       → All Positive ts
       → Sat (want_sum l s w ts c) (layer_of y)
       → low_value (layer_sum l.val ts) c ≤ℤ sum y.val ts
   unfolding sum layer_sum plus times low_value
-  wantSum-enough w [] c ok h = ≤-refl (pos 0)
-  wantSum-enough w (t ∷ ts) c ok h =
-      wantSum-cases l w t ts (λ u. Sat u (layer_of y) → low_value (layer_sum l.val (t ∷ ts)) c ≤ℤ sum y.val (t ∷ ts)) s c
+  want_sum_enough w [] c ok h = ≤-refl (pos 0)
+  want_sum_enough w (t ∷ ts) c ok h =
+      want_sum_cases l w t ts (λ u. Sat u (layer_of y) → low_value (layer_sum l.val (t ∷ ts)) c ≤ℤ sum y.val (t ∷ ts)) s c
       (λ z e k.
       let u = want_value w t.var z in
       let d = c -ℤ (t.weight *ℤ z) in
       rw (e, low_plus (t.weight *ℤ z) (layer_sum l.val ts) c)
       (+-mono
-      (term-enough t z ok.0 (wantValue-new w t.var z (wantSum-old l s u ts d k)))
-      (wantSum-enough u ts d ok.1 k)))
+      (term_enough t z ok.0 (want_value_new w t.var z (want_sum_old l s u ts d k)))
+      (want_sum_enough u ts d ok.1 k)))
       (λ e k.
       let u = want_finite l w ts in
       let q = share l s t ts c in
       rw e
       (≤_trans (lifted c (sum (low l s) ts) t.weight ok.0)
       (+-mono
-      (term-enough t q ok.0 (wantValue-new u t.var q k))
-      (wantFinite-enough w ts ok.1 (wantValue-old u t.var q k)))))
+      (term_enough t q ok.0 (want_value_new u t.var q k))
+      (want_finite_enough w ts ok.1 (want_value_old u t.var q k)))))
       h
 
 -- ---- the lowest unbounded one
@@ -214,16 +214,16 @@ among_all P (there m) a = among_all P m a.1
 
 module _ (l : Layer) where
   -- no variable is unbounded
-  pub lowest-none : (ts : List Term) → All (λ (u : Term). l.val u.var ≡ unbounded → ⊥) ts → lowest_unbounded l ts ≡ none
+  pub lowest_none : (ts : List Term) → All (λ (u : Term). l.val u.var ≡ unbounded → ⊥) ts → lowest_unbounded l ts ≡ none
   unfolding lowest_unbounded
-  lowest-none [] a = refl
-  lowest-none (t ∷ ts) a =
+  lowest_none [] a = refl
+  lowest_none (t ∷ ts) a =
       value_cases (l.val t.var)
-      (λ z e. rw (e, lowest_unbounded) (lowest-none ts a.1))
+      (λ z e. rw (e, lowest_unbounded) (lowest_none ts a.1))
       (λ e. absurd (a.0 e))
 
   -- t is unbounded, and no unbounded variable is lower
-  pub lowest-some :
+  pub lowest_some :
       (ts : List Term) (t : Term)
       → Rising ts
       → Among t ts
@@ -231,9 +231,9 @@ module _ (l : Layer) where
       → All (λ (u : Term). l.val u.var ≡ unbounded → t.var ≤ u.var) ts
       → lowest_unbounded l ts ≡ some t
   unfolding lowest_unbounded
-  lowest-some ts t rising (here {ts = us}) e lowest = rw (e, lowest_unbounded)
-  lowest-some ts t rising (there {u = u} {ts = us} m) e lowest =
+  lowest_some ts t rising (here {ts = us}) e lowest = rw (e, lowest_unbounded)
+  lowest_some ts t rising (there {u = u} {ts = us} m) e lowest =
       let before : u.var < t.var = among_all (λ r. u.var < r.var) m rising.0 in
       value_cases (l.val u.var)
-      (λ z f. rw (f, lowest_unbounded) (lowest-some us t rising.1 m e lowest.1))
+      (λ z f. rw (f, lowest_unbounded) (lowest_some us t rising.1 m e lowest.1))
       (λ f. absurd (omega (arith, lowest.0 f)))

@@ -17,10 +17,10 @@ use Rattle.model.specs.Theorems.Reading.WellFormed.{All, Rising, TermOk, SumOk, 
 use Rattle.model.specs.Theorems.Laws.Booleans.{T_true, not-false, or_left, or_right}
 use Rattle.model.specs.Theorems.Laws.Listed.{All-append}
 use Rattle.model.specs.Theorems.Laws.Searching.{All-map, All-all}
-use Rattle.model.specs.Theorems.Reading.Reads.{verdictFrom}
-use Rattle.model.specs.Theorems.Printing.Passing.{Left, left-length, left-byte, left-code, left-skip, left_after, left-number, SmallLimits, well_placed, may_follow, passed}
-use Rattle.model.specs.Theorems.Printing.Operands.{weight-range, weight_size}
-use Rattle.model.specs.Theorems.Printing.Items.{length_terms, item_command, item_operands, item_parts, length_item, item_wanted, item_counted, item_width, item_closes, item_fresh, item_advance, item_back, item-ranges, item_sum, item_lively}
+use Rattle.model.specs.Theorems.Reading.Reads.{verdict_from}
+use Rattle.model.specs.Theorems.Printing.Passing.{Left, left_length, left_byte, left_code, left_skip, left_after, left_number, SmallLimits, well_placed, may_follow, passed}
+use Rattle.model.specs.Theorems.Printing.Operands.{weight_range, weight_size}
+use Rattle.model.specs.Theorems.Printing.Items.{length_terms, item_command, item_operands, item_parts, length_item, item_wanted, item_counted, item_width, item_closes, item_fresh, item_advance, item_back, item_ranges, item_sum, item_lively}
 
 -- ---- what stands before against what stands behind
 
@@ -29,13 +29,13 @@ module _ {A : Type 0} (R : A → A → Type 0) where
   abbrev pub Before : List A → List A → Type 0
   Before us ts = All (λ y. All (λ x. R x y) us) ts
 
-  pub before-none : (ts : List A) → Before [] ts
-  before-none [] = tt
-  before-none (y ∷ ts) = (tt, before-none ts)
+  pub before_none : (ts : List A) → Before [] ts
+  before_none [] = tt
+  before_none (y ∷ ts) = (tt, before_none ts)
 
-  before-next : (us : List A) (u : A) (ts : List A) → Before us ts → All (R u) ts → Before (us ++ (u ∷ [])) ts
-  before-next us u [] a r = tt
-  before-next us u (y ∷ ts) a r = (All-append (λ x. R x y) us (u ∷ []) a.0 (r.0, tt), before-next us u ts a.1 r.1)
+  before_next : (us : List A) (u : A) (ts : List A) → Before us ts → All (R u) ts → Before (us ++ (u ∷ [])) ts
+  before_next us u [] a r = tt
+  before_next us u (y ∷ ts) a r = (All-append (λ x. R x y) us (u ∷ []) a.0 (r.0, tt), before_next us u ts a.1 r.1)
 
 -- two items that may stand in one block
 abbrev pub Apart : Item → Item → Type 0
@@ -64,9 +64,9 @@ module _ (L : Limits) (w : Wanted) (t : List ℕ) (small : SmallLimits L)
   where
     -- the verdict, from an offset in the block on, with items and open terms seen
     abbrev from : ℕ → Block → List Term → Verdict
-    from at b us = verdictFrom L w t (within p h ms marks at b us)
+    from at b us = verdict_from L w t (within p h ms marks at b us)
 
-    read-term :
+    read_term :
         (at : ℕ) (b : Block) (us : List Term) (u : Term) (rest : List ℕ)
         → Left t at (code_of term ∷ u.var ∷ (signed_bytes 2 u.weight ++ rest))
         → TermOk L h.form h.vars u
@@ -74,41 +74,41 @@ module _ (L : Limits) (w : Wanted) (t : List ℕ) (small : SmallLimits L)
         → length us < L.terms
         → from at b us ≡ from (at + 4) b (us ++ (u ∷ []))
     unfolding advance with_term term_at byte_after number_after width after_term operands wrong5 wrong6 wrong16 head_wanted half
-    read-term at b us u rest here ok rising room =
+    read_term at b us u rest here ok rising room =
         passed {c = term}
         (record {
-          code = left-code here;
+          code = left_code here;
           placed = well_placed w s term inside refl (may_follow s term refl);
-          uncut = omega (arith, left-length here, length-append (signed_bytes 2 u.weight) rest, length_signed_bytes 2 u.weight);
+          uncut = omega (arith, left_length here, length-append (signed_bytes 2 u.weight) rest, length_signed_bytes 2 u.weight);
           counted = tt;
           lively = tt;
           ranged = (
-            rw var-read (lt→ltb u.var h.vars ok.var),
-            (rw weight_read (weight-range L h.form u.weight ok.weight), tt),
+            rw var_read (lt→ltb u.var h.vars ok.var),
+            (rw weight_read (weight_range L h.form u.weight ok.weight), tt),
           );
           fresh =
-              rw (var-read, lower-all)
+              rw (var_read, lower_all)
               (not_T (leb L.terms (length us)) (λ full. omega (arith, leb→le L.terms (length us) full)));
         })
-        ∙ rw (var-read, weight_read) refl
+        ∙ rw (var_read, weight_read) refl
       where
         s : Seen
         s = within p h ms marks at b us
 
-        var-read : byte_after t s 1 ≡ u.var
-        var-read = left-byte here 1
+        var_read : byte_after t s 1 ≡ u.var
+        var_read = left_byte here 1
 
         weight_read : number_after 2 t s 2 ≡ u.weight
         weight_read =
-            left-number 2 u.weight rest (left-skip here 2) (omega arith)
+            left_number 2 u.weight rest (left_skip here 2) (omega arith)
             (omega (arith, weight_size L h.form u.weight ok.weight, small.weight))
 
-        lower-all : all (λ x. ltb x.var u.var) us ≡ true
-        lower-all =
+        lower_all : all (λ x. ltb x.var u.var) us ≡ true
+        lower_all =
             T_true (all (λ x. ltb x.var u.var) us)
             (All-all (λ (x : Term). ltb x.var u.var) us (All-map us (λ x. lt→ltb x.var u.var) rising))
 
-    read-terms :
+    read_terms :
         (ts : List Term) (at : ℕ) (b : Block) (us : List Term) (rest : List ℕ)
         → Left t at (term_bytes ts ++ rest)
         → All (TermOk L h.form h.vars) ts
@@ -117,11 +117,11 @@ module _ (L : Limits) (w : Wanted) (t : List ℕ) (small : SmallLimits L)
         → length us + length ts ≤ L.terms
         → from at b us ≡ from (at + length (term_bytes ts)) b (us ++ ts)
     unfolding term_bytes
-    read-terms [] at b us rest here ok rising before room = rw (add-zero at, append-nil us) refl
-    read-terms (u ∷ ts) at b us rest here ok rising before room =
-        read-term at b us u (term_bytes ts ++ rest) here' ok.0 before.0 (omega arith)
-        ∙ read-terms ts (at + 4) b (us ++ (u ∷ [])) rest behind ok.1 rising.1
-        (before-next Lower us u ts before.1 rising.0) (omega (arith, length-append us (u ∷ [])))
+    read_terms [] at b us rest here ok rising before room = rw (add-zero at, append-nil us) refl
+    read_terms (u ∷ ts) at b us rest here ok rising before room =
+        read_term at b us u (term_bytes ts ++ rest) here' ok.0 before.0 (omega arith)
+        ∙ read_terms ts (at + 4) b (us ++ (u ∷ [])) rest behind ok.1 rising.1
+        (before_next Lower us u ts before.1 rising.0) (omega (arith, length-append us (u ∷ [])))
         ∙ rw (append_assoc us (u ∷ []) ts, place) refl
       where
         here' : Left t at (code_of term ∷ u.var ∷ (signed_bytes 2 u.weight ++ (term_bytes ts ++ rest)))
@@ -135,7 +135,7 @@ module _ (L : Limits) (w : Wanted) (t : List ℕ) (small : SmallLimits L)
         place : at + 4 + length (term_bytes ts) ≡ at + length (term_bytes (u ∷ ts))
         place = omega (arith, length_terms ts, length_terms (u ∷ ts))
 
-    read-item :
+    read_item :
         (i : Item) (at : ℕ) (b : Block) (rest : List ℕ)
         → Left t at (item_bytes i ++ rest)
         → in_place p (item_command i) ≡ true
@@ -143,17 +143,17 @@ module _ (L : Limits) (w : Wanted) (t : List ℕ) (small : SmallLimits L)
         → T (not (any (λ j. clashes j i) b))
         → from at b [] ≡ from (at + length (item_bytes i)) (b ++ (i ∷ [])) []
     unfolding with_item
-    read-item i at b rest here place ok apart =
-        read-terms (terms_of i) at b [] (code_of c ∷ (item_operands i ++ rest)) at-terms sum.terms sum.rising
-        (before-none Lower (terms_of i)) (omega (arith, sum.few))
+    read_item i at b rest here place ok apart =
+        read_terms (terms_of i) at b [] (code_of c ∷ (item_operands i ++ rest)) at_terms sum.terms sum.rising
+        (before_none Lower (terms_of i)) (omega (arith, sum.few))
         ∙ passed {c = c}
         (record {
-          code = left-code at-command;
+          code = left_code at_command;
           placed = well_placed w s c place (item_wanted w i) (item_closes s i refl);
-          uncut = omega (arith, left-length at-command, length-append (item_operands i) rest, item_width i);
+          uncut = omega (arith, left_length at_command, length-append (item_operands i) rest, item_width i);
           counted = item_counted s i;
           lively = item_lively w s i;
-          ranged = item-ranges small s rest i at-command ok;
+          ranged = item_ranges small s rest i at_command ok;
           fresh = item_fresh L t s i back apart;
         })
         ∙ rw (item_advance t s i, back, behind) refl
@@ -167,20 +167,20 @@ module _ (L : Limits) (w : Wanted) (t : List ℕ) (small : SmallLimits L)
         s : Seen
         s = within p h ms marks (at + length (term_bytes (terms_of i))) b (terms_of i)
 
-        at-terms : Left t at (term_bytes (terms_of i) ++ (code_of c ∷ (item_operands i ++ rest)))
-        at-terms = rw (item_parts i, append_assoc (term_bytes (terms_of i)) (code_of c ∷ item_operands i) rest) at here
+        at_terms : Left t at (term_bytes (terms_of i) ++ (code_of c ∷ (item_operands i ++ rest)))
+        at_terms = rw (item_parts i, append_assoc (term_bytes (terms_of i)) (code_of c ∷ item_operands i) rest) at here
 
-        at-command : Left t s.at (code_of c ∷ (item_operands i ++ rest))
-        at-command = left_after (term_bytes (terms_of i)) (code_of c ∷ (item_operands i ++ rest)) at-terms refl
+        at_command : Left t s.at (code_of c ∷ (item_operands i ++ rest))
+        at_command = left_after (term_bytes (terms_of i)) (code_of c ∷ (item_operands i ++ rest)) at_terms refl
 
         back : item_at t s c ≡ some i
-        back = item_back small s rest i at-command refl ok
+        back = item_back small s rest i at_command refl ok
 
         behind : s.at + width c ≡ at + length (item_bytes i)
         behind = omega (arith, length_terms (terms_of i), length_item i)
 
     -- From where the items of a block stand printed, the reading goes on behind them, with these items seen.
-    pub read-items :
+    pub read_items :
         (is : Block) (at : ℕ) (b : Block) (rest : List ℕ)
         → Left t at (items_bytes is ++ rest)
         → All (λ i. in_place p (item_command i) ≡ true) is
@@ -189,12 +189,12 @@ module _ (L : Limits) (w : Wanted) (t : List ℕ) (small : SmallLimits L)
         → Before Apart b is
         → from at b [] ≡ from (at + length (items_bytes is)) (b ++ is) []
     unfolding items_bytes
-    read-items [] at b rest here places ok once apart = rw (add-zero at, append-nil b) refl
-    read-items (i ∷ is) at b rest here places ok once apart =
-        read-item i at b (items_bytes is ++ rest) here' places.0 ok.0 (no_clash (λ j. clashes j i) b apart.0)
-        ∙ read-items is (at + length (item_bytes i)) (b ++ (i ∷ [])) rest
+    read_items [] at b rest here places ok once apart = rw (add-zero at, append-nil b) refl
+    read_items (i ∷ is) at b rest here places ok once apart =
+        read_item i at b (items_bytes is ++ rest) here' places.0 ok.0 (no_clash (λ j. clashes j i) b apart.0)
+        ∙ read_items is (at + length (item_bytes i)) (b ++ (i ∷ [])) rest
         (left_after (item_bytes i) (items_bytes is ++ rest) here' refl) places.1 ok.1 once.1
-        (before-next Apart b i is apart.1 (none_passes (clashes i) is (T_not (any (clashes i) is) once.0)))
+        (before_next Apart b i is apart.1 (none_passes (clashes i) is (T_not (any (clashes i) is) once.0)))
         ∙ rw (append_assoc b (i ∷ []) is, place) refl
       where
         here' : Left t at (item_bytes i ++ (items_bytes is ++ rest))

@@ -50,40 +50,40 @@ vars_byte L written n small ok = omega (arith, small.vars)
 vars_byte L normal n small ok = omega (arith, small.vars, ok.0)
 
 module _ (L : Limits) (f : Form) (props vars : ℕ) (few_props : props < 256) (few_vars : vars < 256) where
-  term-bytes : (ts : List Term) → All (TermOk L f vars) ts → AllBytes (term_bytes ts)
+  term_bytes_lem : (ts : List Term) → All (TermOk L f vars) ts → AllBytes (term_bytes ts)
   unfolding term_bytes
-  term-bytes [] ok = all_nil
-  term-bytes (t ∷ ts) ok =
+  term_bytes_lem [] ok = all_nil
+  term_bytes_lem (t ∷ ts) ok =
       all_cons (code_byte term)
       (all_cons (omega (arith, ok.0.var))
-      (all_append (signed_bytes 2 t.weight) (term_bytes ts) (signed_bytes_small 2 t.weight) (term-bytes ts ok.1)))
+      (all_append (signed_bytes 2 t.weight) (term_bytes ts) (signed_bytes_small 2 t.weight) (term_bytes_lem ts ok.1)))
 
-  operand-bytes : (i : Item) → ItemOk L f props vars i → AllBytes (item_operands i)
+  operand_bytes : (i : Item) → ItemOk L f props vars i → AllBytes (item_operands i)
   unfolding item_operands
-  operand-bytes (need p) ok = all_cons (omega arith) all_nil
-  operand-bytes (add p) ok = all_cons (omega arith) all_nil
-  operand-bytes (delete p) ok = all_cons (omega arith) all_nil
-  operand-bytes (condition c) ok = all_cons (comparison_byte c.comparison) (signed_bytes_small 4 c.bound)
-  operand-bytes (effect e) ok = all_cons (kind_byte e.kind) (all_cons (omega (arith, ok.var)) (signed_bytes_small 4 e.base))
+  operand_bytes (need p) ok = all_cons (omega arith) all_nil
+  operand_bytes (add p) ok = all_cons (omega arith) all_nil
+  operand_bytes (delete p) ok = all_cons (omega arith) all_nil
+  operand_bytes (condition c) ok = all_cons (comparison_byte c.comparison) (signed_bytes_small 4 c.bound)
+  operand_bytes (effect e) ok = all_cons (kind_byte e.kind) (all_cons (omega (arith, ok.var)) (signed_bytes_small 4 e.base))
 
-  item-bytes : (i : Item) → ItemOk L f props vars i → AllBytes (item_bytes i)
-  item-bytes i ok =
+  item_bytes_lem : (i : Item) → ItemOk L f props vars i → AllBytes (item_bytes i)
+  item_bytes_lem i ok =
       rw (item_parts i)
       (all_append (term_bytes (terms_of i)) (code_of (item_command i) ∷ item_operands i)
-      (term-bytes (terms_of i) (item_sum L f props vars i ok).terms)
-      (all_cons (code_byte (item_command i)) (operand-bytes i ok)))
+      (term_bytes_lem (terms_of i) (item_sum L f props vars i ok).terms)
+      (all_cons (code_byte (item_command i)) (operand_bytes i ok)))
 
-  items-bytes : (b : Block) → All (ItemOk L f props vars) b → AllBytes (items_bytes b)
+  items_bytes_lem : (b : Block) → All (ItemOk L f props vars) b → AllBytes (items_bytes b)
   unfolding items_bytes
-  items-bytes [] ok = all_nil
-  items-bytes (i ∷ b) ok = all_append (item_bytes i) (items_bytes b) (item-bytes i ok.0) (items-bytes b ok.1)
+  items_bytes_lem [] ok = all_nil
+  items_bytes_lem (i ∷ b) ok = all_append (item_bytes i) (items_bytes b) (item_bytes_lem i ok.0) (items_bytes_lem b ok.1)
 
-  moves-bytes : (bs : List Block) → All (BlockOk L f props vars) bs → AllBytes (moves_bytes bs)
+  moves_bytes_lem : (bs : List Block) → All (BlockOk L f props vars) bs → AllBytes (moves_bytes bs)
   unfolding moves_bytes
-  moves-bytes [] ok = all_nil
-  moves-bytes (b ∷ bs) ok =
+  moves_bytes_lem [] ok = all_nil
+  moves_bytes_lem (b ∷ bs) ok =
       all_append (code_of open_move ∷ items_bytes b) (moves_bytes bs)
-      (all_cons (code_byte open_move) (items-bytes b ok.0.items)) (moves-bytes bs ok.1)
+      (all_cons (code_byte open_move) (items_bytes_lem b ok.0.items)) (moves_bytes_lem bs ok.1)
 
 -- Each number that a well-formed task is printed as is a byte.
 pub print_bytes : (L : Limits) (f : Form) (k : Task) → SmallLimits L → TaskOk L f k → AllBytes (task_bytes f k)
@@ -91,8 +91,8 @@ unfolding task_bytes
 print_bytes L f k small ok =
     all_cons (code_byte (head f)) (all_cons few_props (all_cons few_vars (all_cons (omega (arith, small.moves, ok.moves))
     (all_append (moves_bytes k.moves ++ goal) (code_of end_table ∷ [])
-    (all_append (moves_bytes k.moves) goal (moves-bytes L f k.props k.vars few_props few_vars k.moves ok.blocks)
-    (all_cons (code_byte open_goal) (items-bytes L f k.props k.vars few_props few_vars k.goal ok.goal.items)))
+    (all_append (moves_bytes k.moves) goal (moves_bytes_lem L f k.props k.vars few_props few_vars k.moves ok.blocks)
+    (all_cons (code_byte open_goal) (items_bytes_lem L f k.props k.vars few_props few_vars k.goal ok.goal.items)))
     (all_cons (code_byte end_table) all_nil)))))
   where
     few_props : k.props < 256

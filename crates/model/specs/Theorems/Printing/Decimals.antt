@@ -91,22 +91,22 @@ value_last n (c ∷ ds) d = value_last (10 * n + (c - 48)) ds d
 
 module _ (n : ℕ) where
   -- the decimal digits of n, read back, give n
-  pub decimal-value : value_of (decimal n) ≡ n
+  pub decimal_value : value_of (decimal n) ≡ n
   unfolding decimal value_of value_after
-  decimal-value =
+  decimal_value =
       digits_induction (λ (m : ℕ) (ds : List ℕ). value_after 0 ds ≡ m) (λ m h. omega arith)
       (λ m ds h e. value_last 0 ds (48 + m % 10) ∙ omega arith) n n (omega arith)
 
   -- each is one of the ASCII digits 0 to 9
-  pub decimal-digits : All Digit (decimal n)
+  pub decimal_digits : All Digit (decimal n)
   unfolding decimal
-  decimal-digits =
+  decimal_digits =
       digits_induction (λ (m : ℕ) (ds : List ℕ). All Digit ds) (λ m h. (omega arith, tt))
       (λ m ds h a. All-append Digit ds ((48 + m % 10) ∷ []) a (omega arith, tt)) n n (omega arith)
 
-  first-digit : (0 < n → 48 < get_or (decimal n) 0 0) × (0 < length (decimal n))
+  first_digit : (0 < n → 48 < get_or (decimal n) 0 0) × (0 < length (decimal n))
   unfolding decimal
-  first-digit =
+  first_digit =
       digits_induction (λ (m : ℕ) (ds : List ℕ). (0 < m → 48 < get_or ds 0 0) × (0 < length ds))
       (λ m h. (λ p. omega arith, omega arith))
       (λ m ds h a.
@@ -115,12 +115,12 @@ module _ (n : ℕ) where
       n n (omega arith)
 
   -- there is a first digit
-  pub decimal-some : 0 < length (decimal n)
-  decimal-some = first-digit.1
+  pub decimal_some : 0 < length (decimal n)
+  decimal_some = first_digit.1
 
   -- and it is not 0, the byte 48, unless the number is 0
   pub decimal_first : 0 < n → 48 < get_or (decimal n) 0 0
-  decimal_first = first-digit.0
+  decimal_first = first_digit.0
 
 pub decimal_zero : decimal 0 ≡ 48 ∷ []
 unfolding decimal digits

@@ -12,8 +12,8 @@ use Rattle.model.specs.Command.{Command, need_prop, add_prop, delete_prop, close
 use Rattle.model.specs.Seen.{Seen, byte_after, number_after, item_at, with_item, advance}
 use Rattle.model.specs.Reading.{Wanted, head_wanted, leaves_open, wrong6, wrong5, operands, named_again, wrong16}
 use Rattle.model.specs.Theorems.Reading.WellFormed.{All, SumOk, ConditionOk, EffectOk, ItemOk}
-use Rattle.model.specs.Theorems.Printing.Operands.{comparison_back, kind_back, comparison_range, kind_range, bound-range, bound-size}
-use Rattle.model.specs.Theorems.Printing.Passing.{Left, left-byte, left-skip, left-number, SmallLimits, may_follow}
+use Rattle.model.specs.Theorems.Printing.Operands.{comparison_back, kind_back, comparison_range, kind_range, bound_range, bound_size}
+use Rattle.model.specs.Theorems.Printing.Passing.{Left, left_byte, left_skip, left_number, SmallLimits, may_follow}
 
 -- ---- terms
 
@@ -133,27 +133,27 @@ item_advance t s (condition c) = refl
 item_advance t s (effect e) = refl
 
 module _ {L : Limits} (small : SmallLimits L) {t : List ℕ} (s : Seen) (rest : List ℕ) where
-  constant-back :
+  constant_back :
       (i : ℕ) (z : ℤ)
       → Left t (s.at + i) (signed_bytes 4 z ++ rest)
       → nat_abs z ≤ L.constant + 1
       → number_after 4 t s i ≡ z
   unfolding number_after half
-  constant-back i z here b = left-number 4 z rest here (omega arith) (omega (arith, small.constant))
+  constant_back i z here b = left_number 4 z rest here (omega arith) (omega (arith, small.constant))
 
-  bound-back :
+  bound_back :
       (c : Condition)
       → Left t s.at (code_of close_condition ∷ comparison_code c.comparison ∷ (signed_bytes 4 c.bound ++ rest))
       → ConditionOk L s.header.form s.header.vars c
       → number_after 4 t s 2 ≡ c.bound
-  bound-back c here ok = constant-back 2 c.bound (left-skip here 2) (bound-size L s.header.form c.bound ok.bound)
+  bound_back c here ok = constant_back 2 c.bound (left_skip here 2) (bound_size L s.header.form c.bound ok.bound)
 
   base_back :
       (e : Effect)
       → Left t s.at (code_of close_effect ∷ kind_code e.kind ∷ e.var ∷ (signed_bytes 4 e.base ++ rest))
       → EffectOk L s.header.form s.header.vars e
       → number_after 4 t s 3 ≡ e.base
-  base_back e here ok = constant-back 3 e.base (left-skip here 3) (omega (arith, ok.base))
+  base_back e here ok = constant_back 3 e.base (left_skip here 3) (omega (arith, ok.base))
 
   -- the operands that follow an item's command read back as the item
   pub item_back :
@@ -163,30 +163,30 @@ module _ {L : Limits} (small : SmallLimits L) {t : List ℕ} (s : Seen) (rest : 
       → ItemOk L s.header.form s.header.props s.header.vars i
       → item_at t s (item_command i) ≡ some i
   unfolding item_command item_operands terms_of item_at byte_after
-  item_back (need p) here e ok = ap (λ (q : ℕ). some (need q)) (left-byte here 1)
-  item_back (add p) here e ok = ap (λ (q : ℕ). some (add q)) (left-byte here 1)
-  item_back (delete p) here e ok = ap (λ (q : ℕ). some (delete q)) (left-byte here 1)
-  item_back (condition c) here e ok = rw (bound-back c here ok, left-byte here 1, comparison_back c.comparison, e) refl
-  item_back (effect f) here e ok = rw (base_back f here ok, left-byte here 1, left-byte here 2, kind_back f.kind, e) refl
+  item_back (need p) here e ok = ap (λ (q : ℕ). some (need q)) (left_byte here 1)
+  item_back (add p) here e ok = ap (λ (q : ℕ). some (add q)) (left_byte here 1)
+  item_back (delete p) here e ok = ap (λ (q : ℕ). some (delete q)) (left_byte here 1)
+  item_back (condition c) here e ok = rw (bound_back c here ok, left_byte here 1, comparison_back c.comparison, e) refl
+  item_back (effect f) here e ok = rw (base_back f here ok, left_byte here 1, left_byte here 2, kind_back f.kind, e) refl
 
   -- and are in range
-  pub item-ranges :
+  pub item_ranges :
       (i : Item)
       → Left t s.at (code_of (item_command i) ∷ (item_operands i ++ rest))
       → ItemOk L s.header.form s.header.props s.header.vars i
       → All (λ o. T o.in_range) (operands L t s (item_command i))
   unfolding item_command item_operands operands byte_after base_in_range
-  item-ranges (need p) here ok = (rw (left-byte here 1) (lt→ltb p s.header.props ok), tt)
-  item-ranges (add p) here ok = (rw (left-byte here 1) (lt→ltb p s.header.props ok), tt)
-  item-ranges (delete p) here ok = (rw (left-byte here 1) (lt→ltb p s.header.props ok), tt)
-  item-ranges (condition c) here ok = (
-    rw (left-byte here 1) (comparison_range s.header.form c.comparison ok.comparison),
-    (rw (bound-back c here ok) (bound-range L s.header.form c.bound ok.bound), tt),
+  item_ranges (need p) here ok = (rw (left_byte here 1) (lt→ltb p s.header.props ok), tt)
+  item_ranges (add p) here ok = (rw (left_byte here 1) (lt→ltb p s.header.props ok), tt)
+  item_ranges (delete p) here ok = (rw (left_byte here 1) (lt→ltb p s.header.props ok), tt)
+  item_ranges (condition c) here ok = (
+    rw (left_byte here 1) (comparison_range s.header.form c.comparison ok.comparison),
+    (rw (bound_back c here ok) (bound_range L s.header.form c.bound ok.bound), tt),
   )
-  item-ranges (effect f) here ok = (
-    rw (left-byte here 1) (kind_range s.header.form f.kind ok.kind),
+  item_ranges (effect f) here ok = (
+    rw (left_byte here 1) (kind_range s.header.form f.kind ok.kind),
     (
-      rw (left-byte here 2) (lt→ltb f.var s.header.vars ok.var),
+      rw (left_byte here 2) (lt→ltb f.var s.header.vars ok.var),
       (rw (base_back f here ok) (le→leb (nat_abs f.base) L.constant ok.base), tt),
     ),
   )

@@ -17,12 +17,12 @@ use Rattle.model.specs.Reading.{Verdict, Wanted, head_wanted, leaves_open, wrong
 use Rattle.model.specs.Theorems.Reading.WellFormed.{All, BlockOk, GoalItem}
 use Rattle.model.specs.Theorems.Reading.Active.{Lively, lively_passes, none_closes}
 use Rattle.model.specs.Theorems.Laws.Searching.{All-map}
-use Rattle.model.specs.Theorems.Reading.Commands.{Passes, readCommand-end}
-use Rattle.model.specs.Theorems.Reading.Reads.{verdictFrom, verdict-done}
+use Rattle.model.specs.Theorems.Reading.Commands.{Passes, read_command_end}
+use Rattle.model.specs.Theorems.Reading.Reads.{verdict_from, verdict_done}
 use Rattle.model.specs.Theorems.Reading.Marks.{starts}
-use Rattle.model.specs.Theorems.Printing.Passing.{Left, left-length, left-code, left_after, SmallLimits, well_placed, passed}
+use Rattle.model.specs.Theorems.Printing.Passing.{Left, left_length, left_code, left_after, SmallLimits, well_placed, passed}
 use Rattle.model.specs.Theorems.Printing.Items.{item_command}
-use Rattle.model.specs.Theorems.Printing.Blocks.{within, before-none, Apart, read-items}
+use Rattle.model.specs.Theorems.Printing.Blocks.{within, before_none, Apart, read_items}
 
 move_takes : (i : Item) → in_place in_move (item_command i) ≡ true
 unfolding item_command in_place
@@ -73,9 +73,9 @@ mark_passes :
 unfolding leaves_open
 mark_passes {w} s c rest here none_open one_byte wanted no-operands fresh place counted lively =
     record {
-      code = left-code here;
+      code = left_code here;
       placed = well_placed w s c place wanted (rw none_open refl);
-      uncut = omega (arith, left-length here);
+      uncut = omega (arith, left_length here);
       counted = counted;
       lively = lively;
       ranged = rw no-operands tt;
@@ -85,7 +85,7 @@ mark_passes {w} s c rest here none_open one_byte wanted no-operands fresh place 
 module _ (L : Limits) (w : Wanted) (t : List ℕ) (small : SmallLimits L) (h : Head) where
   -- the verdict from a place and an offset on, with moves, marks and items seen and no term open
   abbrev from : Place → List Block → List ℕ → ℕ → Block → Verdict
-  from p ms marks at b = verdictFrom L w t (within p h ms marks at b [])
+  from p ms marks at b = verdict_from L w t (within p h ms marks at b [])
 
   abbrev Fits : Block → Type 0
   Fits m = BlockOk L h.form h.props h.vars m
@@ -95,7 +95,7 @@ module _ (L : Limits) (w : Wanted) (t : List ℕ) (small : SmallLimits L) (h : H
     s = within p h ms marks at b []
 
     -- a command that opens a block at the place q, and the items of the block
-    read-block :
+    read_block :
         (c : Command) (q : Place) (m : Block) (rest : List ℕ)
         → Left t at (code_of c ∷ (items_bytes m ++ rest))
         → Passes L w t s c
@@ -105,31 +105,31 @@ module _ (L : Limits) (w : Wanted) (t : List ℕ) (small : SmallLimits L) (h : H
         → Fits m
         → from p ms marks at b ≡ from q ds (marks ++ (at ∷ [])) (at + suc (length (items_bytes m))) m
     unfolding with_mark s
-    read-block c q m rest here passes opens inside places ok =
+    read_block c q m rest here passes opens inside places ok =
         passed passes
         ∙ rw (opens, gap.closes, ← behind)
-        (read-items L w t small q inside h ds (marks ++ (at ∷ [])) m (at + 1) [] rest
-        (left_after (code_of c ∷ []) (items_bytes m ++ rest) here refl) places ok.items ok.once (before-none Apart m))
+        (read_items L w t small q inside h ds (marks ++ (at ∷ [])) m (at + 1) [] rest
+        (left_after (code_of c ∷ []) (items_bytes m ++ rest) here refl) places ok.items ok.once (before_none Apart m))
       where
         behind : at + 1 + length (items_bytes m) ≡ at + suc (length (items_bytes m))
         behind = omega arith
 
-    read-move :
+    read_move :
         (m : Block) (rest : List ℕ)
         → Left t at (code_of open_move ∷ (items_bytes m ++ rest))
         → Fits m
         → length ds < h.moves
         → from p ms marks at b ≡ from in_move ds (marks ++ (at ∷ [])) (at + suc (length (items_bytes m))) m
     unfolding s width head_wanted operands wrong5 wrong6 wrong16 in_place advance
-    read-move m rest here ok room =
-        read-block open_move in_move m rest here
+    read_move m rest here ok room =
+        read_block open_move in_move m rest here
         (mark_passes s open_move (items_bytes m ++ rest) here refl refl refl refl tt gap.move_next
         (rw gap.counts
         (not_T (leb h.moves (length ds)) (λ full. omega (arith, leb→le h.moves (length ds) full))))
         gap.lively)
         refl refl (All-map m (λ i x. move_takes i) ok.items) ok
 
-    read-goal :
+    read_goal :
         (g : Block) (rest : List ℕ)
         → Left t at (code_of open_goal ∷ (items_bytes g ++ rest))
         → Fits g
@@ -137,8 +137,8 @@ module _ (L : Limits) (w : Wanted) (t : List ℕ) (small : SmallLimits L) (h : H
         → length ds ≡ h.moves
         → from p ms marks at b ≡ from in_goal ds (marks ++ (at ∷ [])) (at + suc (length (items_bytes g))) g
     unfolding s width head_wanted operands wrong5 wrong6 wrong16 in_place advance
-    read-goal g rest here ok items full =
-        read-block open_goal in_goal g rest here
+    read_goal g rest here ok items full =
+        read_block open_goal in_goal g rest here
         (mark_passes s open_goal (items_bytes g ++ rest) here refl refl refl refl tt gap.goal_next
         (rw gap.counts
         (not_T (ltb (length ds) h.moves) (λ few. omega (arith, ltb→lt (length ds) h.moves few))))
@@ -146,7 +146,7 @@ module _ (L : Limits) (w : Wanted) (t : List ℕ) (small : SmallLimits L) (h : H
         refl refl (All-map g goal_takes items) ok
 
   -- From where moves and the goal stand printed, the reading goes on behind them, with these blocks and their offsets seen.
-  pub read-blocks :
+  pub read_blocks :
       (bs : List Block) (p : Place) (ms : List Block) (marks : List ℕ) (at : ℕ) (b : Block) (ds : List Block) (g : Block)
       (rest : List ℕ)
       → Gap w p ms b ds
@@ -159,11 +159,11 @@ module _ (L : Limits) (w : Wanted) (t : List ℕ) (small : SmallLimits L) (h : H
       → from p ms marks at b
       ≡ from in_goal (ds ++ bs) (marks ++ starts at bs) (at + length (moves_bytes bs) + suc (length (items_bytes g))) g
   unfolding moves_bytes starts
-  read-blocks [] p ms marks at b ds g rest gap here ok live goal items full =
-      read-goal p ms marks at b ds gap g rest here goal items (omega arith) ∙ rw (append-nil ds, add-zero at) refl
-  read-blocks (m ∷ bs) p ms marks at b ds g rest gap here ok live goal items full =
-      read-move p ms marks at b ds gap m (moves_bytes bs ++ after) here' ok.0 (omega arith)
-      ∙ read-blocks bs in_move ds (marks ++ (at ∷ [])) next m (ds ++ (m ∷ [])) g rest (gap_move w ds m live.0)
+  read_blocks [] p ms marks at b ds g rest gap here ok live goal items full =
+      read_goal p ms marks at b ds gap g rest here goal items (omega arith) ∙ rw (append-nil ds, add-zero at) refl
+  read_blocks (m ∷ bs) p ms marks at b ds g rest gap here ok live goal items full =
+      read_move p ms marks at b ds gap m (moves_bytes bs ++ after) here' ok.0 (omega arith)
+      ∙ read_blocks bs in_move ds (marks ++ (at ∷ [])) next m (ds ++ (m ∷ [])) g rest (gap_move w ds m live.0)
       (left_after (code_of open_move ∷ items_bytes m) (moves_bytes bs ++ after) here' refl) ok.1 live.1 goal items
       (omega (arith, length-append ds (m ∷ [])))
       ∙ rw (append_assoc ds (m ∷ []) bs, append_assoc marks (at ∷ []) (starts next bs), behind) refl
@@ -181,14 +181,14 @@ module _ (L : Limits) (w : Wanted) (t : List ℕ) (small : SmallLimits L) (h : H
       behind = omega (arith, length-append (items_bytes m) (moves_bytes bs))
 
   -- 45 as the last byte
-  pub read-end :
+  pub read_end :
       (ds : List Block) (marks : List ℕ) (at : ℕ) (g : Block)
       → Left t at (code_of end_table ∷ [])
       → from in_goal ds marks at g ≡ verdict_of (table_of (within finished h ds (marks ++ (at ∷ [])) (at + 1) g []))
   unfolding width head_wanted operands wrong5 wrong6 wrong16 in_place advance with_mark at_end
-  read-end ds marks at g here =
+  read_end ds marks at g here =
       passed (mark_passes (within in_goal h ds marks at g []) end_table [] here refl refl refl refl tt refl tt tt)
-      ∙ verdict-done L w t e (readCommand-end L w t e (omega (arith, left-length here)))
+      ∙ verdict_done L w t e (read_command_end L w t e (omega (arith, left_length here)))
     where
       e : Seen
       e = within finished h ds (marks ++ (at ∷ [])) (at + 1) g []

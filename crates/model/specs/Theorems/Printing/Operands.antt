@@ -49,17 +49,17 @@ kind_range normal increase ok = tt
 kind_range normal decrease ok = absurd ok
 
 module _ (L : Limits) where
-  pub weight-range : (f : Form) (z : ℤ) → WeightOk L f z → T (weight_in_range L f z)
+  pub weight_range : (f : Form) (z : ℤ) → WeightOk L f z → T (weight_in_range L f z)
   unfolding weight_in_range
-  weight-range written z ok = le→leb (nat_abs z) L.weight ok
-  weight-range normal z ok =
+  weight_range written z ok = le→leb (nat_abs z) L.weight ok
+  weight_range normal z ok =
       and_both (le_z (pos 1) z) (leb (nat_abs z) L.weight)
       (true_t (le_le_z ok.0)) (le→leb (nat_abs z) L.weight ok.1)
 
-  pub bound-range : (f : Form) (z : ℤ) → BoundOk L f z → T (bound_in_range L f z)
+  pub bound_range : (f : Form) (z : ℤ) → BoundOk L f z → T (bound_in_range L f z)
   unfolding bound_in_range
-  bound-range written z ok = le→leb (nat_abs z) L.constant ok
-  bound-range normal z ok =
+  bound_range written z ok = le→leb (nat_abs z) L.constant ok
+  bound_range normal z ok =
       and_both (le_z (neg_ℤ (pos L.constant)) z) (le_z z (pos (L.constant + 1)))
       (true_t (le_le_z ok.0)) (true_t (le_le_z ok.1))
 
@@ -67,9 +67,9 @@ module _ (L : Limits) where
   weight_size written z ok = ok
   weight_size normal z ok = ok.1
 
-  pub bound-size : (f : Form) (z : ℤ) → BoundOk L f z → nat_abs z ≤ L.constant + 1
-  bound-size written z ok = omega arith
-  bound-size normal z ok =
+  pub bound_size : (f : Form) (z : ℤ) → BoundOk L f z → nat_abs z ≤ L.constant + 1
+  bound_size written z ok = omega arith
+  bound_size normal z ok =
       let a = pos L.constant in
       let b = pos (L.constant + 1) in
       size_within z (L.constant + 1) (omega (zlin, neg_up a, neg_dn a, neg_up b, neg_dn b)) ok.1

@@ -20,23 +20,23 @@ use Rattle.model.specs.Theorems.Laws.Booleans.{T-cases}
 -- ---- written over the start
 
 module _ {A : Type 0} (new old : List A) where
-  pub length-overwrite : length new ≤ length old → length (overwrite new old) ≡ length old
+  pub length_overwrite : length new ≤ length old → length (overwrite new old) ≡ length old
   unfolding overwrite
-  length-overwrite h = length-append new (drop (length new) old) ∙ omega (arith, length-drop (length new) old)
+  length_overwrite h = length-append new (drop (length new) old) ∙ omega (arith, length-drop (length new) old)
 
   -- once more changes nothing
-  pub overwrite-again : overwrite new (overwrite new old) ≡ overwrite new old
+  pub overwrite_again : overwrite new (overwrite new old) ≡ overwrite new old
   unfolding overwrite
-  overwrite-again = ap (λ (l : List A). new ++ l) (drop-append_seam new (drop (length new) old))
+  overwrite_again = ap (λ (l : List A). new ++ l) (drop-append_seam new (drop (length new) old))
 
   module _ (d : A) where
-    pub overwrite-at : (i : ℕ) → i < length new → get_or (overwrite new old) i d ≡ get_or new i d
+    pub overwrite_at : (i : ℕ) → i < length new → get_or (overwrite new old) i d ≡ get_or new i d
     unfolding overwrite
-    overwrite-at i h = get_or-append new (drop (length new) old) d i h
+    overwrite_at i h = get_or-append new (drop (length new) old) d i h
 
-    pub overwrite-past : (i : ℕ) → length new ≤ i → get_or (overwrite new old) i d ≡ get_or old i d
+    pub overwrite_past : (i : ℕ) → length new ≤ i → get_or (overwrite new old) i d ≡ get_or old i d
     unfolding overwrite
-    overwrite-past i h =
+    overwrite_past i h =
         let e : i ≡ length new + (i - length new) = omega arith in
         rw e
         (get_or-append-add new (drop (length new) old) (i - length new) d ∙ get_or-drop (length new) old (i - length new) d)
@@ -49,9 +49,9 @@ put_first old bs = rw (zero-add (length bs)) refl
 -- ---- "13 | output shorter than the result | 0"
 
 module _ (size : ℕ) (bs : List ℕ) where
-  pub fitted-whole : length bs ≤ size → fitted size (writes bs) ≡ writes bs
+  pub fitted_whole : length bs ≤ size → fitted size (writes bs) ≡ writes bs
   unfolding fitted
-  fitted-whole h = rw (le-ltb size (length bs) h, fitted) refl
+  fitted_whole h = rw (le-ltb size (length bs) h, fitted) refl
 
   pub fitted_short : size < length bs → fitted size (writes bs) ≡ turns (record { number = 13; place = 0 })
   unfolding fitted
@@ -68,14 +68,14 @@ module _ (size : ℕ) (bs : List ℕ) where
       (λ t. let h : size < length bs = ltb→lt size (length bs) t in subst P (sym (fitted_short h)) (short h))
       (λ t.
       let h : length bs ≤ size = nltb→le size (length bs) (not_T (ltb size (length bs)) t) in
-      subst P (sym (fitted-whole h)) (whole h))
+      subst P (sym (fitted_whole h)) (whole h))
 
 -- an output keeps its length
 pub fitted_length : (out : List ℕ) (o : Output) → length (output_after (fitted (length out) o) out) ≡ length out
 unfolding fitted output_after
 fitted_length out (turns r) = refl
 fitted_length out (writes bs) =
-    fitted_cases (length out) bs (λ (o : Output). length (output_after o out) ≡ length out) (λ h. length-overwrite bs out h) (λ h. refl)
+    fitted_cases (length out) bs (λ (o : Output). length (output_after o out) ≡ length out) (λ h. length_overwrite bs out h) (λ h. refl)
 
 -- an answer of n bytes: what was written is the first n bytes of the output
 pub written_part : (o : Output) (out : List ℕ) (n : ℕ) → write_answer o ≡ write.Written n → o ≡ writes (take n (output_after o out))
@@ -97,19 +97,19 @@ module _ (size : ℕ) (k : Task) (s : State) (b : Built) where
   abbrev bytes_of : List ℕ
   bytes_of = record_bytes (plan_records k s b)
 
-  pub plan-whole : length bytes_of ≤ size → plan_fitted size k s b ≡ planned k s b
+  pub plan_whole : length bytes_of ≤ size → plan_fitted size k s b ≡ planned k s b
   unfolding plan_fitted on_output
-  plan-whole h = rw (fitted-whole size bytes_of h) refl
+  plan_whole h = rw (fitted_whole size bytes_of h) refl
 
-  pub plan-short : size < length bytes_of → plan_fitted size k s b ≡ plan.Refused (record { number = 13; place = 0 })
+  pub plan_short : size < length bytes_of → plan_fitted size k s b ≡ plan.Refused (record { number = 13; place = 0 })
   unfolding plan_fitted on_output
-  plan-short h = rw (fitted_short size bytes_of h) refl
+  plan_short h = rw (fitted_short size bytes_of h) refl
 
-  pub plan-cases :
+  pub plan_cases :
       (P : PlanAnswer → Type 0)
       → (length bytes_of ≤ size → P (planned k s b))
       → P (plan.Refused (record { number = 13; place = 0 }))
       → P (plan_fitted size k s b)
   unfolding plan_fitted on_output
-  plan-cases P whole short =
+  plan_cases P whole short =
       fitted_cases size bytes_of (λ (o : Output). P (on_output o (λ bs. planned k s b) (λ r. plan.Refused r))) whole (λ h. short)

@@ -8,8 +8,8 @@ use Rattle.model.specs.Limits.{Limits, paper}
 use Rattle.model.specs.Command.{Command, in_place, after_term}
 use Rattle.model.specs.Seen.{Seen, advance}
 use Rattle.model.specs.Reading.{Wanted, head_wanted, leaves_open, wrong3}
-use Rattle.model.specs.Theorems.Reading.Commands.{Passes, readCommand-passes}
-use Rattle.model.specs.Theorems.Reading.Reads.{verdictFrom, verdict-more}
+use Rattle.model.specs.Theorems.Reading.Commands.{Passes, read_command_passes}
+use Rattle.model.specs.Theorems.Reading.Reads.{verdict_from, verdict_more}
 use Rattle.model.specs.Theorems.Laws.Booleans.{not-false, and_right}
 
 -- ---- the bytes left at an offset
@@ -18,31 +18,31 @@ pub record Left (t : List ℕ) (at : ℕ) (rest : List ℕ) : Type 0 where
   pub left : drop at t ≡ rest
 
 module _ {t : List ℕ} {at : ℕ} where
-  pub left-length : {c : ℕ} {rest : List ℕ} → Left t at (c ∷ rest) → at + suc (length rest) ≡ length t
-  left-length {c} {rest} h =
+  pub left_length : {c : ℕ} {rest : List ℕ} → Left t at (c ∷ rest) → at + suc (length rest) ≡ length t
+  left_length {c} {rest} h =
       let e : length (drop at t) ≡ suc (length rest) = ap length h.left in
       omega (arith, length-drop at t)
 
-  pub left-byte : {rest : List ℕ} → Left t at rest → (i : ℕ) → get_or t (at + i) 0 ≡ get_or rest i 0
-  left-byte h i = sym (get_or-drop at t i 0) ∙ ap (λ (r : List ℕ). get_or r i 0) h.left
+  pub left_byte : {rest : List ℕ} → Left t at rest → (i : ℕ) → get_or t (at + i) 0 ≡ get_or rest i 0
+  left_byte h i = sym (get_or-drop at t i 0) ∙ ap (λ (r : List ℕ). get_or r i 0) h.left
 
-  pub left-skip : {rest : List ℕ} → Left t at rest → (n : ℕ) → Left t (at + n) (drop n rest)
-  left-skip h n = record { left = sym (drop-drop n at t) ∙ ap (drop n) h.left }
+  pub left_skip : {rest : List ℕ} → Left t at rest → (n : ℕ) → Left t (at + n) (drop n rest)
+  left_skip h n = record { left = sym (drop-drop n at t) ∙ ap (drop n) h.left }
 
   pub left_after : {n : ℕ} (xs ys : List ℕ) → Left t at (xs ++ ys) → length xs ≡ n → Left t (at + n) ys
-  left_after {n} xs ys h e = record { left = (left-skip h n).left ∙ drop_at xs ys n e }
+  left_after {n} xs ys h e = record { left = (left_skip h n).left ∙ drop_at xs ys n e }
 
-  pub left-code : {c : ℕ} {rest : List ℕ} → Left t at (c ∷ rest) → get_or t at 0 ≡ c
-  left-code h = rw (add-zero at) at (left-byte h 0)
+  pub left_code : {c : ℕ} {rest : List ℕ} → Left t at (c ∷ rest) → get_or t at 0 ≡ c
+  left_code h = rw (add-zero at) at (left_byte h 0)
 
   -- a signed number that was printed is read back
-  pub left-number :
+  pub left_number :
       (n : ℕ) (z : ℤ) (rest : List ℕ)
       → Left t at (signed_bytes n z ++ rest)
       → 0 < n
       → nat_abs z < half n
       → signed (take n (drop at t)) ≡ z
-  left-number n z rest h p s =
+  left_number n z rest h p s =
       rw (h.left, take_at (signed_bytes n z) rest n (length_signed_bytes n z))
       (signed_signed_bytes n z p (size_below z (half n) (omega arith)) (omega (zlin, size_above z (nat_abs z) (omega arith))))
 
@@ -79,5 +79,5 @@ may_follow s c e = rw e (not-false (ltb 0 (length s.terms) && false) (and_right 
 pub passed :
     {L : Limits} {w : Wanted} {t : List ℕ} {s : Seen} {c : Command}
     → Passes L w t s c
-    → verdictFrom L w t s ≡ verdictFrom L w t (advance t s c)
-passed {L} {w} {t} {s} p = verdict-more L w t s (readCommand-passes L w t s p)
+    → verdict_from L w t s ≡ verdict_from L w t (advance t s c)
+passed {L} {w} {t} {s} p = verdict_more L w t s (read_command_passes L w t s p)

@@ -13,10 +13,10 @@ use Rattle.model.specs.Plan.{Record, records, move_and_count}
 use Rattle.model.specs.Calls.{record_bytes, records_read}
 use Rattle.model.specs.Theorems.Reading.WellFormed.{All, TaskOk}
 use Rattle.model.specs.Theorems.Laws.Searching.{All-map}
-use Rattle.model.specs.Theorems.Plans.Records.{Bounded, records-bounded}
+use Rattle.model.specs.Theorems.Plans.Records.{Bounded, records_bounded}
 use Rattle.model.specs.Theorems.Printing.Bytes.{all_append}
 use Rattle.model.specs.Theorems.Sizes.States.{SmallState}
-use Rattle.model.specs.Theorems.Sizes.Plans.{records-counts}
+use Rattle.model.specs.Theorems.Sizes.Plans.{records_counts}
 
 -- one record in front of the others
 read_one :
@@ -57,16 +57,16 @@ records_bytes (r ∷ rs) small =
 module _
     {k : Task} {s : State} (ok : TaskOk paper normal k) (start : SmallState k.vars s)
     (m : ℕ) (right : (u : ℕ) → u ≤ m → wrong15 paper k s u ≡ false) (most : m ≤ 3201) where
-  pub plan-read :
+  pub plan_read :
       (behind : List ℕ)
       → records_read (length (records k s m)) (record_bytes (records k s m) ++ behind) ≡ some (map move_and_count (records k s m))
-  plan-read behind =
+  plan_read behind =
       records_read_lem (records k s m) behind
       (All-map {P = λ (r : Record). r.count ≤ 30_000_001_000_000} (records k s m) (λ r h. omega (arith, h))
-      (records-counts ok start m right most))
+      (records_counts ok start m right most))
 
-  pub plan-bytes : AllBytes (record_bytes (records k s m))
+  pub plan_bytes : AllBytes (record_bytes (records k s m))
   unfolding paper
-  plan-bytes =
+  plan_bytes =
       records_bytes (records k s m)
-      (All-map {P = Bounded m (length k.moves)} (records k s m) (λ r h. omega (arith, h.move, ok.moves)) (records-bounded k s m))
+      (All-map {P = Bounded m (length k.moves)} (records k s m) (λ r h. omega (arith, h.move, ok.moves)) (records_bounded k s m))

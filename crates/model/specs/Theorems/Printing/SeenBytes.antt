@@ -20,26 +20,26 @@ pub record Prints (t xs ys : List ℕ) : Type 0 where
   pub same : AllBytes t → xs ≡ ys
 
 module _ {t : List ℕ} where
-  pub prints-append : {xs ys us vs : List ℕ} → Prints t xs ys → Prints t us vs → Prints t (xs ++ us) (ys ++ vs)
-  prints-append {xs} {ys} {us} {vs} p q =
+  pub prints_append : {xs ys us vs : List ℕ} → Prints t xs ys → Prints t us vs → Prints t (xs ++ us) (ys ++ vs)
+  prints_append {xs} {ys} {us} {vs} p q =
       record {
         long = length-append xs us ∙ ap₂ ◌+◌ p.long q.long ∙ sym (length-append ys vs);
         same = λ b. ap₂ ◌++◌ (p.same b) (q.same b);
       }
 
-  pub prints-nothing : (xs : List ℕ) → Prints t (take 0 xs) []
-  prints-nothing xs = record { long = refl; same = λ b. refl }
+  pub prints_nothing : (xs : List ℕ) → Prints t (take 0 xs) []
+  prints_nothing xs = record { long = refl; same = λ b. refl }
 
 -- one byte, then the rest; a signed number
 module _ (t : List ℕ) (at : ℕ) where
-  pub prints-byte : (i n : ℕ) {b : ℕ} {ys : List ℕ} → at + i < length t → get_or t (at + i) 0 ≡ b → Prints t (take n (drop (at + suc i) t)) ys → Prints t (take (suc n) (drop (at + i) t)) (b ∷ ys)
-  prints-byte i n {b} {ys} h e p =
+  pub prints_byte : (i n : ℕ) {b : ℕ} {ys : List ℕ} → at + i < length t → get_or t (at + i) 0 ≡ b → Prints t (take n (drop (at + suc i) t)) ys → Prints t (take (suc n) (drop (at + i) t)) (b ∷ ys)
+  prints_byte i n {b} {ys} h e p =
       let q : Prints t (take n (drop (suc (at + i)) t)) ys = rw (add-suc at i) at p in
       rw (drop-cons t (at + i) 0 h, e)
       (record { long = ap suc q.long; same = λ all. ap (λ (l : List ℕ). b ∷ l) (q.same all) })
 
-  pub prints-number : (i n : ℕ) → at + i + n ≤ length t → Prints t (take n (drop (at + i) t)) (signed_bytes n (signed (take n (drop (at + i) t))))
-  prints-number i n h =
+  pub prints_number : (i n : ℕ) → at + i + n ≤ length t → Prints t (take n (drop (at + i) t)) (signed_bytes n (signed (take n (drop (at + i) t))))
+  prints_number i n h =
       let bs = take n (drop (at + i) t) in
       let e : length bs ≡ n = length-take-le n (drop (at + i) t) (omega (arith, length-drop (at + i) t)) in
       record {
@@ -51,8 +51,8 @@ module _ (t : List ℕ) (at : ℕ) where
 pub prints_command : {L : Limits} {w : Wanted} {t : List ℕ} {s : Seen} {c : Command} {xs ys : List ℕ} (n : ℕ) → width c ≡ suc n → Passes L w t s c → Prints t (take n (drop (s.at + 1) t)) ys → Prints t (take s.at t) xs → Prints t (take (s.at + width c) t) (xs ++ (code_of c ∷ ys))
 prints_command {t} {s} {c} {xs} {ys} n e h p q =
     let r : Prints t (take (suc n) (drop (s.at + 0) t)) (code_of c ∷ ys) =
-    prints-byte t s.at 0 n (omega (arith, h.uncut)) (rw (add-zero s.at) h.code) p in
-    rw (take-add s.at (width c) t, e) (prints-append q (rw (add-zero s.at) at r))
+    prints_byte t s.at 0 n (omega (arith, h.uncut)) (rw (add-zero s.at) h.code) p in
+    rw (take-add s.at (width c) t, e) (prints_append q (rw (add-zero s.at) at r))
 
 -- ---- the bytes of what has been seen
 
@@ -71,15 +71,15 @@ seen_bytes in_goal h ms b ts = open_bytes open_goal h ms b ts
 seen_bytes finished h ms b ts = open_bytes open_goal h ms b [] ++ (code_of end_table ∷ [])
 
 module _ (c : Command) (h : Head) (ms : List Block) (b : Block) where
-  term-behind : (ts : List Term) (u : Term) → open_bytes c h ms b ts ++ term_bytes (u ∷ []) ≡ open_bytes c h ms b (ts ++ (u ∷ []))
+  term_behind : (ts : List Term) (u : Term) → open_bytes c h ms b ts ++ term_bytes (u ∷ []) ≡ open_bytes c h ms b (ts ++ (u ∷ []))
   unfolding open_bytes
-  term-behind ts u =
+  term_behind ts u =
       let front = head_bytes h ++ moves_bytes ms ++ (code_of c ∷ items_bytes b) in
       append_assoc front (term_bytes ts) (term_bytes (u ∷ [])) ∙ ap (λ (l : List ℕ). front ++ l) (sym (term_bytes_snoc ts u))
 
-  item-behind : (ts : List Term) (i : Item) (xs : List ℕ) → term_bytes ts ++ xs ≡ item_bytes i → open_bytes c h ms b ts ++ xs ≡ open_bytes c h ms (b ++ (i ∷ [])) []
+  item_behind : (ts : List Term) (i : Item) (xs : List ℕ) → term_bytes ts ++ xs ≡ item_bytes i → open_bytes c h ms b ts ++ xs ≡ open_bytes c h ms (b ++ (i ∷ [])) []
   unfolding open_bytes term_bytes
-  item-behind ts i xs e =
+  item_behind ts i xs e =
       let before = head_bytes h ++ moves_bytes ms in
       let front = before ++ (code_of c ∷ items_bytes b) in
       append_assoc front (term_bytes ts) xs
@@ -106,8 +106,8 @@ pub item_seen : (p : Place) (h : Head) (ms : List Block) (b : Block) (ts : List 
 unfolding seen_bytes
 item_seen start h ms b ts i xs here e = absurd here
 item_seen preamble h ms b ts i xs here e = absurd here
-item_seen in_move h ms b ts i xs here e = item-behind open_move h ms b ts i xs e
-item_seen in_goal h ms b ts i xs here e = item-behind open_goal h ms b ts i xs e
+item_seen in_move h ms b ts i xs here e = item_behind open_move h ms b ts i xs e
+item_seen in_goal h ms b ts i xs here e = item_behind open_goal h ms b ts i xs e
 item_seen finished h ms b ts i xs here e = absurd here
 
 -- a head stands where nothing has been read
@@ -123,6 +123,6 @@ pub term_seen : (p : Place) (h : Head) (ms : List Block) (b : Block) (ts : List 
 unfolding seen_bytes in_place
 term_seen start h ms b ts u placed = absurd placed
 term_seen preamble h ms b ts u placed = absurd placed
-term_seen in_move h ms b ts u placed = term-behind open_move h ms b ts u
-term_seen in_goal h ms b ts u placed = term-behind open_goal h ms b ts u
+term_seen in_move h ms b ts u placed = term_behind open_move h ms b ts u
+term_seen in_goal h ms b ts u placed = term_behind open_goal h ms b ts u
 term_seen finished h ms b ts u placed = absurd placed

@@ -13,10 +13,10 @@ use Rattle.model.specs.Theorems.Reading.WellFormed.{TaskOk, All}
 use Rattle.model.specs.Theorems.Reading.Active.{AllActive, Lively, passes_lively, lively_active}
 use Rattle.model.specs.Theorems.Reading.Appending.{All-snoc}
 use Rattle.model.specs.Theorems.Reading.Commands.{Passes}
-use Rattle.model.specs.Theorems.Reading.Reads.{reading-induction}
-use Rattle.model.specs.Theorems.Reading.Soundness.{Sound, Stage, sound_start, sound-step}
+use Rattle.model.specs.Theorems.Reading.Reads.{reading_induction}
+use Rattle.model.specs.Theorems.Reading.Soundness.{Sound, Stage, sound_start, sound_step}
 use Rattle.model.specs.Theorems.Printing.SeenBytes.{Prints, head_bytes, open_bytes, seen_bytes}
-use Rattle.model.specs.Theorems.Printing.Printed.{Printed, printed-step}
+use Rattle.model.specs.Theorems.Printing.Printed.{Printed, printed_step}
 use Rattle.model.specs.Theorems.Reading.Marks.{Marked, starts, marked_step}
 
 -- what every command keeps
@@ -55,8 +55,8 @@ kept_start L w t = record { sound = sound_start L w; printed = record { long = r
 pub kept_step : (L : Limits) (w : Wanted) (t : List ℕ) (s : Seen) (c : Command) → Kept L w t s → Passes L w t s c → Kept L w t (advance t s c)
 kept_step L w t s c k h =
     record {
-      sound = sound-step c k.sound h;
-      printed = printed-step c k.sound h k.printed;
+      sound = sound_step c k.sound h;
+      printed = printed_step c k.sound h k.printed;
       marked = marked_step c k.sound h k.printed k.marked;
       lively = lively_step c h k.lively;
     }
@@ -81,7 +81,7 @@ finished_bytes h ms b e =
 
 accepted_end : (L : Limits) (w : Wanted) (t : List ℕ) (s : Seen) → Kept L w t s → length t ≤ s.at → s.place ≡ finished → circular (table_of s).task ≡ false → length t ≤ length_limit L w t → Accepted L w t (table_of s)
 unfolding table_of seen_bytes
-accepted_end L w t s k end at-end no-circle short =
+accepted_end L w t s k end at_end_lem no_circle_lem short =
     record {
       ok =
           record {
@@ -91,55 +91,55 @@ accepted_end L w t s k end at-end no-circle short =
             blocks = k.sound.moves;
             goal = k.sound.items;
             goal_items = stage.2;
-            no_circle = no-circle;
+            no_circle = no_circle_lem;
           };
       wanted = stage.0.wanted;
       props = refl;
       vars = refl;
       moves = sym stage.1;
       prints = printed;
-      marks = subst (λ (p : Place). Marked p s.moves s.items s.marks) at-end k.marked;
+      marks = subst (λ (p : Place). Marked p s.moves s.items s.marks) at_end_lem k.marked;
       short = short;
       lively = k.lively;
     }
   where
     stage : Stage L w finished s.header s.moves s.items
-    stage = subst (λ (p : Place). Stage L w p s.header s.moves s.items) at-end k.sound.stage
+    stage = subst (λ (p : Place). Stage L w p s.header s.moves s.items) at_end_lem k.sound.stage
 
     printed : Prints t t (task_bytes s.header.form (table_of s).task)
     printed =
         subst₂ (λ (xs ys : List ℕ). Prints t xs ys) (take_all s.at t end)
-        (ap (λ (p : Place). seen_bytes p s.header s.moves s.items s.terms) at-end ∙ finished_bytes s.header s.moves s.items stage.1)
+        (ap (λ (p : Place). seen_bytes p s.header s.moves s.items s.terms) at_end_lem ∙ finished_bytes s.header s.moves s.items stage.1)
         k.printed
 
 module _ (L : Limits) (w : Wanted) (t : List ℕ) {k : Table} (e : reading L w t ≡ accepted k) where
-  pub reading-accepted : Accepted L w t k
-  reading-accepted =
-      reading-induction L w t (Kept L w t) (Accepted L w t) (kept_step L w t) (accepted_end L w t) (kept_start L w t) e
+  pub reading_accepted : Accepted L w t k
+  reading_accepted =
+      reading_induction L w t (Kept L w t) (Accepted L w t) (kept_step L w t) (accepted_end L w t) (kept_start L w t) e
 
   -- The task of an accepted table is within every limit: operands in range, rising sums of at most eight terms, each thing named
   -- once in its block, nothing but conditions in the goal, no circle.
-  pub reading-ok : TaskOk L k.header.form k.task
-  reading-ok = reading-accepted.ok
+  pub reading_ok : TaskOk L k.header.form k.task
+  reading_ok = reading_accepted.ok
 
   -- The head says how many propositions, variables and moves the task has.
-  pub reading-head : (k.header.props ≡ k.task.props) × (k.header.vars ≡ k.task.vars) × (k.header.moves ≡ length k.task.moves)
-  reading-head = (reading-accepted.props, reading-accepted.vars, reading-accepted.moves)
+  pub reading_head : (k.header.props ≡ k.task.props) × (k.header.vars ≡ k.task.vars) × (k.header.moves ≡ length k.task.moves)
+  reading_head = (reading_accepted.props, reading_accepted.vars, reading_accepted.moves)
 
   -- An accepted table is as long as the bytes of its task, and not too long.
-  pub reading-length : length t ≡ length (task_bytes k.header.form k.task)
-  reading-length = reading-accepted.prints.long
+  pub reading_length : length t ≡ length (task_bytes k.header.form k.task)
+  reading_length = reading_accepted.prints.long
 
   -- Every move of a table that passed the check for 16 does something.
-  pub reading-active : T (checks16 w) → AllActive k.task.moves
-  reading-active c = lively_active w k.task.moves c reading-accepted.lively
+  pub reading_active : T (checks16 w) → AllActive k.task.moves
+  reading_active c = lively_active w k.task.moves c reading_accepted.lively
 
-  pub reading-limit : length t ≤ length_limit L w t
-  reading-limit = reading-accepted.short
+  pub reading_limit : length t ≤ length_limit L w t
+  reading_limit = reading_accepted.short
 
   -- An accepted table is the bytes of its task: the format is canonical.
-  pub reading-canonical : AllBytes t → t ≡ task_bytes k.header.form k.task
-  reading-canonical = reading-accepted.prints.same
+  pub reading_canonical : AllBytes t → t ≡ task_bytes k.header.form k.task
+  reading_canonical = reading_accepted.prints.same
 
 -- Bytes 0, 2 and 3 of an accepted table are the form, the variables and the moves of its head.
 pub record HeadBytes (t : List ℕ) (h : Head) : Type 0 where
@@ -150,8 +150,8 @@ pub record HeadBytes (t : List ℕ) (h : Head) : Type 0 where
 pub head_bytes_lem : (L : Limits) (w : Wanted) (t : List ℕ) {k : Table} → reading L w t ≡ accepted k → AllBytes t → HeadBytes t k.header
 unfolding task_bytes
 head_bytes_lem L w t {k} e all =
-    let counts = reading-head L w t e in
-    rw (reading-canonical L w t e all)
+    let counts = reading_head L w t e in
+    rw (reading_canonical L w t e all)
     (record { form = refl; vars = sym counts.1; moves = sym counts.2 })
 
 -- one verdict accepts one table
@@ -161,7 +161,7 @@ accepted_one e = cc
 -- A call that wants one head accepts no other.
 pub reading_form : (L : Limits) (f : Form) (t : List ℕ) {k : Table} → reading L (only f) t ≡ accepted k → k.header.form ≡ f
 unfolding head_wanted
-reading_form L f t {k} e = go f k.header.form (reading-accepted L (only f) t e).wanted
+reading_form L f t {k} e = go f k.header.form (reading_accepted L (only f) t e).wanted
   where
     go : (a b : Form) → T (head_wanted (only a) (head b)) → b ≡ a
     go written written h = refl
@@ -171,4 +171,4 @@ reading_form L f t {k} e = go f k.header.form (reading-accepted L (only f) t e).
 
 -- Its task is within every limit of that head.
 pub reading_task : (L : Limits) (f : Form) (t : List ℕ) {k : Table} → reading L (only f) t ≡ accepted k → TaskOk L f k.task
-reading_task L f t {k} e = subst (λ (g : Form). TaskOk L g k.task) (reading_form L f t e) (reading-ok L (only f) t e)
+reading_task L f t {k} e = subst (λ (g : Form). TaskOk L g k.task) (reading_form L f t e) (reading_ok L (only f) t e)

@@ -33,29 +33,29 @@ module _ (L : Limits) (f : Form) {props vars : ℕ} {s t : State} (a : AgreeBelo
   same_sum (u ∷ ts) ok =
       ap₂ (λ (x y : ℤ). (u.weight *ℤ x) +ℤ y) (a.val u.var ok.0.var) (same_sum ts ok.1)
 
-  same-holds : (i : Item) → ItemOk L f props vars i → holds s i ≡ holds t i
+  same_holds : (i : Item) → ItemOk L f props vars i → holds s i ≡ holds t i
   unfolding holds
-  same-holds (need p) ok = a.has p ok
-  same-holds (add p) ok = refl
-  same-holds (delete p) ok = refl
-  same-holds (condition c) ok =
+  same_holds (need p) ok = a.has p ok
+  same_holds (add p) ok = refl
+  same_holds (delete p) ok = refl
+  same_holds (condition c) ok =
       ap (λ (x : ℤ). compares c.comparison x c.bound) (same_sum c.terms ok.sum.terms)
-  same-holds (effect e) ok = refl
+  same_holds (effect e) ok = refl
 
-  same-all : (b : Block) → All (ItemOk L f props vars) b → all (holds s) b ≡ all (holds t) b
+  same_all : (b : Block) → All (ItemOk L f props vars) b → all (holds s) b ≡ all (holds t) b
   unfolding all
-  same-all [] ok = refl
-  same-all (i ∷ b) ok = ap₂ ◌&&◌ (same-holds i ok.0) (same-all b ok.1)
+  same_all [] ok = refl
+  same_all (i ∷ b) ok = ap₂ ◌&&◌ (same_holds i ok.0) (same_all b ok.1)
 
   -- a block's conditions hold in both or in neither
-  pub agree-applicable : (b : Block) → BlockOk L f props vars b → applicable s b ≡ applicable t b
+  pub agree_applicable : (b : Block) → BlockOk L f props vars b → applicable s b ≡ applicable t b
   unfolding applicable
-  agree-applicable b ok = same-all b ok.items
+  agree_applicable b ok = same_all b ok.items
 
   -- a real move leads to states that agree
-  pub agree-real : (b : Block) → BlockOk L f props vars b → AgreeBelow props vars (real b s) (real b t)
+  pub agree_real : (b : Block) → BlockOk L f props vars b → AgreeBelow props vars (real b s) (real b t)
   unfolding real changed_by value
-  agree-real b ok =
+  agree_real b ok =
       record {
         has = λ p h. ap (λ (x : Bool). adds p b || (x && not (deletes p b))) (a.has p h);
         val = λ v h.
@@ -66,22 +66,22 @@ module _ (L : Limits) (f : Form) {props vars : ℕ} {s t : State} (a : AgreeBelo
       }
 
 module _ {L : Limits} {f : Form} {k : Task} (ok : TaskOk L f k) where
-  agree-solve :
+  agree_solve :
       (bs : List ℕ) (s t : State) → AgreeBelow k.props k.vars s t → Solves real k s bs → Solves real k t bs
   unfolding move_at
-  agree-solve [] s t a h = subst T (agree-applicable L f a k.goal ok.goal) h
-  agree-solve (b ∷ bs) s t a h =
+  agree_solve [] s t a h = subst T (agree_applicable L f a k.goal ok.goal) h
+  agree_solve (b ∷ bs) s t a h =
       let m = move_at k b in
       let okMove : BlockOk L f k.props k.vars m = move_ok ok b h.0 in (
         h.0,
-        subst T (agree-applicable L f a m okMove) h.1,
-        agree-solve bs (real m s) (real m t) (agree-real L f a m okMove) h.2,
+        subst T (agree_applicable L f a m okMove) h.1,
+        agree_solve bs (real m s) (real m t) (agree_real L f a m okMove) h.2,
       )
 
   -- a list solves the task from both or from neither
-  pub agree-solves :
+  pub agree_solves :
       (bs : List ℕ) {s t : State} → AgreeBelow k.props k.vars s t → Solves real k s bs ↔ Solves real k t bs
-  agree-solves bs {s} {t} a = (agree-solve bs s t a, agree-solve bs t s (agree_sym a))
+  agree_solves bs {s} {t} a = (agree_solve bs s t a, agree_solve bs t s (agree_sym a))
 
 -- ---- the same to every call
 

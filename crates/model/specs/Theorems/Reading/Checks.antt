@@ -14,7 +14,7 @@ use Rattle.model.specs.Seen.{Head, Seen, byte_after, number_after, comparison_of
 use Rattle.model.specs.Reading.{Wanted, head_wanted, leaves_open, wrong3, wrong6, opened, operands, named_again, wrong5}
 use Rattle.model.specs.Theorems.Reading.WellFormed.{All, TermOk, SumOk, ItemOk, GoalItem, VarsOk}
 use Rattle.model.specs.Theorems.Laws.Booleans.{T_true}
-use Rattle.model.specs.Theorems.Laws.Searching.{all-All, All-map}
+use Rattle.model.specs.Theorems.Laws.Searching.{all_all, All-map}
 use Rattle.model.specs.Theorems.Reading.Ranges.{vars_in_range_lem, weight_in_range_lem, comparison_in_range_lem, kind_in_range_lem, bound_in_range_lem}
 use Rattle.model.specs.Theorems.Reading.Commands.{Passes, none_finished}
 
@@ -42,16 +42,16 @@ module _ {L : Limits} {w : Wanted} {t : List ℕ} {s : Seen} {c : Command} where
       let b = head_wanted w c in
       not_not a (neither_left (not a) (not b) (neither_left (not a || not b) (leaves_open s c) h.placed))
 
-  pub head-wanted : Passes L w t s c → T (head_wanted w c)
+  pub head_wanted_lem : Passes L w t s c → T (head_wanted w c)
   unfolding wrong3
-  head-wanted h =
+  head_wanted_lem h =
       let a = in_place s.place c in
       let b = head_wanted w c in
       not_not b (neither_right (not a) (not b) (neither_left (not a || not b) (leaves_open s c) h.placed))
 
-  pub terms-closed : after_term c ≡ false → Passes L w t s c → s.terms ≡ []
+  pub terms_closed : after_term c ≡ false → Passes L w t s c → s.terms ≡ []
   unfolding wrong3 leaves_open
-  terms-closed e h = go s.terms (after_term c) e (neither_right (not (in_place s.place c) || not (head_wanted w c)) (leaves_open s c) h.placed)
+  terms_closed e h = go s.terms (after_term c) e (neither_right (not (in_place s.place c) || not (head_wanted w c)) (leaves_open s c) h.placed)
     where
       go : (ts : List Term) (a : Bool) → a ≡ false → T (not (ltb 0 (length ts) && not a)) → ts ≡ []
       go [] a k n = refl
@@ -71,7 +71,7 @@ module _ {L : Limits} {w : Wanted} {t : List ℕ} {s : Seen} where
   unfolding operands with_head
   head_read f h =
       record {
-        wanted = head-wanted h;
+        wanted = head_wanted_lem h;
         props = leb→le (byte_after t s 1) L.props h.ranged.0;
         vars = vars_in_range_lem L f (byte_after t s 2) h.ranged.1.0;
         moves = leb→le (byte_after t s 3) L.moves h.ranged.1.1.0;
@@ -126,34 +126,34 @@ effect_at t s =
     record { kind = kind_of (byte_after t s 1); var = byte_after t s 2; terms = s.terms; base = number_after 4 t s 3 }
 
 module _ {L : Limits} {w : Wanted} {t : List ℕ} {s : Seen} where
-  item-read : (c : Command) (i : Item) → in_place start c ≡ false → in_place preamble c ≡ false → (T (in_place in_goal c) → GoalItem i) → Passes L w t s c → ItemOk L s.header.form s.header.props s.header.vars i → T (not (any (λ j. clashes j i) s.items)) → ItemRead L s i
-  item-read c i a b g h ok fresh =
+  item_read : (c : Command) (i : Item) → in_place start c ≡ false → in_place preamble c ≡ false → (T (in_place in_goal c) → GoalItem i) → Passes L w t s c → ItemOk L s.header.form s.header.props s.header.vars i → T (not (any (λ j. clashes j i) s.items)) → ItemRead L s i
+  item_read c i a b g h ok fresh =
       record { in_block = in_block_lem c i a b g s.place (in_place_lem h); ok = ok; fresh = fresh }
 
   -- 50, 2B and 2D: a proposition below P; 2B and 2D stand in a move
-  pub need-read : Passes L w t s need_prop → ItemRead L s (need (byte_after t s 1))
+  pub need_read : Passes L w t s need_prop → ItemRead L s (need (byte_after t s 1))
   unfolding operands wrong5 named_again item_at in_place after_term
-  need-read h =
-      item-read need_prop (need (byte_after t s 1)) refl refl (λ g. g) h
+  need_read h =
+      item_read need_prop (need (byte_after t s 1)) refl refl (λ g. g) h
       (ltb→lt (byte_after t s 1) s.header.props h.ranged.0) h.fresh
 
   pub add_read : Passes L w t s add_prop → ItemRead L s (add (byte_after t s 1))
   unfolding operands wrong5 named_again item_at in_place after_term
   add_read h =
-      item-read add_prop (add (byte_after t s 1)) refl refl (λ g. g) h
+      item_read add_prop (add (byte_after t s 1)) refl refl (λ g. g) h
       (ltb→lt (byte_after t s 1) s.header.props h.ranged.0) h.fresh
 
-  pub delete-read : Passes L w t s delete_prop → ItemRead L s (delete (byte_after t s 1))
+  pub delete_read : Passes L w t s delete_prop → ItemRead L s (delete (byte_after t s 1))
   unfolding operands wrong5 named_again item_at in_place after_term
-  delete-read h =
-      item-read delete_prop (delete (byte_after t s 1)) refl refl (λ g. g) h
+  delete_read h =
+      item_read delete_prop (delete (byte_after t s 1)) refl refl (λ g. g) h
       (ltb→lt (byte_after t s 1) s.header.props h.ranged.0) h.fresh
 
   -- 43 and 46 close terms that are a sum in range
-  pub condition-read : SumOk L s.header.form s.header.vars s.terms → Passes L w t s close_condition → ItemRead L s (condition (condition_at t s))
+  pub condition_read : SumOk L s.header.form s.header.vars s.terms → Passes L w t s close_condition → ItemRead L s (condition (condition_at t s))
   unfolding operands in_place
-  condition-read sum h =
-      item-read close_condition (condition (condition_at t s)) refl refl (λ g. g) h
+  condition_read sum h =
+      item_read close_condition (condition (condition_at t s)) refl refl (λ g. g) h
       (record {
         sum = sum;
         comparison = (comparison_in_range_lem s.header.form (byte_after t s 1) h.ranged.0).0;
@@ -161,10 +161,10 @@ module _ {L : Limits} {w : Wanted} {t : List ℕ} {s : Seen} where
       })
       (condition_fresh (condition_at t s) s.items)
 
-  pub effect-read : SumOk L s.header.form s.header.vars s.terms → Passes L w t s close_effect → ItemRead L s (effect (effect_at t s))
+  pub effect_read : SumOk L s.header.form s.header.vars s.terms → Passes L w t s close_effect → ItemRead L s (effect (effect_at t s))
   unfolding operands wrong5 named_again item_at in_place after_term base_in_range
-  effect-read sum h =
-      item-read close_effect (effect (effect_at t s)) refl refl (λ g. g) h
+  effect_read sum h =
+      item_read close_effect (effect (effect_at t s)) refl refl (λ g. g) h
       (record {
         var = ltb→lt (byte_after t s 2) s.header.vars h.ranged.1.0;
         kind = (kind_in_range_lem s.header.form (byte_after t s 1) h.ranged.0).0;
@@ -184,19 +184,19 @@ module _ {L : Limits} {w : Wanted} {t : List ℕ} {s : Seen} where
           weight = weight_in_range_lem L s.header.form (number_after 2 t s 2) h.ranged.1.0;
         },
         All-map s.terms (λ u k. ltb→lt u.var (byte_after t s 1) k)
-            (all-All (λ (u : Term). ltb u.var (byte_after t s 1)) s.terms (not_not a (neither_left (not a) b h.fresh))),
+            (all_all (λ (u : Term). ltb u.var (byte_after t s 1)) s.terms (not_not a (neither_left (not a) b h.fresh))),
         nleb→lt L.terms (length s.terms) (neither_right (not a) b h.fresh),
       )
 
   -- 41, 47 and 45 follow no open term; 41 is one of the A moves, 47 follows all of them, 45 ends the goal
-  pub openMove-read : Passes L w t s open_move → (s.terms ≡ []) × (opened s.place (length s.moves) < s.header.moves)
+  pub open_move_read : Passes L w t s open_move → (s.terms ≡ []) × (opened s.place (length s.moves) < s.header.moves)
   unfolding wrong6 after_term
-  openMove-read h = (terms-closed refl h, nleb→lt s.header.moves (opened s.place (length s.moves)) h.counted)
+  open_move_read h = (terms_closed refl h, nleb→lt s.header.moves (opened s.place (length s.moves)) h.counted)
 
-  pub openGoal-read : Passes L w t s open_goal → (s.terms ≡ []) × (s.header.moves ≤ opened s.place (length s.moves)) × Between s.place
+  pub open_goal_read : Passes L w t s open_goal → (s.terms ≡ []) × (s.header.moves ≤ opened s.place (length s.moves)) × Between s.place
   unfolding wrong6 after_term in_place
-  openGoal-read h =
-      (terms-closed refl h, nltb→le (opened s.place (length s.moves)) s.header.moves h.counted, go s.place (in_place_lem h))
+  open_goal_read h =
+      (terms_closed refl h, nltb→le (opened s.place (length s.moves)) s.header.moves h.counted, go s.place (in_place_lem h))
     where
       go : (p : Place) → T (in_place p open_goal) → Between p
       go start k = k
@@ -205,9 +205,9 @@ module _ {L : Limits} {w : Wanted} {t : List ℕ} {s : Seen} where
       go in_goal k = k
       go finished k = k
 
-  pub endTable-read : Passes L w t s end_table → (s.terms ≡ []) × (s.place ≡ in_goal)
+  pub end_table_read : Passes L w t s end_table → (s.terms ≡ []) × (s.place ≡ in_goal)
   unfolding in_place after_term
-  endTable-read h = (terms-closed refl h, go s.place (in_place_lem h))
+  end_table_read h = (terms_closed refl h, go s.place (in_place_lem h))
     where
       go : (p : Place) → T (in_place p end_table) → p ≡ in_goal
       go start k = absurd k

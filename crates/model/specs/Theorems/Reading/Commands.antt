@@ -19,33 +19,33 @@ use Rattle.model.specs.Theorems.Laws.Booleans.{T_true, not-false}
 -- ---- the refusal of a command: 3, 2, 6, 16, 4, 5, the first that fails
 
 module _ (L : Limits) (w : Wanted) (t : List ℕ) (s : Seen) (c : Command) where
-  pub refusal-3 : wrong3 w s c ≡ true → refusal L w t s c ≡ some (record { number = 3; place = s.at })
+  pub refusal_3 : wrong3 w s c ≡ true → refusal L w t s c ≡ some (record { number = 3; place = s.at })
   unfolding refusal first_refusal refused_at
-  refusal-3 h = rw h refl
+  refusal_3 h = rw h refl
 
-  pub refusal-2 : wrong3 w s c ≡ false → wrong2 t s c ≡ true → refusal L w t s c ≡ some (record { number = 2; place = s.at })
+  pub refusal_2 : wrong3 w s c ≡ false → wrong2 t s c ≡ true → refusal L w t s c ≡ some (record { number = 2; place = s.at })
   unfolding refusal first_refusal refused_at
-  refusal-2 h k = rw (h, k) refl
+  refusal_2 h k = rw (h, k) refl
 
-  pub refusal-6 : wrong3 w s c ≡ false → wrong2 t s c ≡ false → wrong6 s c ≡ true → refusal L w t s c ≡ some (record { number = 6; place = s.at })
+  pub refusal_6 : wrong3 w s c ≡ false → wrong2 t s c ≡ false → wrong6 s c ≡ true → refusal L w t s c ≡ some (record { number = 6; place = s.at })
   unfolding refusal first_refusal refused_at
-  refusal-6 h k l = rw (h, k, l) refl
+  refusal_6 h k l = rw (h, k, l) refl
 
-  pub refusal-16 : wrong3 w s c ≡ false → wrong2 t s c ≡ false → wrong6 s c ≡ false → wrong16 w s c ≡ true → refusal L w t s c ≡ some (record { number = 16; place = s.at })
+  pub refusal_16 : wrong3 w s c ≡ false → wrong2 t s c ≡ false → wrong6 s c ≡ false → wrong16 w s c ≡ true → refusal L w t s c ≡ some (record { number = 16; place = s.at })
   unfolding refusal first_refusal refused_at
-  refusal-16 h k l m = rw (h, k, l, m) refl
+  refusal_16 h k l m = rw (h, k, l, m) refl
 
-  pub refusal-4 : (o : ℕ) → wrong3 w s c ≡ false → wrong2 t s c ≡ false → wrong6 s c ≡ false → wrong16 w s c ≡ false → first_wrong (operands L t s c) ≡ some o → refusal L w t s c ≡ some (record { number = 4; place = s.at + o })
+  pub refusal_4 : (o : ℕ) → wrong3 w s c ≡ false → wrong2 t s c ≡ false → wrong6 s c ≡ false → wrong16 w s c ≡ false → first_wrong (operands L t s c) ≡ some o → refusal L w t s c ≡ some (record { number = 4; place = s.at + o })
   unfolding refusal first_refusal refused_at refused_operand
-  refusal-4 o h k l j m = rw (h, k, l, j, m) refl
+  refusal_4 o h k l j m = rw (h, k, l, j, m) refl
 
-  pub refusal-5 : wrong3 w s c ≡ false → wrong2 t s c ≡ false → wrong6 s c ≡ false → wrong16 w s c ≡ false → first_wrong (operands L t s c) ≡ none → wrong5 L t s c ≡ true → refusal L w t s c ≡ some (record { number = 5; place = s.at })
+  pub refusal_5 : wrong3 w s c ≡ false → wrong2 t s c ≡ false → wrong6 s c ≡ false → wrong16 w s c ≡ false → first_wrong (operands L t s c) ≡ none → wrong5 L t s c ≡ true → refusal L w t s c ≡ some (record { number = 5; place = s.at })
   unfolding refusal first_refusal refused_at refused_operand
-  refusal-5 h k l j m n = rw (h, k, l, j, m, n) refl
+  refusal_5 h k l j m n = rw (h, k, l, j, m, n) refl
 
-  pub refusal-none : wrong3 w s c ≡ false → wrong2 t s c ≡ false → wrong6 s c ≡ false → wrong16 w s c ≡ false → first_wrong (operands L t s c) ≡ none → wrong5 L t s c ≡ false → refusal L w t s c ≡ none
+  pub refusal_none : wrong3 w s c ≡ false → wrong2 t s c ≡ false → wrong6 s c ≡ false → wrong16 w s c ≡ false → first_wrong (operands L t s c) ≡ none → wrong5 L t s c ≡ false → refusal L w t s c ≡ none
   unfolding refusal first_refusal refused_at refused_operand
-  refusal-none h k l j m n = rw (h, k, l, j, m, n) refl
+  refusal_none h k l j m n = rw (h, k, l, j, m, n) refl
 
 -- 4: "the first such one"
 pub first_wrong_here : (o : Operand) (os : List Operand) → o.in_range ≡ false → first_wrong (o ∷ os) ≡ some o.offset
@@ -64,17 +64,17 @@ first_wrong_none (o ∷ os) a = first_wrong_later o os (T_true o.in_range a.0) �
 -- ---- what is read: the refusal, or one command more, or the end
 
 module _ (L : Limits) (w : Wanted) (t : List ℕ) (s : Seen) where
-  pub readCommand-refused : (c : Command) (r : Refusal) → s.at < length t → command_of (get_or t s.at 0) ≡ c → refusal L w t s c ≡ some r → read_command L w t s ≡ done (refused r)
+  pub read_command_refused : (c : Command) (r : Refusal) → s.at < length t → command_of (get_or t s.at 0) ≡ c → refusal L w t s c ≡ some r → read_command L w t s ≡ done (refused r)
   unfolding read_command step_with
-  readCommand-refused c r h e k = rw (T_true (ltb s.at (length t)) (lt→ltb s.at (length t) h), read_command, e, k) refl
+  read_command_refused c r h e k = rw (T_true (ltb s.at (length t)) (lt→ltb s.at (length t) h), read_command, e, k) refl
 
-  pub readCommand-more : (c : Command) → s.at < length t → command_of (get_or t s.at 0) ≡ c → refusal L w t s c ≡ none → read_command L w t s ≡ more (advance t s c)
+  pub read_command_more : (c : Command) → s.at < length t → command_of (get_or t s.at 0) ≡ c → refusal L w t s c ≡ none → read_command L w t s ≡ more (advance t s c)
   unfolding read_command step_with
-  readCommand-more c h e k = rw (T_true (ltb s.at (length t)) (lt→ltb s.at (length t) h), read_command, e, k) refl
+  read_command_more c h e k = rw (T_true (ltb s.at (length t)) (lt→ltb s.at (length t) h), read_command, e, k) refl
 
-  pub readCommand-end : length t ≤ s.at → read_command L w t s ≡ done (at_end t s s.place)
+  pub read_command_end : length t ≤ s.at → read_command L w t s ≡ done (at_end t s s.place)
   unfolding read_command step_with
-  readCommand-end h = rw (not-false (ltb s.at (length t)) (λ b. omega (arith, ltb→lt s.at (length t) b)), read_command) refl
+  read_command_end h = rw (not-false (ltb s.at (length t)) (λ b. omega (arith, ltb→lt s.at (length t) b)), read_command) refl
 
 -- every command takes at least one byte
 pub width_positive : (c : Command) → 0 < width c
@@ -190,9 +190,9 @@ command_of_code unknown k = absurd (k refl)
 
 module _ (L : Limits) (w : Wanted) (t : List ℕ) (s : Seen) where
   -- a known command is refused, or it passes all checks
-  refusal-cases : (c : Command) (P : Option Refusal → Type 0) → get_or t s.at 0 ≡ code_of c → ((r : Refusal) → P (some r)) → (Passes L w t s c → P none) → P (refusal L w t s c)
+  refusal_cases : (c : Command) (P : Option Refusal → Type 0) → get_or t s.at 0 ≡ code_of c → ((r : Refusal) → P (some r)) → (Passes L w t s c → P none) → P (refusal L w t s c)
   unfolding refusal wrong2
-  refusal-cases c P e refuse pass =
+  refusal_cases c P e refuse pass =
       first_refusal_cases
       (refused_at 3 (wrong3 w s c) s.at
       ∷ refused_at 2 (wrong2 t s c) s.at
@@ -214,10 +214,10 @@ module _ (L : Limits) (w : Wanted) (t : List ℕ) (s : Seen) where
         fresh = refused_at_silent 5 (wrong5 L t s c) s.at a.1.1.1.1.1.0;
       }))
 
-  pub passes-refusal : {c : Command} → Passes L w t s c → refusal L w t s c ≡ none
+  pub passes_refusal : {c : Command} → Passes L w t s c → refusal L w t s c ≡ none
   unfolding wrong2
-  passes-refusal {c} h =
-      refusal-none L w t s c
+  passes_refusal {c} h =
+      refusal_none L w t s c
       (not-false (wrong3 w s c) (T_not (wrong3 w s c) h.placed))
       (not-false (ltb (length t) (s.at + width c)) (λ b. omega (arith, ltb→lt (length t) (s.at + width c) b, h.uncut)))
       (not-false (wrong6 s c) (T_not (wrong6 s c) h.counted))
@@ -226,21 +226,21 @@ module _ (L : Limits) (w : Wanted) (t : List ℕ) (s : Seen) where
       (not-false (wrong5 L t s c) (T_not (wrong5 L t s c) h.fresh))
 
   -- A command that passes all checks is read.
-  pub readCommand-passes : {c : Command} → Passes L w t s c → read_command L w t s ≡ more (advance t s c)
-  readCommand-passes {c} h =
-      readCommand-more L w t s c (omega (arith, h.uncut, width_positive c))
+  pub read_command_passes : {c : Command} → Passes L w t s c → read_command L w t s ≡ more (advance t s c)
+  read_command_passes {c} h =
+      read_command_more L w t s c (omega (arith, h.uncut, width_positive c))
       (ap command_of h.code ∙ command_of_code c (λ e. unknown_refused (subst (Passes L w t s) e h)))
-      (passes-refusal h)
+      (passes_refusal h)
 
   -- One command: refused; or it passes all checks and what has been seen goes on by it; or the table is at its end.
-  pub readCommand-cases :
+  pub read_command_cases :
       (P : Step → Type 0)
       → ((r : Refusal) → P (done (refused r)))
       → ((c : Command) → Passes L w t s c → P (more (advance t s c)))
       → (length t ≤ s.at → P (done (at_end t s s.place)))
       → P (read_command L w t s)
   unfolding read_command step_with
-  readCommand-cases P refuse pass end =
+  read_command_cases P refuse pass end =
       go (ltb s.at (length t)) (nltb→le s.at (length t))
     where
       b : ℕ
@@ -249,8 +249,8 @@ module _ (L : Limits) (w : Wanted) (t : List ℕ) (s : Seen) where
       stepped : P (step_with t s (command_of b) (refusal L w t s (command_of b)))
       stepped =
           command_of_cases b (λ (c : Command). P (step_with t s c (refusal L w t s c)))
-          (λ c e. refusal-cases c (λ (r : Option Refusal). P (step_with t s c r)) e refuse (pass c))
-          (subst (λ (r : Option Refusal). P (step_with t s unknown r)) (sym (refusal-3 L w t s unknown (T_true (wrong3 w s unknown) (unknown_misplaced w s)))) (refuse (record { number = 3; place = s.at })))
+          (λ c e. refusal_cases c (λ (r : Option Refusal). P (step_with t s c r)) e refuse (pass c))
+          (subst (λ (r : Option Refusal). P (step_with t s unknown r)) (sym (refusal_3 L w t s unknown (T_true (wrong3 w s unknown) (unknown_misplaced w s)))) (refuse (record { number = 3; place = s.at })))
 
       go : (a : Bool) → (T (not a) → length t ≤ s.at) → P (elim a [ true ↦ step_with t s (command_of b) (refusal L w t s (command_of b)) | false ↦ done (at_end t s s.place) ])
       go true past = stepped

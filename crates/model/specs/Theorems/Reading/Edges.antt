@@ -1,5 +1,5 @@
 -- An edge means the plain thing: a := effect on v of some move has a term on u in its sum, and the term's weight is not 0. With
--- `Circles.no-circle` this is all that refusal 7 looks at. Assumes nothing.
+-- `Circles.no_circle_lem` this is all that refusal 7 looks at. Assumes nothing.
 use Rattle.std.specs.Prelude.{ℕ, ◌<◌, ◌≡◌, refl, ◌↔◌, Bool, ◌&&◌, eqb, nat_abs}
 use Rattle.std.proofs.Common.{eq-eqb}
 use Rattle.std.proofs.Math.Dec.{T, eqb→eq}
@@ -7,7 +7,7 @@ use Rattle.model.specs.Lists.{In, any}
 use Rattle.model.specs.Task.{Term, kept, Kind, assign, increase, decrease, Effect, Item, need, add, delete, condition, effect, Block, Task}
 use Rattle.model.specs.Circle.{is_assign, item_edge, edge}
 use Rattle.model.specs.Theorems.Laws.Booleans.{true_t, and_left, and_right, and_both}
-use Rattle.model.specs.Theorems.Laws.Listed.{any-in, any_who}
+use Rattle.model.specs.Theorems.Laws.Listed.{any_in, any_who}
 use Rattle.model.specs.Theorems.Reading.Kept.{kept_in, in_kept}
 
 -- "Draw an edge from u to v if u is in the sum of a := effect on v"; of weight 0, "It makes no := edge"
@@ -30,21 +30,21 @@ is_assign_lem increase t = absurd t
 is_assign_lem decrease t = absurd t
 
 module _ (k : Task) (u v : ℕ) where
-  abbrev on-v : Effect → Bool
-  on-v e = is_assign e.kind && eqb e.var v
+  abbrev on_v : Effect → Bool
+  on_v e = is_assign e.kind && eqb e.var v
 
-  abbrev on-u : Term → Bool
-  on-u w = eqb w.var u
+  abbrev on_u : Term → Bool
+  on_u w = eqb w.var u
 
-  item-drawn : (m : Block) → In m k.moves → (i : Item) → In i m → T (item_edge u v i) → Drawn k u v
+  item_drawn : (m : Block) → In m k.moves → (i : Item) → In i m → T (item_edge u v i) → Drawn k u v
   unfolding item_edge
-  item-drawn m h (need p) i t = absurd t
-  item-drawn m h (add p) i t = absurd t
-  item-drawn m h (delete p) i t = absurd t
-  item-drawn m h (condition c) i t = absurd t
-  item-drawn m h (effect e) i t =
-      let both : T (on-v e) = and_left (on-v e) (any on-u (kept e.terms)) t in
-      any_who on-u (kept e.terms) (and_right (on-v e) (any on-u (kept e.terms)) t)
+  item_drawn m h (need p) i t = absurd t
+  item_drawn m h (add p) i t = absurd t
+  item_drawn m h (delete p) i t = absurd t
+  item_drawn m h (condition c) i t = absurd t
+  item_drawn m h (effect e) i t =
+      let both : T (on_v e) = and_left (on_v e) (any on_u (kept e.terms)) t in
+      any_who on_u (kept e.terms) (and_right (on_v e) (any on_u (kept e.terms)) t)
       (λ w j s.
       let stands = kept_in w e.terms j in
       record {
@@ -60,27 +60,27 @@ module _ (k : Task) (u v : ℕ) where
         weighs = stands.1;
       })
 
-  edge-drawn : T (edge k u v) → Drawn k u v
+  edge_drawn : T (edge k u v) → Drawn k u v
   unfolding edge
-  edge-drawn t =
+  edge_drawn t =
       any_who (λ m. any (item_edge u v) m) k.moves t
-      (λ m h s. any_who (item_edge u v) m s (item-drawn m h))
+      (λ m h s. any_who (item_edge u v) m s (item_drawn m h))
 
-  drawn-edge : Drawn k u v → T (edge k u v)
+  drawn_edge : Drawn k u v → T (edge k u v)
   unfolding edge item_edge is_assign
-  drawn-edge r =
+  drawn_edge r =
       let e : Effect = r.assignment in
-      let reads : T (any on-u (kept e.terms)) =
-      any-in on-u r.term (kept e.terms) (in_kept r.term e.terms r.in_sum r.weighs)
+      let reads : T (any on_u (kept e.terms)) =
+      any_in on_u r.term (kept e.terms) (in_kept r.term e.terms r.in_sum r.weighs)
       (true_t (eq-eqb r.term.var u r.source))
       in
       let assigns : T (is_assign e.kind) = rw r.kind tt in
-      let on : T (on-v e) =
+      let on : T (on_v e) =
       and_both (is_assign e.kind) (eqb e.var v) assigns (true_t (eq-eqb e.var v r.target))
       in
-      any-in (λ m. any (item_edge u v) m) r.move k.moves r.in_task
-      (any-in (item_edge u v) (effect e) r.move r.in_move (and_both (on-v e) (any on-u (kept e.terms)) on reads))
+      any_in (λ m. any (item_edge u v) m) r.move k.moves r.in_task
+      (any_in (item_edge u v) (effect e) r.move r.in_move (and_both (on_v e) (any on_u (kept e.terms)) on reads))
 
   -- the edges that the check for a circle follows are those of terms whose weight is not 0, and no other
-  pub edge-means : T (edge k u v) ↔ Drawn k u v
-  edge-means = (edge-drawn, drawn-edge)
+  pub edge_means : T (edge k u v) ↔ Drawn k u v
+  edge_means = (edge_drawn, drawn_edge)

@@ -11,7 +11,7 @@ use Rattle.model.specs.Seen.{Head, Seen, closed, byte_after, item_at, with_head,
 use Rattle.model.specs.Reading.{Wanted}
 use Rattle.model.specs.Theorems.Reading.Appending.{moves_bytes_snoc}
 use Rattle.model.specs.Theorems.Reading.Commands.{Passes}
-use Rattle.model.specs.Theorems.Reading.Checks.{InBlock, Between, condition_at, effect_at, need-read, add_read, delete-read, condition-read, effect-read, openMove-read, openGoal-read, endTable-read}
+use Rattle.model.specs.Theorems.Reading.Checks.{InBlock, Between, condition_at, effect_at, need_read, add_read, delete_read, condition_read, effect_read, open_move_read, open_goal_read, end_table_read}
 use Rattle.model.specs.Theorems.Reading.Soundness.{Sound, Stage, open_move_between}
 use Rattle.model.specs.Theorems.Printing.SeenBytes.{head_bytes, open_bytes, seen_bytes}
 use Rattle.model.specs.Theorems.Printing.Printed.{Printed}
@@ -104,19 +104,19 @@ module _ {L : Limits} {w : Wanted} {t : List ℕ} {s : Seen} where
   pub marked_step : (c : Command) → Sound L w s → Passes L w t s c → Printed t s → Marked s.place s.moves s.items s.marks → Marked (advance t s c).place (advance t s c).moves (advance t s c).items (advance t s c).marks
   unfolding advance with_head with_mark with_term with_item item_at seen_bytes
   marked_step (head f) k h p m = refl
-  marked_step open_move k h p m = opens_at open_move k h p (openMove-read h).0 (open_move_between k h) m
-  marked_step open_goal k h p m = opens_at open_goal k h p (openGoal-read h).0 (openGoal-read h).2 m
+  marked_step open_move k h p m = opens_at open_move k h p (open_move_read h).0 (open_move_between k h) m
+  marked_step open_goal k h p m = opens_at open_goal k h p (open_goal_read h).0 (open_goal_read h).2 m
   marked_step end_table k h p m =
-      let in_goal_lem = (endTable-read h).1 in
+      let in_goal_lem = (end_table_read h).1 in
       one_more s.moves s.items s.marks s.at
       (subst (λ (q : Place). Marked q s.moves s.items s.marks) in_goal_lem m)
-      (stands_at end_table h p (endTable-read h).0
+      (stands_at end_table h p (end_table_read h).0
       ∙ ap (λ (q : Place). length (seen_bytes q s.header s.moves s.items [])) in_goal_lem
       ∙ open_length open_goal s.header s.moves s.items)
-  marked_step need_prop k h p m = marked_item s.place s.moves s.items s.marks (need (byte_after t s 1)) (need-read h).in_block m
+  marked_step need_prop k h p m = marked_item s.place s.moves s.items s.marks (need (byte_after t s 1)) (need_read h).in_block m
   marked_step add_prop k h p m = marked_item s.place s.moves s.items s.marks (add (byte_after t s 1)) (add_read h).in_block m
-  marked_step delete_prop k h p m = marked_item s.place s.moves s.items s.marks (delete (byte_after t s 1)) (delete-read h).in_block m
+  marked_step delete_prop k h p m = marked_item s.place s.moves s.items s.marks (delete (byte_after t s 1)) (delete_read h).in_block m
   marked_step term k h p m = m
-  marked_step close_condition k h p m = marked_item s.place s.moves s.items s.marks (condition (condition_at t s)) (condition-read k.terms h).in_block m
-  marked_step close_effect k h p m = marked_item s.place s.moves s.items s.marks (effect (effect_at t s)) (effect-read k.terms h).in_block m
+  marked_step close_condition k h p m = marked_item s.place s.moves s.items s.marks (condition (condition_at t s)) (condition_read k.terms h).in_block m
+  marked_step close_effect k h p m = marked_item s.place s.moves s.items s.marks (effect (effect_at t s)) (effect_read k.terms h).in_block m
   marked_step unknown k h p m = m

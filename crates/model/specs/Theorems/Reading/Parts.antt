@@ -40,15 +40,15 @@ unfolding task_bytes
 around_goal f k = append_assoc (front_bytes f k ++ moves_bytes k.moves) (code_of open_goal ∷ items_bytes k.goal) (code_of end_table ∷ [])
 
 module _ {L : Limits} {w : Wanted} {t : List ℕ} {k : Table} (a : Accepted L w t k) where
-  mark-at : (b : ℕ) → b ≤ suc (length k.task.moves) → get_or k.marks b 0 ≡ 4 + length (moves_bytes (take b (k.task.moves ++ (k.task.goal ∷ []))))
-  mark-at b h =
+  mark_at : (b : ℕ) → b ≤ suc (length k.task.moves) → get_or k.marks b 0 ≡ 4 + length (moves_bytes (take b (k.task.moves ++ (k.task.goal ∷ []))))
+  mark_at b h =
       ap (λ (l : List ℕ). get_or l b 0) a.marks
       ∙ starts_at 4 (k.task.moves ++ (k.task.goal ∷ [])) b (omega (arith, length-append k.task.moves (k.task.goal ∷ [])))
 
   -- Mark b is the offset of block b's command: the head's four bytes, then the blocks before it.
-  pub block-mark : (b : ℕ) → b ≤ length k.task.moves → get_or k.marks b 0 ≡ 4 + length (moves_bytes (take b k.task.moves))
-  block-mark b h =
-      mark-at b (omega arith)
+  pub block_mark : (b : ℕ) → b ≤ length k.task.moves → get_or k.marks b 0 ≡ 4 + length (moves_bytes (take b k.task.moves))
+  block_mark b h =
+      mark_at b (omega arith)
       ∙ ap (λ (ms : List Block). 4 + length (moves_bytes ms)) (take-append-le b k.task.moves (k.task.goal ∷ []) h)
 
   -- The last mark is that of 45.
@@ -57,11 +57,11 @@ module _ {L : Limits} {w : Wanted} {t : List ℕ} {k : Table} (a : Accepted L w 
       let ms = k.task.moves in
       let b = k.task.goal in
       let e : take (suc (length ms)) (ms ++ (b ∷ [])) ≡ ms ++ (b ∷ []) = take_all (suc (length ms)) (ms ++ (b ∷ [])) (omega (arith, length-append ms (b ∷ []))) in
-      omega (arith, mark-at (suc (length ms)) (omega arith), ap (λ (l : List Block). length (moves_bytes l)) e, ap length (moves_bytes_snoc ms b), length-append (moves_bytes ms) (code_of open_move ∷ items_bytes b))
+      omega (arith, mark_at (suc (length ms)) (omega arith), ap (λ (l : List Block). length (moves_bytes l)) e, ap length (moves_bytes_snoc ms b), length-append (moves_bytes ms) (code_of open_move ∷ items_bytes b))
 
   -- The part of block b, a move: 41 and the move's items.
-  pub move-part : AllBytes t → (b : ℕ) → b < length k.task.moves → slice (get_or k.marks b 0) (get_or k.marks (suc b) 0) t ≡ code_of open_move ∷ items_bytes (get_or k.task.moves b [])
-  move-part all b h =
+  pub move_part : AllBytes t → (b : ℕ) → b < length k.task.moves → slice (get_or k.marks b 0) (get_or k.marks (suc b) 0) t ≡ code_of open_move ∷ items_bytes (get_or k.task.moves b [])
+  move_part all b h =
       let ms = k.task.moves in
       let f = k.header.form in
       let before = moves_bytes (take b ms) in
@@ -69,18 +69,18 @@ module _ {L : Limits} {w : Wanted} {t : List ℕ} {k : Table} (a : Accepted L w 
       let after = moves_bytes (drop (suc b) ms) ++ ((code_of open_goal ∷ items_bytes k.task.goal) ++ (code_of end_table ∷ [])) in
       ap (slice (get_or k.marks b 0) (get_or k.marks (suc b) 0)) (a.prints.same all ∙ around_move f k.task b h)
       ∙ slice_middle (front_bytes f k.task ++ before) part after (get_or k.marks b 0) (get_or k.marks (suc b) 0)
-      (omega (arith, block-mark b (omega arith)))
-      (omega (arith, block-mark (suc b) h, ap (λ (l : List Block). length (moves_bytes l)) (take-suc ms b [] h), ap length (moves_bytes_snoc (take b ms) (get_or ms b [])), length-append before part))
+      (omega (arith, block_mark b (omega arith)))
+      (omega (arith, block_mark (suc b) h, ap (λ (l : List Block). length (moves_bytes l)) (take-suc ms b [] h), ap length (moves_bytes_snoc (take b ms) (get_or ms b [])), length-append before part))
 
   -- The part of block A, the goal: 47 and the goal's items.
-  pub goal-part : AllBytes t → slice (get_or k.marks (length k.task.moves) 0) (get_or k.marks (suc (length k.task.moves)) 0) t ≡ code_of open_goal ∷ items_bytes k.task.goal
-  goal-part all =
+  pub goal_part : AllBytes t → slice (get_or k.marks (length k.task.moves) 0) (get_or k.marks (suc (length k.task.moves)) 0) t ≡ code_of open_goal ∷ items_bytes k.task.goal
+  goal_part all =
       let ms = k.task.moves in
       let f = k.header.form in
       let part = code_of open_goal ∷ items_bytes k.task.goal in
       ap (slice (get_or k.marks (length ms) 0) (get_or k.marks (suc (length ms)) 0)) (a.prints.same all ∙ around_goal f k.task)
       ∙ slice_middle (front_bytes f k.task ++ moves_bytes ms) part (code_of end_table ∷ []) (get_or k.marks (length ms) 0) (get_or k.marks (suc (length ms)) 0)
-      (omega (arith, block-mark (length ms) (omega arith), ap (λ (l : List Block). length (moves_bytes l)) (take-length ms)))
+      (omega (arith, block_mark (length ms) (omega arith), ap (λ (l : List Block). length (moves_bytes l)) (take-length ms)))
       (omega (arith, end_mark))
 
 -- ---- where the part lies

@@ -12,7 +12,7 @@ use Rattle.model.specs.Seen.{Seen, nothing_seen, advance}
 use Rattle.model.specs.Reading.{Table, Verdict, accepted, refused, Wanted, wrong3, wrong2, wrong6, Operand, operands, first_wrong, wrong5, refused_at, refused_operand, first_refusal, refusal, table_of, verdict_of, at_end, done, step_with, read_command, continue, read_from, length_limit, reading, wrong16}
 use Rattle.model.specs.StateTable.{value_offset, state_value, value_in_range, refused_value, refused_byte, state_refusal}
 use Rattle.model.specs.Theorems.Reading.WellFormed.{All}
-use Rattle.model.specs.Theorems.Laws.Searching.{firstFrom-cases}
+use Rattle.model.specs.Theorems.Laws.Searching.{first_from_cases}
 
 pub record SmallTo (last limit : ℕ) (r : Refusal) : Type 0 where
   pub positive : 1 ≤ r.number
@@ -178,21 +178,21 @@ pub state_refused : (L : Limits) (props vars : ℕ) (bs : List ℕ) → IfSome (
 unfolding state_refusal refused_byte refused_value value_offset
 state_refused L props vars bs = go (eqb (length bs) (value_offset props vars))
   where
-    wrongByte : ℕ → Bool
-    wrongByte p = not (leb (get_or bs p 0) 1)
+    wrong_byte : ℕ → Bool
+    wrong_byte p = not (leb (get_or bs p 0) 1)
 
     wrong_value : ℕ → Bool
     wrong_value v = not (value_in_range L (state_value props bs v))
 
     value : IfSome (Full (props + 4 * vars)) (refused_value props (first_from wrong_value 0 vars))
     value =
-        firstFrom-cases wrong_value (λ (o : Option ℕ). IfSome (Full (props + 4 * vars)) (refused_value props o)) 0 vars
+        first_from_cases wrong_value (λ (o : Option ℕ). IfSome (Full (props + 4 * vars)) (refused_value props o)) 0 vars
         (λ v low high bad before. record { positive = lit≤ tt; number = lit≤ tt; place = omega arith })
         (λ never. tt)
 
-    byte : IfSome (Full (props + 4 * vars)) (refused_byte (first_from wrongByte 0 props) (refused_value props (first_from wrong_value 0 vars)))
+    byte : IfSome (Full (props + 4 * vars)) (refused_byte (first_from wrong_byte 0 props) (refused_value props (first_from wrong_value 0 vars)))
     byte =
-        firstFrom-cases wrongByte
+        first_from_cases wrong_byte
         (λ (o : Option ℕ). IfSome (Full (props + 4 * vars)) (refused_byte o (refused_value props (first_from wrong_value 0 vars)))) 0 props
         (λ p low high bad before. record { positive = lit≤ tt; number = lit≤ tt; place = omega arith })
         (λ never. value)
@@ -201,7 +201,7 @@ state_refused L props vars bs = go (eqb (length bs) (value_offset props vars))
         (b : Bool)
         → IfSome (Full (props + 4 * vars))
         (elim b [
-          | true ↦ refused_byte (first_from wrongByte 0 props) (refused_value props (first_from wrong_value 0 vars))
+          | true ↦ refused_byte (first_from wrong_byte 0 props) (refused_value props (first_from wrong_value 0 vars))
           | false ↦ some (record { number = 8; place = 0 })
         ])
     go true = byte

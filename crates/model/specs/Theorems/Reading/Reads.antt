@@ -13,7 +13,7 @@ use Rattle.model.specs.Seen.{Seen, nothing_seen, item_at, with_head, with_mark, 
 use Rattle.model.specs.Reading.{Wanted, Table, table_of, Verdict, accepted, refused, verdict_of, at_end, Step, more, done, read_command, continue, read_from, length_limit, reading}
 use Rattle.model.specs.Circle.{circular}
 use Rattle.model.specs.Theorems.Laws.Booleans.{T_true, not-false}
-use Rattle.model.specs.Theorems.Reading.Commands.{Passes, readCommand-cases, unknown_refused, width_positive}
+use Rattle.model.specs.Theorems.Reading.Commands.{Passes, read_command_cases, unknown_refused, width_positive}
 
 -- ---- every command moves on by its width
 
@@ -52,81 +52,81 @@ module _ (L : Limits) (w : Wanted) (t : List ℕ) where
   -- ---- turns
 
   -- any two numbers of turns that are above the number of bytes left give the same verdict
-  pub turns-enough : (n m : ℕ) (s : Seen) → length t - s.at < n → length t - s.at < m → read_from L w t n s ≡ read_from L w t m s
+  pub turns_enough : (n m : ℕ) (s : Seen) → length t - s.at < n → length t - s.at < m → read_from L w t n s ≡ read_from L w t m s
   unfolding read_from continue
-  turns-enough zero m s h k = absurd (omega arith)
-  turns-enough (suc n) zero s h k = absurd (omega arith)
-  turns-enough (suc n) (suc m) s h k =
-      readCommand-cases L w t s
+  turns_enough zero m s h k = absurd (omega arith)
+  turns_enough (suc n) zero s h k = absurd (omega arith)
+  turns_enough (suc n) (suc m) s h k =
+      read_command_cases L w t s
       (λ (r : Step). continue (λ d. read_from L w t n d) r ≡ continue (λ d. read_from L w t m d) r)
       (λ r. refl)
-      (λ c p. turns-enough n m (advance t s c) (omega (arith, fewer_left c p)) (omega (arith, fewer_left c p)))
+      (λ c p. turns_enough n m (advance t s c) (omega (arith, fewer_left c p)) (omega (arith, fewer_left c p)))
       (λ e. refl)
 
   -- the verdict from what has been seen on
-  unfoldable pub verdictFrom : Seen → Verdict
-  verdictFrom s = read_from L w t (suc (length t - s.at)) s
+  unfoldable pub verdict_from : Seen → Verdict
+  verdict_from s = read_from L w t (suc (length t - s.at)) s
 
   -- One command, then the rest: the turns never run out.
-  pub verdict-unrolls : (s : Seen) → verdictFrom s ≡ continue verdictFrom (read_command L w t s)
-  unfolding verdictFrom read_from continue
-  verdict-unrolls s =
-      readCommand-cases L w t s
+  pub verdict_unrolls : (s : Seen) → verdict_from s ≡ continue verdict_from (read_command L w t s)
+  unfolding verdict_from read_from continue
+  verdict_unrolls s =
+      read_command_cases L w t s
       (λ (r : Step). continue (λ d. read_from L w t (length t - s.at) d) r ≡ continue (λ d. read_from L w t (suc (length t - d.at)) d) r)
       (λ r. refl)
-      (λ c p. turns-enough (length t - s.at) (suc (length t - (advance t s c).at)) (advance t s c) (fewer_left c p) (omega arith))
+      (λ c p. turns_enough (length t - s.at) (suc (length t - (advance t s c).at)) (advance t s c) (fewer_left c p) (omega arith))
       (λ e. refl)
 
-  pub verdict-more : (s : Seen) {d : Seen} → read_command L w t s ≡ more d → verdictFrom s ≡ verdictFrom d
+  pub verdict_more : (s : Seen) {d : Seen} → read_command L w t s ≡ more d → verdict_from s ≡ verdict_from d
   unfolding continue
-  verdict-more s e = verdict-unrolls s ∙ ap (continue verdictFrom) e
+  verdict_more s e = verdict_unrolls s ∙ ap (continue verdict_from) e
 
-  pub verdict-done : (s : Seen) {v : Verdict} → read_command L w t s ≡ done v → verdictFrom s ≡ v
+  pub verdict_done : (s : Seen) {v : Verdict} → read_command L w t s ≡ done v → verdict_from s ≡ v
   unfolding continue
-  verdict-done s e = verdict-unrolls s ∙ ap (continue verdictFrom) e
+  verdict_done s e = verdict_unrolls s ∙ ap (continue verdict_from) e
 
   -- "table, whole | 1 | too long | 0", then command by command
-  pub reading-long : length_limit L w t < length t → reading L w t ≡ refused (record { number = 1; place = 0 })
+  pub reading_long : length_limit L w t < length t → reading L w t ≡ refused (record { number = 1; place = 0 })
   unfolding reading
-  reading-long h =
+  reading_long h =
       rw (T_true (ltb (length_limit L w t) (length t)) (lt→ltb (length_limit L w t) (length t) h), reading) refl
 
-  pub reading-short : length t ≤ length_limit L w t → reading L w t ≡ verdictFrom nothing_seen
-  unfolding reading verdictFrom nothing_seen
-  reading-short h =
+  pub reading_short : length t ≤ length_limit L w t → reading L w t ≡ verdict_from nothing_seen
+  unfolding reading verdict_from nothing_seen
+  reading_short h =
       rw (not-false (ltb (length_limit L w t) (length t)) (λ b. omega (arith, ltb→lt (length_limit L w t) (length t) b)), reading)
-      (turns-enough (suc (length t)) (suc (length t - 0)) nothing_seen (omega arith) (omega arith))
+      (turns_enough (suc (length t)) (suc (length t - 0)) nothing_seen (omega arith) (omega arith))
 
   -- ---- induction over the commands of an accepted table
 
-  end-cases : (R : Table → Type 0) (s : Seen) (p : Place) → (p ≡ finished → circular (table_of s).task ≡ false → R (table_of s)) → IfAccepted R (at_end t s p)
+  end_cases : (R : Table → Type 0) (s : Seen) (p : Place) → (p ≡ finished → circular (table_of s).task ≡ false → R (table_of s)) → IfAccepted R (at_end t s p)
   unfolding at_end
-  end-cases R s start right = tt
-  end-cases R s preamble right = tt
-  end-cases R s in_move right = tt
-  end-cases R s in_goal right = tt
-  end-cases R s finished right = verdict_cases R (table_of s) (right refl)
+  end_cases R s start right = tt
+  end_cases R s preamble right = tt
+  end_cases R s in_move right = tt
+  end_cases R s in_goal right = tt
+  end_cases R s finished right = verdict_cases R (table_of s) (right refl)
 
   module _ (P : Seen → Type 0) (R : Table → Type 0)
       (step : (s : Seen) (c : Command) → P s → Passes L w t s c → P (advance t s c))
       (end : (s : Seen) → P s → length t ≤ s.at → s.place ≡ finished → circular (table_of s).task ≡ false → length t ≤ length_limit L w t → R (table_of s))
     where
-      readFrom-induction : (n : ℕ) (s : Seen) → length t ≤ length_limit L w t → P s → IfAccepted R (read_from L w t n s)
+      read_from_induction : (n : ℕ) (s : Seen) → length t ≤ length_limit L w t → P s → IfAccepted R (read_from L w t n s)
       unfolding read_from continue
-      readFrom-induction zero s short p = tt
-      readFrom-induction (suc n) s short p =
-          readCommand-cases L w t s
+      read_from_induction zero s short p = tt
+      read_from_induction (suc n) s short p =
+          read_command_cases L w t s
           (λ (r : Step). IfAccepted R (continue (λ d. read_from L w t n d) r))
           (λ r. tt)
-          (λ c h. readFrom-induction n (advance t s c) short (step s c p h))
-          (λ e. end-cases R s s.place (λ f no-circle. end s p e f no-circle short))
+          (λ c h. read_from_induction n (advance t s c) short (step s c p h))
+          (λ e. end_cases R s s.place (λ f no_circle_lem. end s p e f no_circle_lem short))
 
       -- What holds of nothing seen and is kept by every command that passes its checks holds where an accepted table ends.
-      pub reading-induction : {k : Table} → P nothing_seen → reading L w t ≡ accepted k → R k
+      pub reading_induction : {k : Table} → P nothing_seen → reading L w t ≡ accepted k → R k
       unfolding reading
-      reading-induction p e =
+      reading_induction p e =
           subst (IfAccepted R) e (go (ltb (length_limit L w t) (length t)) (nltb→le (length_limit L w t) (length t)))
         where
           go : (b : Bool) → (T (not b) → length t ≤ length_limit L w t) → IfAccepted R (elim b [ true ↦ refused (record { number = 1; place = 0 }) | false ↦ read_from L w t (suc (length t)) nothing_seen ])
           go true f = tt
-          go false f = readFrom-induction (suc (length t)) nothing_seen (f tt) p
+          go false f = read_from_induction (suc (length t)) nothing_seen (f tt) p

@@ -12,7 +12,7 @@ use Rattle.model.specs.Reading.{Wanted, opened}
 use Rattle.model.specs.Theorems.Reading.WellFormed.{All, TermOk, SumOk, BlockOk, GoalItem, ItemOk}
 use Rattle.model.specs.Theorems.Reading.Appending.{All-snoc, Rising-snoc, Once-snoc}
 use Rattle.model.specs.Theorems.Reading.Commands.{Passes}
-use Rattle.model.specs.Theorems.Reading.Checks.{HeadOk, InBlock, Between, ItemRead, in_place_lem, head_read, need-read, add_read, delete-read, condition-read, effect-read, term_read, openMove-read, openGoal-read, endTable-read}
+use Rattle.model.specs.Theorems.Reading.Checks.{HeadOk, InBlock, Between, ItemRead, in_place_lem, head_read, need_read, add_read, delete_read, condition_read, effect_read, term_read, open_move_read, open_goal_read, end_table_read}
 
 -- what the place says of the head, of the number of moves that are closed, and of the open block
 abbrev pub Stage : Limits → Wanted → Place → Head → List Block → Block → Type 0
@@ -43,7 +43,7 @@ sound_start L w = record { stage = tt; moves = tt; items = no_items L _ 0 0; ter
 -- 41 after the goal is refused, since all A moves stand before it
 pub open_move_between : {L : Limits} {w : Wanted} {t : List ℕ} {s : Seen} → Sound L w s → Passes L w t s open_move → Between s.place
 unfolding in_place opened
-open_move_between {L} {w} {s} k h = go s.place (in_place_lem h) k.stage (openMove-read h).1
+open_move_between {L} {w} {s} k h = go s.place (in_place_lem h) k.stage (open_move_read h).1
   where
     go : (p : Place) → T (in_place p open_move) → Stage L w p s.header s.moves s.items → opened p (length s.moves) < s.header.moves → Between p
     go start placed stage few = placed
@@ -86,9 +86,9 @@ stays L w in_goal h ms b i here stage = (stage.0, stage.1, All-snoc GoalItem b i
 stays L w finished h ms b i here stage = absurd here
 
 module _ {L : Limits} {w : Wanted} (s : Seen) where
-  sound-item : (n : ℕ) {i : Item} → Sound L w s → ItemRead L s i → Sound L w (with_item s n (some i))
+  sound_item : (n : ℕ) {i : Item} → Sound L w s → ItemRead L s i → Sound L w (with_item s n (some i))
   unfolding with_item
-  sound-item n {i} k r =
+  sound_item n {i} k r =
       record {
         stage = stays L w s.place s.header s.moves s.items i r.in_block k.stage;
         moves = k.moves;
@@ -101,14 +101,14 @@ module _ {L : Limits} {w : Wanted} (s : Seen) where
         terms = no_terms L s.header.form s.header.vars;
       }
 
-  sound-mark : (p : Place) (ms : List Block) (b : Block) → Stage L w p s.header ms b → All (BlockOk L s.header.form s.header.props s.header.vars) ms → BlockOk L s.header.form s.header.props s.header.vars b → Sound L w (with_mark s p ms b)
+  sound_mark : (p : Place) (ms : List Block) (b : Block) → Stage L w p s.header ms b → All (BlockOk L s.header.form s.header.props s.header.vars) ms → BlockOk L s.header.form s.header.props s.header.vars b → Sound L w (with_mark s p ms b)
   unfolding with_mark
-  sound-mark p ms b stage blocks block =
+  sound_mark p ms b stage blocks block =
       record { stage = stage; moves = blocks; items = block; terms = no_terms L s.header.form s.header.vars }
 
-  sound-term : {u : Term} → Sound L w s → TermOk L s.header.form s.header.vars u → All (λ (v : Term). v.var < u.var) s.terms → length s.terms < L.terms → Sound L w (with_term s u)
+  sound_term : {u : Term} → Sound L w s → TermOk L s.header.form s.header.vars u → All (λ (v : Term). v.var < u.var) s.terms → length s.terms < L.terms → Sound L w (with_term s u)
   unfolding with_term
-  sound-term {u} k ok below few =
+  sound_term {u} k ok below few =
       record {
         stage = k.stage;
         moves = k.moves;
@@ -122,35 +122,35 @@ module _ {L : Limits} {w : Wanted} (s : Seen) where
       }
 
   -- the next block opens: the block before it is one more closed move
-  sound-opens : (p : Place) → Sound L w s → Stage L w p s.header (closed s.place s.moves s.items) [] → Sound L w (with_mark s p (closed s.place s.moves s.items) [])
-  sound-opens p k stage =
-      sound-mark p (closed s.place s.moves s.items) [] stage
+  sound_opens : (p : Place) → Sound L w s → Stage L w p s.header (closed s.place s.moves s.items) [] → Sound L w (with_mark s p (closed s.place s.moves s.items) [])
+  sound_opens p k stage =
+      sound_mark p (closed s.place s.moves s.items) [] stage
       (closed_ok (BlockOk L s.header.form s.header.props s.header.vars) s.place s.moves s.items k.moves k.items)
       (no_items L s.header.form s.header.props s.header.vars)
 
 module _ {L : Limits} {w : Wanted} {t : List ℕ} {s : Seen} where
   -- every command that passes its checks keeps what has been seen well formed
-  pub sound-step : (c : Command) → Sound L w s → Passes L w t s c → Sound L w (advance t s c)
+  pub sound_step : (c : Command) → Sound L w s → Passes L w t s c → Sound L w (advance t s c)
   unfolding advance with_head with_mark with_term item_at term_at
-  sound-step (head f) k h =
+  sound_step (head f) k h =
       record {
         stage = (head_read f h, refl);
         moves = tt;
         items = no_items L f (byte_after t s 1) (byte_after t s 2);
         terms = no_terms L f (byte_after t s 2);
       }
-  sound-step open_move k h =
-      sound-opens s in_move k (opens_move L w s.place s.header s.moves s.items (open_move_between k h) k.stage (openMove-read h).1)
-  sound-step open_goal k h =
-      sound-opens s in_goal k (opens_goal L w s.place s.header s.moves s.items (openGoal-read h).2 k.stage (openGoal-read h).1)
-  sound-step end_table k h =
-      sound-mark s finished s.moves s.items
-      (subst (λ (p : Place). Stage L w p s.header s.moves s.items) (endTable-read h).1 k.stage)
+  sound_step open_move k h =
+      sound_opens s in_move k (opens_move L w s.place s.header s.moves s.items (open_move_between k h) k.stage (open_move_read h).1)
+  sound_step open_goal k h =
+      sound_opens s in_goal k (opens_goal L w s.place s.header s.moves s.items (open_goal_read h).2 k.stage (open_goal_read h).1)
+  sound_step end_table k h =
+      sound_mark s finished s.moves s.items
+      (subst (λ (p : Place). Stage L w p s.header s.moves s.items) (end_table_read h).1 k.stage)
       k.moves k.items
-  sound-step need_prop k h = sound-item s (width need_prop) k (need-read h)
-  sound-step add_prop k h = sound-item s (width add_prop) k (add_read h)
-  sound-step delete_prop k h = sound-item s (width delete_prop) k (delete-read h)
-  sound-step term k h = let r = term_read h in sound-term s k r.0 r.1 r.2
-  sound-step close_condition k h = sound-item s (width close_condition) k (condition-read k.terms h)
-  sound-step close_effect k h = sound-item s (width close_effect) k (effect-read k.terms h)
-  sound-step unknown k h = k
+  sound_step need_prop k h = sound_item s (width need_prop) k (need_read h)
+  sound_step add_prop k h = sound_item s (width add_prop) k (add_read h)
+  sound_step delete_prop k h = sound_item s (width delete_prop) k (delete_read h)
+  sound_step term k h = let r = term_read h in sound_term s k r.0 r.1 r.2
+  sound_step close_condition k h = sound_item s (width close_condition) k (condition_read k.terms h)
+  sound_step close_effect k h = sound_item s (width close_effect) k (effect_read k.terms h)
+  sound_step unknown k h = k

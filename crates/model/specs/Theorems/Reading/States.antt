@@ -18,7 +18,7 @@ use Rattle.model.specs.Lists.{first_from, tabulate}
 use Rattle.model.specs.Move.{State}
 use Rattle.model.specs.StateTable.{value_offset, state_value, state_of, value_in_range, refused_value, refused_byte, state_refusal, truth_byte, values_bytes, state_bytes}
 use Rattle.model.specs.Theorems.Laws.Booleans.{T-stable}
-use Rattle.model.specs.Theorems.Laws.Searching.{firstFrom-cases, length-tabulate, tabulate_same}
+use Rattle.model.specs.Theorems.Laws.Searching.{first_from_cases, length_tabulate, tabulate_same}
 
 -- the length, the truth bytes and the values of an accepted state
 pub record AcceptedState (L : Limits) (props vars : ℕ) (bs : List ℕ) : Type 0 where
@@ -29,7 +29,7 @@ pub record AcceptedState (L : Limits) (props vars : ℕ) (bs : List ℕ) : Type 
 -- where the search finds none that fails a test, all pass
 none_fails : (f : ℕ → Bool) (n : ℕ) → first_from (λ i. not (f i)) 0 n ≡ none → (i : ℕ) → i < n → T (f i)
 none_fails f n =
-    firstFrom-cases (λ i. not (f i)) (λ (o : Option ℕ). o ≡ none → (i : ℕ) → i < n → T (f i)) 0 n
+    first_from_cases (λ i. not (f i)) (λ (o : Option ℕ). o ≡ none → (i : ℕ) → i < n → T (f i)) 0 n
     (λ j low high out before e. absurd (some-ne-none _ e))
     (λ right e i h. T-stable (f i) (λ out. right i (omega arith) (omega arith) (not_T (f i) out)))
 
@@ -82,9 +82,9 @@ length_state_bytes props vars s =
     omega (
       arith,
       length-append truths (values_bytes values),
-      length-tabulate (λ p. truth_byte (s.has p)) 0 props,
+      length_tabulate (λ p. truth_byte (s.has p)) 0 props,
       length_values_bytes values,
-      length-tabulate s.val 0 vars,
+      length_tabulate s.val 0 vars,
     )
 
 -- Only the truths below props and the values below vars count.
@@ -108,34 +108,34 @@ truth_back (suc zero) h = refl
 truth_back (suc (suc b)) h = absurd (omega arith)
 
 module _ (bs : List ℕ) where
-  truths-back :
+  truths_back :
       (i n : ℕ)
       → i + n ≤ length bs
       → ((p : ℕ) → p < i + n → get_or bs p 0 ≤ 1)
       → tabulate (λ p. truth_byte (eqb (get_or bs p 0) 1)) i n ++ drop (i + n) bs ≡ drop i bs
   unfolding tabulate
-  truths-back i zero h small = let e : i + 0 ≡ i = omega arith in ap (λ (j : ℕ). drop j bs) e
-  truths-back i (suc n) h small =
+  truths_back i zero h small = let e : i + 0 ≡ i = omega arith in ap (λ (j : ℕ). drop j bs) e
+  truths_back i (suc n) h small =
       let rest = tabulate (λ p. truth_byte (eqb (get_or bs p 0) 1)) (suc i) n in
       let next : i + suc n ≡ suc i + n = omega arith in
       ap₂ (λ (b : ℕ) (l : List ℕ). b ∷ l) (truth_back (get_or bs i 0) (small i (omega arith)))
-      (ap (λ (j : ℕ). rest ++ drop j bs) next ∙ truths-back (suc i) n (omega arith) (λ p l. small p (omega arith)))
+      (ap (λ (j : ℕ). rest ++ drop j bs) next ∙ truths_back (suc i) n (omega arith) (λ p l. small p (omega arith)))
       ∙ sym (drop-cons bs i 0 (omega arith))
 
-  values-back :
+  values_back :
       AllBytes bs
       → (props i n : ℕ)
       → length bs ≡ props + 4 * (i + n)
       → values_bytes (tabulate (state_value props bs) i n) ≡ drop (props + 4 * i) bs
   unfolding tabulate values_bytes state_value value_offset
-  values-back all props i zero e = sym (drop_of_length-le bs {i = props + 4 * i} (omega arith))
-  values-back all props i (suc n) e =
+  values_back all props i zero e = sym (drop_of_length-le bs {i = props + 4 * i} (omega arith))
+  values_back all props i (suc n) e =
       let here = drop (props + 4 * i) bs in
       let four : length (take 4 here) ≡ 4 = length-take-le 4 here (omega (arith, length-drop (props + 4 * i) bs)) in
       let next : props + 4 * suc i ≡ (props + 4 * i) + 4 = omega arith in
       let all-four = all_take 4 (all_drop (props + 4 * i) all) in
       ap₂ ◌++◌ (ap (λ (w : ℕ). signed_bytes w (signed (take 4 here))) (sym four) ∙ signed_bytes_signed all-four)
-      (values-back all props (suc i) n (omega arith) ∙ ap (λ (j : ℕ). drop j bs) next ∙ sym (drop-drop 4 (props + 4 * i) bs))
+      (values_back all props (suc i) n (omega arith) ∙ ap (λ (j : ℕ). drop j bs) next ∙ sym (drop-drop 4 (props + 4 * i) bs))
       ∙ take-append-drop 4 here
 
 -- An accepted state is the bytes of its state: the format is canonical.
@@ -149,5 +149,5 @@ state_canonical {L} {props} {vars} {bs} a all =
     let truths = tabulate (λ p. truth_byte (eqb (get_or bs p 0) 1)) 0 props in
     let from : props + 4 * 0 ≡ 0 + props = omega arith in
     ap (λ (l : List ℕ). truths ++ l)
-    (values-back bs all props 0 vars (omega (arith, a.length_is)) ∙ ap (λ (j : ℕ). drop j bs) from)
-    ∙ truths-back bs 0 props (omega (arith, a.length_is)) (λ p h. a.truths p (omega arith))
+    (values_back bs all props 0 vars (omega (arith, a.length_is)) ∙ ap (λ (j : ℕ). drop j bs) from)
+    ∙ truths_back bs 0 props (omega (arith, a.length_is)) (λ p h. a.truths p (omega arith))

@@ -20,12 +20,12 @@ use Rattle.model.specs.Rewrite.{active_moves, rewritten, renumbered, numbered_ba
 use Rattle.model.specs.Theorems.Reading.WellFormed.{All, BlockOk, TaskOk}
 use Rattle.model.specs.Theorems.Laws.Booleans.{T_true}
 use Rattle.model.specs.Theorems.Reading.Active.{AllActive, both_checks}
-use Rattle.model.specs.Theorems.Reading.Accepted.{reading-ok, reading-active, reading-length, reading-limit, reading-canonical}
+use Rattle.model.specs.Theorems.Reading.Accepted.{reading_ok, reading_active, reading_length, reading_limit, reading_canonical}
 use Rattle.model.specs.Theorems.Printing.Passing.{SmallLimits}
 use Rattle.model.specs.Theorems.Printing.Tables.{head_of, printed_table, print_read_only, print_read_both}
 use Rattle.model.specs.Theorems.NormalForm.Print.{length_task}
-use Rattle.model.specs.Theorems.Rewriting.Refusals.{stored-accepts}
-use Rattle.model.specs.Theorems.Rewriting.Solving.{idle_any, dropped-solves, back-solves, real_inert, relaxed_inert}
+use Rattle.model.specs.Theorems.Rewriting.Refusals.{stored_accepts}
+use Rattle.model.specs.Theorems.Rewriting.Solving.{idle_any, dropped_solves, back_solves, real_inert, relaxed_inert}
 
 -- ---- the kept moves
 
@@ -80,24 +80,24 @@ kept_bytes (b ∷ ms) =
 -- ---- edges and circles
 
 module _ (k : Task) where
-  same-edge : (u v : ℕ) → edge (rewritten k) u v ≡ edge k u v
+  same_edge : (u v : ℕ) → edge (rewritten k) u v ≡ edge k u v
   unfolding edge rewritten item_edge
-  same-edge u v = kept_any (λ m. any (item_edge u v) m) (idle_any (item_edge u v) (λ q. refl) (λ c. refl)) k.moves
+  same_edge u v = kept_any (λ m. any (item_edge u v) m) (idle_any (item_edge u v) (λ q. refl) (λ c. refl)) k.moves
 
-  same-walk : (n v : ℕ) → walk_to (rewritten k) n v ≡ walk_to k n v
+  same_walk : (n v : ℕ) → walk_to (rewritten k) n v ≡ walk_to k n v
   unfolding walk_to rewritten
-  same-walk zero v = refl
-  same-walk (suc n) v =
+  same_walk zero v = refl
+  same_walk (suc n) v =
       ap (λ (f : ℕ → Bool). any_below f k.vars)
-      (fun_ext (λ u. ap₂ (λ (e t : Bool). elim e [ true ↦ t | false ↦ false ]) (same-edge u v) (same-walk n u)))
+      (fun_ext (λ u. ap₂ (λ (e t : Bool). elim e [ true ↦ t | false ↦ false ]) (same_edge u v) (same_walk n u)))
 
-  pub same-circle : circular (rewritten k) ≡ circular k
+  pub same_circle : circular (rewritten k) ≡ circular k
   unfolding circular rewritten
-  same-circle = ap (λ (f : ℕ → Bool). any_below f k.vars) (fun_ext (λ v. same-walk k.vars v))
+  same_circle = ap (λ (f : ℕ → Bool). any_below f k.vars) (fun_ext (λ v. same_walk k.vars v))
 
-  pub rewritten-ok : {L : Limits} {f : Form} → TaskOk L f k → TaskOk L f (rewritten k)
+  pub rewritten_ok : {L : Limits} {f : Form} → TaskOk L f k → TaskOk L f (rewritten k)
   unfolding rewritten
-  rewritten-ok {L} {f} ok =
+  rewritten_ok {L} {f} ok =
       record {
         props = ok.props;
         vars = ok.vars;
@@ -105,16 +105,16 @@ module _ (k : Task) where
         blocks = kept_all (BlockOk L f k.props k.vars) k.moves ok.blocks;
         goal = ok.goal;
         goal_items = ok.goal_items;
-        no_circle = same-circle ∙ ok.no_circle;
+        no_circle = same_circle ∙ ok.no_circle;
       }
 
-  pub rewritten-shorter : (f : Form) → length (task_bytes f (rewritten k)) ≤ length (task_bytes f k)
+  pub rewritten_shorter : (f : Form) → length (task_bytes f (rewritten k)) ≤ length (task_bytes f k)
   unfolding rewritten
-  rewritten-shorter f = omega (arith, kept_bytes k.moves, length_task f k, length_task f (rewritten k))
+  rewritten_shorter f = omega (arith, kept_bytes k.moves, length_task f k, length_task f (rewritten k))
 
-  pub rewritten-same : AllActive k.moves → rewritten k ≡ k
+  pub rewritten_same : AllActive k.moves → rewritten k ≡ k
   unfolding rewritten
-  rewritten-same does = ap (λ (ms : List Block). record { props = k.props; vars = k.vars; moves = ms; goal = k.goal }) (kept_same k.moves does)
+  rewritten_same does = ap (λ (ms : List Block). record { props = k.props; vars = k.vars; moves = ms; goal = k.goal }) (kept_same k.moves does)
 
 -- ---- what is written
 
@@ -134,32 +134,32 @@ module _ (L : Limits) (small : SmallLimits L) (t : List ℕ) (bytes : AllBytes t
     abbrev new : Task
     new = rewritten k.task
 
-    new-short : length (task_bytes form new) ≤ length_limit L (only form) (task_bytes form new)
-    new-short =
+    new_short : length (task_bytes form new) ≤ length_limit L (only form) (task_bytes form new)
+    new_short =
         let old : length t ≤ length_limit L (only form) (task_bytes form new) =
         subst (λ (n : ℕ). length t ≤ n)
-        (ap (length_limit L stored) (reading-canonical L stored t e bytes) ∙ stored_limit L form k.task new)
-        (reading-limit L stored t e) in
-        omega (arith, rewritten-shorter k.task form, reading-length L stored t e)
+        (ap (length_limit L stored) (reading_canonical L stored t e bytes) ∙ stored_limit L form k.task new)
+        (reading_limit L stored t e) in
+        omega (arith, rewritten_shorter k.task form, reading_length L stored t e)
 
     does : AllActive new.moves
     unfolding rewritten
     does = kept_active k.task.moves
 
-    pub rewrite-read : reading L both (task_bytes form new) ≡ accepted (printed_table form new)
-    rewrite-read = print_read_both form new small (rewritten-ok k.task (reading-ok L stored t e)) does new-short
+    pub rewrite_read : reading L both (task_bytes form new) ≡ accepted (printed_table form new)
+    rewrite_read = print_read_both form new small (rewritten_ok k.task (reading_ok L stored t e)) does new_short
 
-    pub rewrite-read-only : reading L (only form) (task_bytes form new) ≡ accepted (printed_table form new)
-    rewrite-read-only = print_read_only form new small (rewritten-ok k.task (reading-ok L stored t e)) does new-short
+    pub rewrite_read_only : reading L (only form) (task_bytes form new) ≡ accepted (printed_table form new)
+    rewrite_read_only = print_read_only form new small (rewritten_ok k.task (reading_ok L stored t e)) does new_short
 
   -- A table that read takes is taken by the rewriter, and comes out as it is.
   module _ {k : Table} (e : reading L both t ≡ accepted k) where
-    pub rewrite-same : (size : ℕ) → length t ≤ size → rewrote L t size ≡ writes t
+    pub rewrite_same : (size : ℕ) → length t ≤ size → rewrote L t size ≡ writes t
     unfolding rewrote rewrite_of printed_table head_of fitted
-    rewrite-same size fits =
-        ap (λ (v : Verdict). fitted size (rewrite_of v)) (stored-accepts L t e)
-        ∙ ap (λ (n : Task). fitted size (writes (task_bytes k.header.form n))) (rewritten-same k.task (reading-active L both t e both_checks))
-        ∙ ap (λ (l : List ℕ). fitted size (writes l)) (sym (reading-canonical L both t e bytes))
+    rewrite_same size fits =
+        ap (λ (v : Verdict). fitted size (rewrite_of v)) (stored_accepts L t e)
+        ∙ ap (λ (n : Task). fitted size (writes (task_bytes k.header.form n))) (rewritten_same k.task (reading_active L both t e both_checks))
+        ∙ ap (λ (l : List ℕ). fitted size (writes l)) (sym (reading_canonical L both t e bytes))
         ∙ ap (λ (c : Bool). elim c [ true ↦ turns (record { number = 13; place = 0 }) | false ↦ writes t ]) (le-ltb size (length t) fits)
 
 -- ---- the call
@@ -183,12 +183,12 @@ rewrites L small t bytes {k} e =
       old = k;
       new = printed_table k.header.form (rewritten k.task);
       read_old = e;
-      read_new = rewrite-read L small t bytes e;
+      read_new = rewrite_read L small t bytes e;
       task = refl;
-      real_forth = λ s bs. dropped-solves real_inert k.task bs s;
-      real_back = λ s bs. back-solves real_inert k.task bs s;
-      relaxed_forth = λ s bs. dropped-solves relaxed_inert k.task bs s;
-      relaxed_back = λ s bs. back-solves relaxed_inert k.task bs s;
+      real_forth = λ s bs. dropped_solves real_inert k.task bs s;
+      real_back = λ s bs. back_solves real_inert k.task bs s;
+      relaxed_forth = λ s bs. dropped_solves relaxed_inert k.task bs s;
+      relaxed_back = λ s bs. back_solves relaxed_inert k.task bs s;
     }
 
 -- 13: the table is taken, and the output is too short for what would be written

@@ -21,8 +21,8 @@ use Rattle.model.specs.Theorems.Printing.Tables.{printed_table}
 use Rattle.model.specs.Theorems.Campaigns.Demand2.{normal_part}
 use Rattle.model.specs.Theorems.Campaigns.Demand3.{relaxed_task, start_state, layer_zero, Given, DecideNoPlan, records_of, Answers}
 use Rattle.model.specs.Theorems.Campaigns.EndToEnd.{demand3}
-use Rattle.model.specs.Theorems.Rewriting.Solving.{dropped-solves, back-solves, real_inert}
-use Rattle.model.specs.Theorems.Rewriting.Normal.{rewritten-read, written_is, relaxed-forth, relaxed-back}
+use Rattle.model.specs.Theorems.Rewriting.Solving.{dropped_solves, back_solves, real_inert}
+use Rattle.model.specs.Theorems.Rewriting.Normal.{rewritten_read, written_is, relaxed_forth_lem, relaxed_back_lem}
 
 -- some list, of any length, solves the task
 abbrev pub Solvable : (Block → State → State) → Task → State → Type 0
@@ -53,36 +53,36 @@ module _ (L : Limits) (old : Table) where
   abbrev new : Table
   new = printed_table written (rewritten old.task)
 
-  real-forth : (bs list : List ℕ) → Solves real k (start_state old bs) list → Solves real new.task (start_state new bs) (renumbered k list)
+  real_forth_holds : (bs list : List ℕ) → Solves real k (start_state old bs) list → Solves real new.task (start_state new bs) (renumbered k list)
   unfolding printed_table rewritten
-  real-forth bs list = dropped-solves real_inert k list (start_state old bs)
+  real_forth_holds bs list = dropped_solves real_inert k list (start_state old bs)
 
-  real-back : (bs list : List ℕ) → Solves real new.task (start_state new bs) list → Solves real k (start_state old bs) (numbered_back k list)
+  real_back_holds : (bs list : List ℕ) → Solves real new.task (start_state new bs) list → Solves real k (start_state old bs) (numbered_back k list)
   unfolding printed_table rewritten
-  real-back bs list = back-solves real_inert k list (start_state old bs)
+  real_back_holds bs list = back_solves real_inert k list (start_state old bs)
 
-  layers-forth : (bs list : List ℕ) → Solves relaxed (relaxed_task old) (layer_zero old bs) list → Solves relaxed (relaxed_task new) (layer_zero new bs) (renumbered k list)
+  layers_forth : (bs list : List ℕ) → Solves relaxed (relaxed_task old) (layer_zero old bs) list → Solves relaxed (relaxed_task new) (layer_zero new bs) (renumbered k list)
   unfolding printed_table rewritten
-  layers-forth bs list = relaxed-forth k list (layer_zero old bs)
+  layers_forth bs list = relaxed_forth_lem k list (layer_zero old bs)
 
-  layers-back : (bs list : List ℕ) → Solves relaxed (relaxed_task new) (layer_zero new bs) list → Solves relaxed (relaxed_task old) (layer_zero old bs) (numbered_back k list)
+  layers_back : (bs list : List ℕ) → Solves relaxed (relaxed_task new) (layer_zero new bs) list → Solves relaxed (relaxed_task old) (layer_zero old bs) (numbered_back k list)
   unfolding printed_table rewritten
-  layers-back bs list = relaxed-back k list (layer_zero old bs)
+  layers_back bs list = relaxed_back_lem k list (layer_zero old bs)
 
-  same-printed : reading L (only written) (task_bytes written (rewritten k)) ≡ accepted new → SameCampaign L old (task_bytes written (rewritten k))
+  same_printed : reading L (only written) (task_bytes written (rewritten k)) ≡ accepted new → SameCampaign L old (task_bytes written (rewritten k))
   unfolding printed_table rewritten
-  same-printed read =
+  same_printed read =
       record {
         new = new;
         read = read;
         task = refl;
         states = λ bs. refl;
-        real_forth = real-forth;
-        relaxed_forth = layers-forth;
-        real_back = real-back;
-        relaxed_back = layers-back;
-        real_solvable = λ bs. (λ h. (renumbered k h.0, real-forth bs h.0 h.1), λ h. (numbered_back k h.0, real-back bs h.0 h.1));
-        relaxed_solvable = λ bs. (λ h. (renumbered k h.0, layers-forth bs h.0 h.1), λ h. (numbered_back k h.0, layers-back bs h.0 h.1));
+        real_forth = real_forth_holds;
+        relaxed_forth = layers_forth;
+        real_back = real_back_holds;
+        relaxed_back = layers_back;
+        real_solvable = λ bs. (λ h. (renumbered k h.0, real_forth_holds bs h.0 h.1), λ h. (numbered_back k h.0, real_back_holds bs h.0 h.1));
+        relaxed_solvable = λ bs. (λ h. (renumbered k h.0, layers_forth bs h.0 h.1), λ h. (numbered_back k h.0, layers_back bs h.0 h.1));
       }
 
 -- For the bytes of a stored written table that the rewriter takes, and the bytes that it writes.
@@ -94,7 +94,7 @@ pub same_campaign :
     → SameCampaign L old o
 same_campaign L small t bytes old e head size writes-o =
     subst (SameCampaign L old) (sym (written_is L small t bytes old e head size writes-o))
-    (same-printed L old (rewritten-read L small t bytes old e head))
+    (same_printed L old (rewritten_read L small t bytes old e head))
 
 -- ---- decide and plan on the new table
 

@@ -18,9 +18,9 @@ use Rattle.model.specs.Theorems.Reading.WellFormed.{All}
 use Rattle.model.specs.Theorems.Laws.Booleans.{T_true, not-false, false_not, T-cases, and_right}
 use Rattle.model.specs.Theorems.Laws.Searching.{All-at}
 use Rattle.model.specs.Theorems.Reading.Active.{AllActive, Lively, lively_active}
-use Rattle.model.specs.Theorems.Reading.Commands.{Passes, refusal-16, readCommand-refused, readCommand-end, readCommand-passes, unknown_refused, command_of_code, width_positive}
-use Rattle.model.specs.Theorems.Reading.Checks.{in_place_lem, head-wanted}
-use Rattle.model.specs.Theorems.Reading.Reads.{verdictFrom, verdict-more, verdict-done, reading-short, reading-induction}
+use Rattle.model.specs.Theorems.Reading.Commands.{Passes, refusal_16, read_command_refused, read_command_end, read_command_passes, unknown_refused, command_of_code, width_positive}
+use Rattle.model.specs.Theorems.Reading.Checks.{in_place_lem, head_wanted_lem}
+use Rattle.model.specs.Theorems.Reading.Reads.{verdict_from, verdict_more, verdict_done, reading_short, reading_induction}
 use Rattle.model.specs.Theorems.Reading.Marks.{starts_length, Marked}
 use Rattle.model.specs.Theorems.Reading.Accepted.{Kept, kept_start, kept_step, lively_step}
 
@@ -92,7 +92,7 @@ module _ (L : Limits) (w : Wanted) (t : List ℕ) (checks : T (checks16 w)) (sho
 
   -- it has come as far, and all moves so far do something
   record Going (s : Seen) : Type 0 where
-    same : reading L w t ≡ verdictFrom L w t s
+    same : reading L w t ≡ verdict_from L w t s
     lively : All (Lively w) s.moves
 
   -- it has refused where the first move that does nothing closes
@@ -111,11 +111,11 @@ module _ (L : Limits) (w : Wanted) (t : List ℕ) (checks : T (checks16 w)) (sho
     unfolding wrong3
     same3 =
         ap (λ (x : Bool). not (in_place s.place c) || not x || leaves_open s c)
-        (T_true (head_wanted w c) wanted ∙ sym (T_true (head_wanted stored c) (head-wanted h)))
+        (T_true (head_wanted w c) wanted ∙ sym (T_true (head_wanted stored c) (head_wanted_lem h)))
 
     -- a command that passes 16 too is read
     onward : (T (wrong16 w s c) → ⊥) → Going s → Going (advance t s c)
-    onward passes g = record { same = g.same ∙ verdict-more L w t s (readCommand-passes L w t s all); lively = lively_step c all g.lively }
+    onward passes g = record { same = g.same ∙ verdict_more L w t s (read_command_passes L w t s all); lively = lively_step c all g.lively }
       where
         all : Passes L w t s c
         all =
@@ -134,10 +134,10 @@ module _ (L : Limits) (w : Wanted) (t : List ℕ) (checks : T (checks16 w)) (sho
     unfolding wrong2
     stopped fails g =
         g.same
-        ∙ verdict-done L w t s
-        (readCommand-refused L w t s c (record { number = 16; place = s.at }) (omega (arith, h.uncut, width_positive c))
+        ∙ verdict_done L w t s
+        (read_command_refused L w t s c (record { number = 16; place = s.at }) (omega (arith, h.uncut, width_positive c))
         (ap command_of h.code ∙ command_of_code c (λ e. unknown_refused (subst (Passes L stored t s) e h)))
-        (refusal-16 L w t s c
+        (refusal_16 L w t s c
         (same3 ∙ not-false (wrong3 stored s c) (T_not (wrong3 stored s c) h.placed))
         (not-false (ltb (length t) (s.at + width c)) (λ b. omega (arith, ltb→lt (length t) (s.at + width c) b, h.uncut)))
         (not-false (wrong6 s c) (T_not (wrong6 s c) h.counted))
@@ -146,29 +146,29 @@ module _ (L : Limits) (w : Wanted) (t : List ℕ) (checks : T (checks16 w)) (sho
   -- ---- 41 and 47 close a move
 
   -- where 16 fails, the move that closes is the first that does nothing, and the mark of the command that closes it is the next
-  closes-first :
+  closes_first :
       (p : Place) (ms : List Block) (b : Block) (marks : List ℕ)
       → T (checks16 w && idle p b)
       → All (Lively w) ms
       → Marked p ms b marks
       → FirstIdle (closed p ms b) (length ms) × (length marks ≡ suc (length ms))
   unfolding closed idle
-  closes-first start ms b marks fails lively m = absurd (and_right (checks16 w) false fails)
-  closes-first preamble ms b marks fails lively m = absurd (and_right (checks16 w) false fails)
-  closes-first in_move ms b marks fails lively m = (
+  closes_first start ms b marks fails lively m = absurd (and_right (checks16 w) false fails)
+  closes_first preamble ms b marks fails lively m = absurd (and_right (checks16 w) false fails)
+  closes_first in_move ms b marks fails lively m = (
     first_last ms b (lively_active w ms checks lively) (not-false (active b) (T_not (active b) (and_right (checks16 w) (not (active b)) fails))),
     ap length m ∙ starts_length 4 ms,
   )
-  closes-first in_goal ms b marks fails lively m = absurd (and_right (checks16 w) false fails)
-  closes-first finished ms b marks fails lively m = absurd (and_right (checks16 w) false fails)
+  closes_first in_goal ms b marks fails lively m = absurd (and_right (checks16 w) false fails)
+  closes_first finished ms b marks fails lively m = absurd (and_right (checks16 w) false fails)
 
   module _ (s : Seen) (q : Place) (begun : Begun q) where
     abbrev ms : List Block
     ms = closed s.place s.moves s.items
 
     -- one mark more
-    stays-stopped : (ns : List Block) → ((i : ℕ) → FirstIdle s.moves i → FirstIdle ns i) → Stopped s.place s.moves s.marks → Stopped q ns (s.marks ++ (s.at ∷ []))
-    stays-stopped ns longer x =
+    stays_stopped : (ns : List Block) → ((i : ℕ) → FirstIdle s.moves i → FirstIdle ns i) → Stopped s.place s.moves s.marks → Stopped q ns (s.marks ++ (s.at ∷ []))
+    stays_stopped ns longer x =
         record {
           begun = begun;
           move = x.move;
@@ -181,7 +181,7 @@ module _ (L : Limits) (w : Wanted) (t : List ℕ) (checks : T (checks16 w)) (sho
 
     stops : Marked s.place s.moves s.items s.marks → T (checks16 w && idle s.place s.items) → All (Lively w) s.moves → reading L w t ≡ refused (record { number = 16; place = s.at }) → Stopped q ms (s.marks ++ (s.at ∷ []))
     stops m fails lively is16 =
-        let here = closes-first s.place s.moves s.items s.marks fails lively m in
+        let here = closes_first s.place s.moves s.items s.marks fails lively m in
         record {
           begun = begun;
           move = length s.moves;
@@ -205,7 +205,7 @@ module _ (L : Limits) (w : Wanted) (t : List ℕ) (checks : T (checks16 w)) (sho
         T-cases (wrong16 w s c)
         (λ fails. inr (stops m (subst T is fails) g.lively (stopped h wanted fails g)))
         (λ passes. inl (subst Going to (onward h wanted passes g)))
-    opens h wanted is to m (inr x) = inr (stays-stopped ms (closed_first s.place s.moves s.items) x)
+    opens h wanted is to m (inr x) = inr (stays_stopped ms (closed_first s.place s.moves s.items) x)
 
   -- ---- every command
 
@@ -215,7 +215,7 @@ module _ (L : Limits) (w : Wanted) (t : List ℕ) (checks : T (checks16 w)) (sho
     follows : Taken s.place s.header.form → Follows s
 
   -- a command that closes no move
-  passes-by :
+  passes_by :
       {s d : Seen} {c : Command}
       → Passes L stored t s c
       → T (head_wanted w c)
@@ -224,33 +224,33 @@ module _ (L : Limits) (w : Wanted) (t : List ℕ) (checks : T (checks16 w)) (sho
       → (Stopped s.place s.moves s.marks → Stopped d.place d.moves d.marks)
       → Follows s
       → Follows d
-  passes-by {s} {c} h wanted none to stay (inl g) = inl (subst Going to (onward h wanted (false_not none) g))
-  passes-by h wanted none to stay (inr x) = inr (stay x)
+  passes_by {s} {c} h wanted none to stay (inl g) = inl (subst Going to (onward h wanted (false_not none) g))
+  passes_by h wanted none to stay (inr x) = inr (stay x)
 
-  follows-step : (s : Seen) (c : Command) → Beside s → Passes L stored t s c → Taken (advance t s c).place (advance t s c).header.form → Follows (advance t s c)
+  follows_step : (s : Seen) (c : Command) → Beside s → Passes L stored t s c → Taken (advance t s c).place (advance t s c).header.form → Follows (advance t s c)
   unfolding advance with_head with_mark with_term with_item item_at wrong16 head_wanted in_place
-  follows-step s (head f) k h head-taken = go s.place (in_place_lem h) refl
+  follows_step s (head f) k h head-taken = go s.place (in_place_lem h) refl
     where
       go : (p : Place) → T (in_place p (head f)) → s.place ≡ p → Follows (with_head t s f)
       go start here e =
-          passes-by {c = head f} h head-taken refl refl
+          passes_by {c = head f} h head-taken refl refl
           (λ x. absurd (subst Begun e x.begun))
           (k.follows (subst (λ (p : Place). Taken p s.header.form) (sym e) tt))
       go preamble here e = absurd here
       go in_move here e = absurd here
       go in_goal here e = absurd here
       go finished here e = absurd here
-  follows-step s open_move k h head-taken = opens s in_move tt h tt refl refl k.kept.marked (k.follows (taken s.place s.header.form head-taken))
-  follows-step s open_goal k h head-taken = opens s in_goal tt h tt refl refl k.kept.marked (k.follows (taken s.place s.header.form head-taken))
-  follows-step s end_table k h head-taken =
-      passes-by {c = end_table} h tt refl refl (stays-stopped s finished tt s.moves (λ i x. x)) (k.follows (taken s.place s.header.form head-taken))
-  follows-step s need_prop k h head-taken = passes-by {c = need_prop} h tt refl refl (λ x. x) (k.follows head-taken)
-  follows-step s add_prop k h head-taken = passes-by {c = add_prop} h tt refl refl (λ x. x) (k.follows head-taken)
-  follows-step s delete_prop k h head-taken = passes-by {c = delete_prop} h tt refl refl (λ x. x) (k.follows head-taken)
-  follows-step s term k h head-taken = passes-by {c = term} h tt refl refl (λ x. x) (k.follows head-taken)
-  follows-step s close_condition k h head-taken = passes-by {c = close_condition} h tt refl refl (λ x. x) (k.follows head-taken)
-  follows-step s close_effect k h head-taken = passes-by {c = close_effect} h tt refl refl (λ x. x) (k.follows head-taken)
-  follows-step s unknown k h head-taken = absurd (unknown_refused h)
+  follows_step s open_move k h head-taken = opens s in_move tt h tt refl refl k.kept.marked (k.follows (taken s.place s.header.form head-taken))
+  follows_step s open_goal k h head-taken = opens s in_goal tt h tt refl refl k.kept.marked (k.follows (taken s.place s.header.form head-taken))
+  follows_step s end_table k h head-taken =
+      passes_by {c = end_table} h tt refl refl (stays_stopped s finished tt s.moves (λ i x. x)) (k.follows (taken s.place s.header.form head-taken))
+  follows_step s need_prop k h head-taken = passes_by {c = need_prop} h tt refl refl (λ x. x) (k.follows head-taken)
+  follows_step s add_prop k h head-taken = passes_by {c = add_prop} h tt refl refl (λ x. x) (k.follows head-taken)
+  follows_step s delete_prop k h head-taken = passes_by {c = delete_prop} h tt refl refl (λ x. x) (k.follows head-taken)
+  follows_step s term k h head-taken = passes_by {c = term} h tt refl refl (λ x. x) (k.follows head-taken)
+  follows_step s close_condition k h head-taken = passes_by {c = close_condition} h tt refl refl (λ x. x) (k.follows head-taken)
+  follows_step s close_effect k h head-taken = passes_by {c = close_effect} h tt refl refl (λ x. x) (k.follows head-taken)
+  follows_step s unknown k h head-taken = absurd (unknown_refused h)
 
   -- ---- the whole table
 
@@ -260,15 +260,15 @@ module _ (L : Limits) (w : Wanted) (t : List ℕ) (checks : T (checks16 w)) (sho
       (AllActive k.task.moves × (reading L w t ≡ accepted k))
       ⊎ ((b : ℕ) × FirstIdle k.task.moves b × (reading L w t ≡ refused (record { number = 16; place = get_or k.marks (suc b) 0 })))
 
-  outcome-end : (s : Seen) → Beside s → length t ≤ s.at → s.place ≡ finished → circular (table_of s).task ≡ false → T (head_wanted w (head (table_of s).header.form)) → Outcome (table_of s)
+  outcome_end : (s : Seen) → Beside s → length t ≤ s.at → s.place ≡ finished → circular (table_of s).task ≡ false → T (head_wanted w (head (table_of s).header.form)) → Outcome (table_of s)
   unfolding table_of at_end verdict_of
-  outcome-end s k end at-end no-circle wanted = go (k.follows (taken s.place s.header.form wanted))
+  outcome_end s k end at_end_lem no_circle_lem wanted = go (k.follows (taken s.place s.header.form wanted))
     where
-      ends : verdictFrom L w t s ≡ accepted (table_of s)
+      ends : verdict_from L w t s ≡ accepted (table_of s)
       ends =
-          verdict-done L w t s (readCommand-end L w t s end)
-          ∙ ap (at_end t s) at-end
-          ∙ ap (λ (b : Bool). elim b [ true ↦ refused (record { number = 7; place = 0 }) | false ↦ accepted (table_of s) ]) no-circle
+          verdict_done L w t s (read_command_end L w t s end)
+          ∙ ap (at_end t s) at_end_lem
+          ∙ ap (λ (b : Bool). elim b [ true ↦ refused (record { number = 7; place = 0 }) | false ↦ accepted (table_of s) ]) no_circle_lem
 
       go : Follows s → Outcome (table_of s)
       go (inl g) = inl (lively_active w s.moves checks g.lively, g.same ∙ ends)
@@ -277,8 +277,8 @@ module _ (L : Limits) (w : Wanted) (t : List ℕ) (checks : T (checks16 w)) (sho
   pub outcome : {k : Table} → reading L stored t ≡ accepted k → T (head_wanted w (head k.header.form)) → Outcome k
   unfolding nothing_seen
   outcome e =
-      reading-induction L stored t Beside (λ k. T (head_wanted w (head k.header.form)) → Outcome k)
-      (λ s c b h. record { kept = kept_step L stored t s c b.kept h; follows = follows-step s c b h })
-      (λ s b end at-end no-circle limit. outcome-end s b end at-end no-circle)
-      (record { kept = kept_start L stored t; follows = λ h. inl (record { same = reading-short L w t short; lively = tt }) })
+      reading_induction L stored t Beside (λ k. T (head_wanted w (head k.header.form)) → Outcome k)
+      (λ s c b h. record { kept = kept_step L stored t s c b.kept h; follows = follows_step s c b h })
+      (λ s b end at_end_lem no_circle_lem limit. outcome_end s b end at_end_lem no_circle_lem)
+      (record { kept = kept_start L stored t; follows = λ h. inl (record { same = reading_short L w t short; lively = tt }) })
       e

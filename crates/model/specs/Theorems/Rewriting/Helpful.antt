@@ -11,14 +11,14 @@ use Rattle.model.specs.NormalForm.{normal_task}
 use Rattle.model.specs.Layer.{Layer, usable, layer_at}
 use Rattle.model.specs.Plan.{Wants, wants_at, supports, helpful, bit, helpful_moves}
 use Rattle.model.specs.Rewrite.{rewritten, new_number, old_number}
-use Rattle.model.specs.Theorems.Laws.Sets.{bit_zero, set-bit}
+use Rattle.model.specs.Theorems.Laws.Sets.{bit_zero, set_bit}
 use Rattle.model.specs.Theorems.NormalForm.Active.{normal_active}
 use Rattle.model.specs.Theorems.NormalForm.Moves.{normal_move, normal_moves}
 use Rattle.model.specs.Theorems.Rewriting.Solving.{idle_any, new_number_lem, old_number_lem, normal_rewritten}
 use Rattle.model.specs.Theorems.Rewriting.Normal.{normal_new_number}
-use Rattle.model.specs.Theorems.Rewriting.Layers.{same-layerAt}
+use Rattle.model.specs.Theorems.Rewriting.Layers.{same_layer_at}
 use Rattle.model.specs.Theorems.Rewriting.Numbers.{new_same}
-use Rattle.model.specs.Theorems.Rewriting.Plans.{same-wants}
+use Rattle.model.specs.Theorems.Rewriting.Plans.{same_wants}
 
 -- a move that does nothing is not helpful
 idle_unhelpful : (l : Layer) (w : Wants) (b : Block) → active b ≡ false → helpful l w b ≡ false
@@ -31,29 +31,29 @@ SameBit j k s m c b = bit (helpful_moves j s m) c ≡ bit (helpful_moves k s m) 
 
 module _ (k : Task) (s : State) where
   -- a move that does something is in the set under its new number exactly if it was under its old one
-  pub same-helpful : (m b : ℕ) → b < length k.moves → T (active (move_at k b)) → SameBit (rewritten k) k s m (new_number k.moves b) b
+  pub same_helpful : (m b : ℕ) → b < length k.moves → T (active (move_at k b)) → SameBit (rewritten k) k s m (new_number k.moves b) b
   unfolding helpful_moves move_at rewritten
-  same-helpful zero b lt does = bit_zero (new_number k.moves b) ∙ sym (bit_zero b)
-  same-helpful (suc m) b lt does =
-      set-bit (helpful (layer_at (rewritten k) s 0) (wants_at (rewritten k) s (suc m) 1)) (rewritten k).moves (new_number k.moves b) (new_number_lem k.moves b lt does).0
-      ∙ ap₂ (λ (l : Layer) (w : Wants). helpful l w (move_at (rewritten k) (new_number k.moves b))) (same-layerAt k s 0) (same-wants k s (suc m) 1)
+  same_helpful zero b lt does = bit_zero (new_number k.moves b) ∙ sym (bit_zero b)
+  same_helpful (suc m) b lt does =
+      set_bit (helpful (layer_at (rewritten k) s 0) (wants_at (rewritten k) s (suc m) 1)) (rewritten k).moves (new_number k.moves b) (new_number_lem k.moves b lt does).0
+      ∙ ap₂ (λ (l : Layer) (w : Wants). helpful l w (move_at (rewritten k) (new_number k.moves b))) (same_layer_at k s 0) (same_wants k s (suc m) 1)
       ∙ ap (helpful (layer_at k s 0) (wants_at k s (suc m) 1)) (new_same k.moves b does)
-      ∙ sym (set-bit (helpful (layer_at k s 0) (wants_at k s (suc m) 1)) k.moves b lt)
+      ∙ sym (set_bit (helpful (layer_at k s 0) (wants_at k s (suc m) 1)) k.moves b lt)
 
   -- and one that does nothing never was
-  pub idle-never : (m b : ℕ) → b < length k.moves → active (move_at k b) ≡ false → bit (helpful_moves k s m) b ≡ false
+  pub idle_never : (m b : ℕ) → b < length k.moves → active (move_at k b) ≡ false → bit (helpful_moves k s m) b ≡ false
   unfolding helpful_moves move_at
-  idle-never zero b lt idle = bit_zero b
-  idle-never (suc m) b lt idle =
-      set-bit (helpful (layer_at k s 0) (wants_at k s (suc m) 1)) k.moves b lt
+  idle_never zero b lt idle = bit_zero b
+  idle_never (suc m) b lt idle =
+      set_bit (helpful (layer_at k s 0) (wants_at k s (suc m) 1)) k.moves b lt
       ∙ idle_unhelpful (layer_at k s 0) (wants_at k s (suc m) 1) (move_at k b) idle
 
   -- every bit of the new set is that of an old move
-  pub helpful-back : (m c : ℕ) → c < length (rewritten k).moves → SameBit (rewritten k) k s m c (old_number k.moves c)
+  pub helpful_back : (m c : ℕ) → c < length (rewritten k).moves → SameBit (rewritten k) k s m c (old_number k.moves c)
   unfolding rewritten move_at
-  helpful-back m c lt =
+  helpful_back m c lt =
       let o = old_number_lem k.moves c lt in
-      ap (λ (i : ℕ). bit (helpful_moves (rewritten k) s m) i) (sym o.again) ∙ same-helpful m (old_number k.moves c) o.within o.does
+      ap (λ (i : ℕ). bit (helpful_moves (rewritten k) s m) i) (sym o.again) ∙ same_helpful m (old_number k.moves c) o.within o.does
 
 -- so for a written table
 pub same_helpful_written :
@@ -62,4 +62,4 @@ pub same_helpful_written :
 unfolding normal_task
 same_helpful_written k s m b lt does =
     ap₂ (λ (n : Task) (c : ℕ). bit (helpful_moves n s m) c) (normal_rewritten k) (sym (normal_new_number k.moves b))
-    ∙ same-helpful (normal_task k) s m b (rw (normal_moves k) lt) (subst T (sym (ap active (normal_move k b) ∙ normal_active (move_at k b))) does)
+    ∙ same_helpful (normal_task k) s m b (rw (normal_moves k) lt) (subst T (sym (ap active (normal_move k b) ∙ normal_active (move_at k b))) does)

@@ -23,7 +23,7 @@ use Rattle.model.specs.Theorems.Campaigns.Demand2.{normal_part}
 use Rattle.model.specs.Theorems.Campaigns.Demand3.{relaxed_task, start_state, layer_zero, end_of, Given}
 use Rattle.model.specs.Theorems.Rewriting.Accepted.{Rewrites, RewriteRight, rewrite_right}
 use Rattle.model.specs.Theorems.Rewriting.Following.{FirstIdle}
-use Rattle.model.specs.Theorems.Rewriting.Refused.{read-refused, written-refused}
+use Rattle.model.specs.Theorems.Rewriting.Refused.{read_refused, written_refused}
 use Rattle.model.specs.Theorems.Rewriting.EndToEnd.{SameCampaign, same_campaign, AnswersOld, answers_old}
 use Rattle.model.specs.Theorems.Rewriting.Cases.{unfinished, finished}
 
@@ -62,8 +62,8 @@ pub unfinished_refused :
     × (normalise_answer paper unfinished [] ≡ write.Refused (record { number = 16; place = 5 }))
 unfolding computing unfinished unfinished_table table_in
 unfinished_refused = (
-  read-refused paper unfinished unfinished_read 0 unfinished_first,
-  (written-refused paper unfinished unfinished_read 0 unfinished_first unfinished_bytes unfinished_written [] 0 []).0,
+  read_refused paper unfinished unfinished_read 0 unfinished_first,
+  (written_refused paper unfinished unfinished_read 0 unfinished_first unfinished_bytes unfinished_written [] 0 []).0,
 )
 
 -- what the rewriter writes is right

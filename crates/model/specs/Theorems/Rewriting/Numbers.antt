@@ -41,11 +41,11 @@ old_new (m ∷ ms) (suc b) a = go (active m) refl (active_moves (take b ms)) (ol
 pub new_equal : (ms : List Block) (b c : ℕ) → T (active (get_or ms b [])) → T (active (get_or ms c [])) → eqb (new_number ms b) (new_number ms c) ≡ eqb b c
 new_equal ms b c x y =
     T-equal (eqb (new_number ms b) (new_number ms c)) (eqb b c)
-    (λ t. equal-eqb (sym (old_new ms b x) ∙ ap (old_number ms) (eqb→eq (new_number ms b) (new_number ms c) t) ∙ old_new ms c y))
-    (λ t. equal-eqb (ap (new_number ms) (eqb→eq b c t)))
+    (λ t. equal_eqb (sym (old_new ms b x) ∙ ap (old_number ms) (eqb→eq (new_number ms b) (new_number ms c) t) ∙ old_new ms c y))
+    (λ t. equal_eqb (ap (new_number ms) (eqb→eq b c t)))
   where
-    equal-eqb : {m n : ℕ} → m ≡ n → T (eqb m n)
-    equal-eqb {m} e = subst (λ (n : ℕ). T (eqb m n)) e (eqb_refl m)
+    equal_eqb : {m n : ℕ} → m ≡ n → T (eqb m n)
+    equal_eqb {m} e = subst (λ (n : ℕ). T (eqb m n)) e (eqb_refl m)
 
 -- the next move's new number is one more if this one does something, else the same
 new_next : (ms : List Block) (b : ℕ) → new_number ms (suc b) ≡ cond (active (get_or ms b [])) (suc (new_number ms b)) (new_number ms b)

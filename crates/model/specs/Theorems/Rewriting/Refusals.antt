@@ -56,9 +56,9 @@ module _ (L : Limits) (t : List ℕ) (s : Seen) (c : Command) (P : Option Refusa
     (sixteen : (r : Refusal) (o : Option Refusal) → r.number ≡ 16 → IfSome Checked o → P (some r) o)
     (neither : P none none)
   where
-    both-refusals : P (refusal L both t s c) (refusal L stored t s c)
+    both_refusals : P (refusal L both t s c) (refusal L stored t s c)
     unfolding refusal wrong3 first_refusal refused_at refused_operand
-    both-refusals =
+    both_refusals =
         rw (← same_head c, unchecked s c)
         (go (wrong3 both s c) (wrong2 t s c) (wrong6 s c) (wrong16 both s c) (first_wrong (operands L t s c)) (wrong5 L t s c))
       where
@@ -105,10 +105,10 @@ end_checked t s finished = go (circular (table_of s).task)
     go false = tt
 
 module _ (L : Limits) (t : List ℕ) where
-  from-alike : (n : ℕ) (s : Seen) → Alike (read_from L both t n s) (read_from L stored t n s)
+  from_alike : (n : ℕ) (s : Seen) → Alike (read_from L both t n s) (read_from L stored t n s)
   unfolding read_from read_command step_with continue
-  from-alike zero s = (inl refl, lit≤ tt)
-  from-alike (suc n) s = go (ltb s.at (length t)) (λ d. from-alike n d)
+  from_alike zero s = (inl refl, lit≤ tt)
+  from_alike (suc n) s = go (ltb s.at (length t)) (λ d. from_alike n d)
     where
       c : Command
       c = command_of (get_or t s.at 0)
@@ -126,41 +126,41 @@ module _ (L : Limits) (t : List ℕ) where
           → Alike (continue (λ d. read_from L both t n d) (elim b [ true ↦ step_with t s c (refusal L both t s c) | false ↦ done (at_end t s s.place) ]))
           (continue (λ d. read_from L stored t n d) (elim b [ true ↦ step_with t s c (refusal L stored t s c) | false ↦ done (at_end t s s.place) ]))
       go true rest =
-          both-refusals L t s c (λ a o. Alike (continue (λ d. read_from L both t n d) (step_with t s c a)) (next o))
+          both_refusals L t s c (λ a o. Alike (continue (λ d. read_from L both t n d) (step_with t s c a)) (next o))
           (λ r h. (inl refl, h)) (λ r o h few. (inr h, checked o few rest)) (rest (advance t s c))
       go false rest = (inl refl, end_checked t s s.place)
 
-  both-alike : Alike (reading L both t) (reading L stored t)
+  both_alike : Alike (reading L both t) (reading L stored t)
   unfolding reading length_limit
-  both-alike = go (ltb (length_limit L stored t) (length t))
+  both_alike = go (ltb (length_limit L stored t) (length t))
     where
       go :
           (b : Bool)
           → Alike (elim b [ true ↦ refused (record { number = 1; place = 0 }) | false ↦ read_from L both t (suc (length t)) nothing_seen ])
           (elim b [ true ↦ refused (record { number = 1; place = 0 }) | false ↦ read_from L stored t (suc (length t)) nothing_seen ])
       go true = (inl refl, lit≤ tt)
-      go false = from-alike (suc (length t)) nothing_seen
+      go false = from_alike (suc (length t)) nothing_seen
 
   -- what read accepts, the rewriter accepts
-  pub stored-accepts : {k : Table} → reading L both t ≡ accepted k → reading L stored t ≡ accepted k
-  stored-accepts {k} e = go both-alike.0
+  pub stored_accepts : {k : Table} → reading L both t ≡ accepted k → reading L stored t ≡ accepted k
+  stored_accepts {k} e = go both_alike.0
     where
       go : (reading L both t ≡ reading L stored t) ⊎ Is16 (reading L both t) → reading L stored t ≡ accepted k
       go (inl same) = sym same ∙ e
       go (inr h) = absurd (subst Is16 e h)
 
   -- "makes all checks but 16": what read refuses with another number, the rewriter refuses with that number, at that place
-  pub stored-refuses : {r : Refusal} → reading L both t ≡ refused r → (r.number ≡ 16 → ⊥) → reading L stored t ≡ refused r
-  stored-refuses {r} e other = go both-alike.0
+  pub stored_refuses : {r : Refusal} → reading L both t ≡ refused r → (r.number ≡ 16 → ⊥) → reading L stored t ≡ refused r
+  stored_refuses {r} e other = go both_alike.0
     where
       go : (reading L both t ≡ reading L stored t) ⊎ Is16 (reading L both t) → reading L stored t ≡ refused r
       go (inl same) = sym same ∙ e
       go (inr h) = absurd (other (subst Is16 e h))
 
   -- its numbers are those of the other checks, 1 to 7
-  pub stored-numbers : {r : Refusal} → reading L stored t ≡ refused r → r.number ≤ 7
-  stored-numbers e = subst (IfRefused Checked) e both-alike.1
+  pub stored_numbers : {r : Refusal} → reading L stored t ≡ refused r → r.number ≤ 7
+  stored_numbers e = subst (IfRefused Checked) e both_alike.1
 
   -- so the rewriter never refuses with 16
-  pub never-16 : {r : Refusal} → reading L stored t ≡ refused r → r.number ≡ 16 → ⊥
-  never-16 e is = omega (arith, stored-numbers e)
+  pub never_16 : {r : Refusal} → reading L stored t ≡ refused r → r.number ≡ 16 → ⊥
+  never_16 e is = omega (arith, stored_numbers e)

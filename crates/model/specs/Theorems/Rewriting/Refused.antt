@@ -21,7 +21,7 @@ use Rattle.model.specs.Pddl.{text_of, pddl_text, pddl_answer}
 use Rattle.model.specs.Theorems.Laws.Booleans.{false_not}
 use Rattle.model.specs.Theorems.Laws.Searching.{All-at}
 use Rattle.model.specs.Theorems.Reading.Active.{AllActive, only_checks, both_checks}
-use Rattle.model.specs.Theorems.Reading.Accepted.{reading-limit, reading-canonical}
+use Rattle.model.specs.Theorems.Reading.Accepted.{reading_limit, reading_canonical}
 use Rattle.model.specs.Theorems.Rewriting.Accepted.{stored_limit}
 use Rattle.model.specs.Theorems.Rewriting.Following.{FirstIdle, first_one, Outcome, outcome}
 
@@ -30,24 +30,24 @@ module _ (L : Limits) (w : Wanted) (t : List ℕ) {k : Table} (e : reading L sto
     (checks : T (checks16 w)) (wanted : T (head_wanted w (head k.header.form))) (short : length t ≤ length_limit L w t)
   where
     -- "Turned away: 16, such a move, place the command that closes its block": the first such move, b
-    pub first-refused : (b : ℕ) → FirstIdle k.task.moves b → reading L w t ≡ refused (record { number = 16; place = get_or k.marks (suc b) 0 })
-    first-refused b x = go (outcome L w t checks short e wanted)
+    pub first_refused : (b : ℕ) → FirstIdle k.task.moves b → reading L w t ≡ refused (record { number = 16; place = get_or k.marks (suc b) 0 })
+    first_refused b x = go (outcome L w t checks short e wanted)
       where
         go : Outcome L w t checks short k → reading L w t ≡ refused (record { number = 16; place = get_or k.marks (suc b) 0 })
         go (inl r) = absurd (false_not x.idle (All-at (λ m. T (active m)) k.task.moves b [] r.0 x.within))
         go (inr r) = r.2 ∙ ap (λ (n : ℕ). refused (record { number = 16; place = get_or k.marks (suc n) 0 })) (first_one r.1 x)
 
     -- there is a first such move where not every move does something
-    pub some-refused : (AllActive k.task.moves → ⊥) → (b : ℕ) × FirstIdle k.task.moves b × (reading L w t ≡ refused (record { number = 16; place = get_or k.marks (suc b) 0 }))
-    some-refused not-all = go (outcome L w t checks short e wanted)
+    pub some_refused : (AllActive k.task.moves → ⊥) → (b : ℕ) × FirstIdle k.task.moves b × (reading L w t ≡ refused (record { number = 16; place = get_or k.marks (suc b) 0 }))
+    some_refused not-all = go (outcome L w t checks short e wanted)
       where
         go : Outcome L w t checks short k → (b : ℕ) × FirstIdle k.task.moves b × (reading L w t ≡ refused (record { number = 16; place = get_or k.marks (suc b) 0 }))
         go (inl r) = absurd (not-all r.0)
         go (inr r) = r
 
     -- where every move does something the table is accepted, as before
-    pub still-accepted : AllActive k.task.moves → reading L w t ≡ accepted k
-    still-accepted does = go (outcome L w t checks short e wanted)
+    pub still_accepted : AllActive k.task.moves → reading L w t ≡ accepted k
+    still_accepted does = go (outcome L w t checks short e wanted)
       where
         go : Outcome L w t checks short k → reading L w t ≡ accepted k
         go (inl r) = r.1
@@ -59,23 +59,23 @@ module _ (L : Limits) (t : List ℕ) {k : Table} (e : reading L stored t ≡ acc
   closing = record { number = 16; place = get_or k.marks (suc b) 0 }
 
   -- by read and the reader, which take both heads
-  pub both-refused : reading L both t ≡ refused closing
+  pub both_refused : reading L both t ≡ refused closing
   unfolding head_wanted length_limit
-  both-refused = first-refused L both t e both_checks tt (reading-limit L stored t e) b first
+  both_refused = first_refused L both t e both_checks tt (reading_limit L stored t e) b first
 
   -- so read answers, and the reader of any block
-  pub read-refused : read_answer L t ≡ read.Refused closing
+  pub read_refused : read_answer L t ≡ read.Refused closing
   unfolding read_answer read_of
-  read-refused = ap read_of both-refused
+  read_refused = ap read_of both_refused
 
-  pub reader-refused : (n : ℕ) → block_refusal L t n ≡ some closing
+  pub reader_refused : (n : ℕ) → block_refusal L t n ≡ some closing
   unfolding block_refusal no_block
-  reader-refused n = ap (no_block n) both-refused
+  reader_refused n = ap (no_block n) both_refused
 
   -- by every call that wants this head
-  pub only-refused : AllBytes t → reading L (only k.header.form) t ≡ refused closing
+  pub only_refused : AllBytes t → reading L (only k.header.form) t ≡ refused closing
   unfolding head_wanted
-  only-refused bytes = first-refused L (only form) t e (only_checks form) (takes form) within b first
+  only_refused bytes = first_refused L (only form) t e (only_checks form) (takes form) within b first
     where
       form : Form
       form = k.header.form
@@ -85,40 +85,40 @@ module _ (L : Limits) (t : List ℕ) {k : Table} (e : reading L stored t ≡ acc
       takes normal = tt
 
       prints : t ≡ task_bytes form k.task
-      prints = reading-canonical L stored t e bytes
+      prints = reading_canonical L stored t e bytes
 
       within : length t ≤ length_limit L (only form) t
       within =
           subst (λ (n : ℕ). length t ≤ n)
           (ap (length_limit L stored) prints ∙ stored_limit L form k.task k.task ∙ ap (length_limit L (only form)) (sym prints))
-          (reading-limit L stored t e)
+          (reading_limit L stored t e)
 
   -- with a written table normalise, step and the PDDL writer answer so
-  pub written-refused :
+  pub written_refused :
       AllBytes t → k.header.form ≡ written
       → (bs : List ℕ) (n : ℕ) (out : List ℕ)
       → (normalise_answer L t out ≡ write.Refused closing) × (step_answer L t bs n out ≡ write.Refused closing) × (pddl_answer L t bs out ≡ write.Refused closing)
   unfolding normalise_answer normalised normal_of step_answer stepped step_of pddl_answer pddl_text text_of fitted write_answer
-  written-refused bytes is bs n out = (
+  written_refused bytes is bs n out = (
     ap (λ (v : Verdict). write_answer (fitted (length out) (normal_of v))) refuses,
     ap (λ (v : Verdict). write_answer (fitted (length out) (step_of L v bs n))) refuses,
     ap (λ (v : Verdict). write_answer (fitted (length out) (text_of L v bs))) refuses,
   )
     where
       refuses : reading L (only written) t ≡ refused closing
-      refuses = subst (λ (f : Form). reading L (only f) t ≡ refused closing) is (only-refused bytes)
+      refuses = subst (λ (f : Form). reading L (only f) t ≡ refused closing) is (only_refused bytes)
 
   -- with a normal table decide, plan and the tool for the part that blocks
-  pub normal-refused :
+  pub normal_refused :
       AllBytes t → k.header.form ≡ normal
       → (bs : List ℕ) (mem : List ℤ) (out : List ℕ)
       → (decide_answer L t bs mem ≡ decide.Refused closing) × (plan_answer L t bs mem out ≡ plan.Refused closing) × (blocking_answer L t bs mem ≡ blocking.Refused closing)
   unfolding decide_answer decide_of plan_answer plan_of blocking_answer blocking_of prepared ready_of
-  normal-refused bytes is bs mem out = (
+  normal_refused bytes is bs mem out = (
     ap (λ (v : Verdict). decide_of L (length mem) (ready_of L v bs)) refuses,
     ap (λ (v : Verdict). plan_of L (length mem) (length out) (ready_of L v bs)) refuses,
     ap (λ (v : Verdict). blocking_of L (length mem) (ready_of L v bs)) refuses,
   )
     where
       refuses : reading L (only normal) t ≡ refused closing
-      refuses = subst (λ (f : Form). reading L (only f) t ≡ refused closing) is (only-refused bytes)
+      refuses = subst (λ (f : Form). reading L (only f) t ≡ refused closing) is (only_refused bytes)

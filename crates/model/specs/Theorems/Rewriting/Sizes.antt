@@ -14,12 +14,12 @@ use Rattle.model.specs.Command.{head, open_goal, end_table, code_of, items_bytes
 use Rattle.model.specs.Reading.{Table, Verdict, accepted, refused, stored, reading}
 use Rattle.model.specs.Calls.{Output, writes, turns, fitted, write_answer}
 use Rattle.model.specs.Rewrite.{active_moves, rewritten, rewrite_of, rewrote, rewrite_answer}
-use Rattle.model.specs.Theorems.Reading.Accepted.{reading-length, reading-limit, reading-canonical, accepted_one}
+use Rattle.model.specs.Theorems.Reading.Accepted.{reading_length, reading_limit, reading_canonical, accepted_one}
 use Rattle.model.specs.Theorems.Reading.Places.{Small, IfRefused}
-use Rattle.model.specs.Theorems.Printing.Outputs.{fitted-whole, fitted_cases}
+use Rattle.model.specs.Theorems.Printing.Outputs.{fitted_whole, fitted_cases}
 use Rattle.model.specs.Theorems.Sizes.Answers.{place_limit, WriteSmall, OutputSmall, answer_small, fitted_small, limit_most, table_refused}
-use Rattle.model.specs.Theorems.Rewriting.Accepted.{rewritten-shorter}
-use Rattle.model.specs.Theorems.Rewriting.Refusals.{stored-numbers}
+use Rattle.model.specs.Theorems.Rewriting.Accepted.{rewritten_shorter}
+use Rattle.model.specs.Theorems.Rewriting.Refusals.{stored_numbers}
 
 turns_no : {r : Refusal} {o : List ℕ} → turns r ≡ writes o → ⊥
 turns_no e = let z : ◌≡◌ {A = ℕ} 0 1 = cc in omega arith
@@ -35,8 +35,8 @@ split f props vars ms goal =
 
 module _ (L : Limits) (t : List ℕ) where
   -- the bytes of the rewritten table are no more than those of the table
-  result-length : {k : Table} → reading L stored t ≡ accepted k → length (task_bytes k.header.form (rewritten k.task)) ≤ length t
-  result-length {k} e = omega (arith, rewritten-shorter k.task k.header.form, reading-length L stored t e)
+  result_length : {k : Table} → reading L stored t ≡ accepted k → length (task_bytes k.header.form (rewritten k.task)) ≤ length t
+  result_length {k} e = omega (arith, rewritten_shorter k.task k.header.form, reading_length L stored t e)
 
   -- o is what the rewriter writes: the table is taken, and o is the print of the rewritten task
   pub record Wrote (o : List ℕ) : Type 0 where
@@ -58,80 +58,80 @@ module _ (L : Limits) (t : List ℕ) where
         go (refused r) read = λ same. absurd (turns_no same)
 
     -- it writes the same of a table whatever the room
-    pub wrote-is : {k : Table} → reading L stored t ≡ accepted k → {o : List ℕ} → rewrote L t size ≡ writes o → o ≡ task_bytes k.header.form (rewritten k.task)
-    wrote-is {k} read e =
+    pub wrote_is : {k : Table} → reading L stored t ≡ accepted k → {o : List ℕ} → rewrote L t size ≡ writes o → o ≡ task_bytes k.header.form (rewritten k.task)
+    wrote_is {k} read e =
         let w = wrote e in
         w.is ∙ ap (λ (n : Table). task_bytes n.header.form (rewritten n.task)) (accepted_one (sym w.read ∙ read))
 
     -- what it writes is no longer than the table
-    pub rewrote-length : {o : List ℕ} → rewrote L t size ≡ writes o → length o ≤ length t
-    rewrote-length e = let w = wrote e in subst (λ (l : List ℕ). length l ≤ length t) (sym w.is) (result-length w.read)
+    pub rewrote_length : {o : List ℕ} → rewrote L t size ≡ writes o → length o ≤ length t
+    rewrote_length e = let w = wrote e in subst (λ (l : List ℕ). length l ≤ length t) (sym w.is) (result_length w.read)
 
   -- "drops such moves and renumbers the others", and keeps everything else byte for byte: the table is its head's kind, P and V, the number of
   -- its moves, these, and its goal and end; what is written is the same with the moves that do something, and their number
   pub record SameBytes (o : List ℕ) : Type 0 where
     pub table : Table
     pub kind : ℕ
-    pub goalAndEnd : List ℕ
-    pub before : t ≡ (kind ∷ table.task.props ∷ table.task.vars ∷ length table.task.moves ∷ moves_bytes table.task.moves) ++ goalAndEnd
+    pub goal_and_end : List ℕ
+    pub before : t ≡ (kind ∷ table.task.props ∷ table.task.vars ∷ length table.task.moves ∷ moves_bytes table.task.moves) ++ goal_and_end
     pub after :
         o
         ≡ (kind ∷ table.task.props ∷ table.task.vars ∷ length (active_moves table.task.moves) ∷ moves_bytes (active_moves table.task.moves))
-        ++ goalAndEnd
+        ++ goal_and_end
 
-  pub byte-for-byte : AllBytes t → (size : ℕ) {o : List ℕ} → rewrote L t size ≡ writes o → SameBytes o
+  pub byte_for_byte : AllBytes t → (size : ℕ) {o : List ℕ} → rewrote L t size ≡ writes o → SameBytes o
   unfolding task_bytes rewritten
-  byte-for-byte bytes size e =
+  byte_for_byte bytes size e =
       let w = wrote size e in
       let k = w.table.task in
       record {
         table = w.table;
         kind = code_of (head w.table.header.form);
-        goalAndEnd = code_of open_goal ∷ (items_bytes k.goal ++ (code_of end_table ∷ []));
+        goal_and_end = code_of open_goal ∷ (items_bytes k.goal ++ (code_of end_table ∷ []));
         before =
-            reading-canonical L stored t w.read bytes
+            reading_canonical L stored t w.read bytes
             ∙ split w.table.header.form k.props k.vars k.moves k.goal;
         after = w.is ∙ split w.table.header.form k.props k.vars (active_moves k.moves) k.goal;
       }
 
   -- so its answer is at most the table's length
-  pub rewrite-length : (out : List ℕ) (n : ℕ) → rewrite_answer L t out ≡ write.Written n → n ≤ length t
+  pub rewrite_length : (out : List ℕ) (n : ℕ) → rewrite_answer L t out ≡ write.Written n → n ≤ length t
   unfolding rewrite_answer write_answer
-  rewrite-length out n e = go (rewrote L t (length out)) refl e
+  rewrite_length out n e = go (rewrote L t (length out)) refl e
     where
       go : (o : Output) → rewrote L t (length out) ≡ o → write_answer o ≡ write.Written n → n ≤ length t
-      go (writes o) is answer = let same : length o ≡ n = cc in omega (arith, same, rewrote-length (length out) is)
+      go (writes o) is answer = let same : length o ≡ n = cc in omega (arith, same, rewrote_length (length out) is)
       go (turns r) is answer = let z : ◌≡◌ {A = ℕ} 0 1 = cc in absurd (omega arith)
 
   -- with an output of the table's length nothing is judged but the table
-  pub rewrote-whole : (size : ℕ) → length t ≤ size → rewrote L t size ≡ rewrite_of (reading L stored t)
+  pub rewrote_whole : (size : ℕ) → length t ≤ size → rewrote L t size ≡ rewrite_of (reading L stored t)
   unfolding rewrote rewrite_of fitted
-  rewrote-whole size room = go (reading L stored t) refl
+  rewrote_whole size room = go (reading L stored t) refl
     where
       go : (v : Verdict) → reading L stored t ≡ v → fitted size (rewrite_of v) ≡ rewrite_of v
-      go (accepted k) e = fitted-whole size (task_bytes k.header.form (rewritten k.task)) (omega (arith, result-length e))
+      go (accepted k) e = fitted_whole size (task_bytes k.header.form (rewritten k.task)) (omega (arith, result_length e))
       go (refused r) e = refl
 
   -- so that "a short output is 13" never comes then
-  pub never-13 : (out : List ℕ) → length t ≤ length out → {r : Refusal} → rewrite_answer L t out ≡ write.Refused r → r.number ≡ 13 → ⊥
+  pub never_13 : (out : List ℕ) → length t ≤ length out → {r : Refusal} → rewrite_answer L t out ≡ write.Refused r → r.number ≡ 13 → ⊥
   unfolding rewrite_answer rewrite_of write_answer
-  never-13 out room {r} e is = go (reading L stored t) refl (ap write_answer (sym (rewrote-whole (length out) room)) ∙ e)
+  never_13 out room {r} e is = go (reading L stored t) refl (ap write_answer (sym (rewrote_whole (length out) room)) ∙ e)
     where
       go : (v : Verdict) → reading L stored t ≡ v → write_answer (rewrite_of v) ≡ write.Refused r → ⊥
       go (accepted k) read answer = let z : ◌≡◌ {A = ℕ} 0 1 = cc in omega arith
-      go (refused q) read answer = let same : q ≡ r = cc in omega (arith, stored-numbers L t read, ap (λ (x : Refusal). x.number) same)
+      go (refused q) read answer = let same : q ≡ r = cc in omega (arith, stored_numbers L t read, ap (λ (x : Refusal). x.number) same)
 
   -- "makes all checks but 16": no answer has this number
-  pub answers-no-16 : (out : List ℕ) {r : Refusal} → rewrite_answer L t out ≡ write.Refused r → r.number ≡ 16 → ⊥
+  pub answers_no_16 : (out : List ℕ) {r : Refusal} → rewrite_answer L t out ≡ write.Refused r → r.number ≡ 16 → ⊥
   unfolding rewrite_answer rewrote rewrite_of write_answer fitted
-  answers-no-16 out {r} e is = go (reading L stored t) refl e
+  answers_no_16 out {r} e is = go (reading L stored t) refl e
     where
       go : (v : Verdict) → reading L stored t ≡ v → write_answer (fitted (length out) (rewrite_of v)) ≡ write.Refused r → ⊥
       go (accepted k) read =
           fitted_cases (length out) (task_bytes k.header.form (rewritten k.task)) (λ (o : Output). write_answer o ≡ write.Refused r → ⊥)
           (λ whole answer. let z : ◌≡◌ {A = ℕ} 0 1 = cc in omega arith)
           (λ short answer. let same : record { number = 13; place = 0 } ≡ r = cc in omega (arith, ap (λ (x : Refusal). x.number) same))
-      go (refused q) read = λ answer. let same : q ≡ r = cc in omega (arith, stored-numbers L t read, ap (λ (x : Refusal). x.number) same)
+      go (refused q) read = λ answer. let same : q ≡ r = cc in omega (arith, stored_numbers L t read, ap (λ (x : Refusal). x.number) same)
 
 -- a refusal's number and place are small, and so is a length
 pub rewrite_small : (t out : List ℕ) → WriteSmall 64_000 (rewrite_answer paper t out)
@@ -141,5 +141,5 @@ rewrite_small t out =
     (fitted_small 64_000 (length out) (rewrite_of (reading paper stored t)) (go (reading paper stored t) refl (table_refused stored t)))
   where
     go : (v : Verdict) → reading paper stored t ≡ v → IfRefused (Small place_limit) v → OutputSmall 64_000 (rewrite_of v)
-    go (accepted k) e h = omega (arith, result-length paper t e, reading-limit paper stored t e, limit_most stored t)
+    go (accepted k) e h = omega (arith, result_length paper t e, reading_limit paper stored t e, limit_most stored t)
     go (refused r) e h = h

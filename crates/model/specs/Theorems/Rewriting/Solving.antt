@@ -136,11 +136,11 @@ old_number_lem (m ∷ ms) (suc n) h = go (active m) refl h (old_number_lem ms n)
 
 module _ {run : Block → State → State} (inert : Inert run) (k : Task) where
   -- "A list with those moves dropped and the rest renumbered solves the rewritten table whenever the old list solved the old one."
-  pub dropped-solves : (bs : List ℕ) (s : State) → Solves run k s bs → Solves run (rewritten k) s (renumbered k bs)
+  pub dropped_solves : (bs : List ℕ) (s : State) → Solves run k s bs → Solves run (rewritten k) s (renumbered k bs)
   unfolding renumbered rewritten
-  dropped-solves [] s h = h
-  dropped-solves (b ∷ bs) s h =
-      go (active (move_at k b)) refl (dropped-solves bs (run (move_at k b) s) h.2)
+  dropped_solves [] s h = h
+  dropped_solves (b ∷ bs) s h =
+      go (active (move_at k b)) refl (dropped_solves bs (run (move_at k b) s) h.2)
     where
       go :
           (c : Bool) → active (move_at k b) ≡ c
@@ -153,15 +153,15 @@ module _ {run : Block → State → State} (inert : Inert run) (k : Task) where
       go false e later = subst (λ (t : State). Solves run (rewritten k) t (renumbered k bs)) (inert.same (move_at k b) s e) later
 
   -- "Any list that solves the new table, numbered back, solves the old."
-  pub back-solves : (bs : List ℕ) (s : State) → Solves run (rewritten k) s bs → Solves run k s (numbered_back k bs)
+  pub back_solves : (bs : List ℕ) (s : State) → Solves run (rewritten k) s bs → Solves run k s (numbered_back k bs)
   unfolding numbered_back rewritten
-  back-solves [] s h = h
-  back-solves (n ∷ bs) s h =
+  back_solves [] s h = h
+  back_solves (n ∷ bs) s h =
       let r = old_number_lem k.moves n h.0 in
       let same : move_at k (old_number k.moves n) ≡ move_at (rewritten k) n = unfold move_at in r.same in (
         r.within,
         subst (λ (m : Block). T (applicable s m)) (sym same) h.1,
-        subst (λ (m : Block). Solves run k (run m s) (numbered_back k bs)) (sym same) (back-solves bs (run (move_at (rewritten k) n) s) h.2),
+        subst (λ (m : Block). Solves run k (run m s) (numbered_back k bs)) (sym same) (back_solves bs (run (move_at (rewritten k) n) s) h.2),
       )
 
 -- numbering back is the inverse of renumbering

@@ -29,14 +29,14 @@ use Rattle.model.specs.Calls.{read_of, read_answer, part_of, no_block, block_par
 use Rattle.model.specs.Blocking.{blocking_answer}
 use Rattle.model.specs.Exports.{block_answer}
 use Rattle.model.specs.Theorems.Reading.WellFormed.{TaskOk, VarsOk}
-use Rattle.model.specs.Theorems.Laws.Searching.{firstFrom-cases}
+use Rattle.model.specs.Theorems.Laws.Searching.{first_from_cases}
 use Rattle.model.specs.Theorems.Reading.States.{length_state_bytes}
-use Rattle.model.specs.Theorems.Reading.Accepted.{reading-ok, reading-head, reading-limit, reading_task}
-use Rattle.model.specs.Theorems.Printing.Outputs.{fitted_cases, plan-cases}
+use Rattle.model.specs.Theorems.Reading.Accepted.{reading_ok, reading_head, reading_limit, reading_task}
+use Rattle.model.specs.Theorems.Printing.Outputs.{fitted_cases, plan_cases}
 use Rattle.model.specs.Theorems.Reading.Places.{Full, Small, IfSome, IfRefused, small_wider, refused_wider, reading_refused, state_refused}
 use Rattle.model.specs.Theorems.NormalForm.Print.{written_short, normal_fits}
-use Rattle.model.specs.Theorems.Blocking.Calls.{blocks-inside, answers-cases}
-use Rattle.model.specs.Theorems.Sizes.Plans.{reported-most, records-most, helpfulMoves-small}
+use Rattle.model.specs.Theorems.Blocking.Calls.{blocks_inside, answers_cases}
+use Rattle.model.specs.Theorems.Sizes.Plans.{reported_most, records_most, helpful_moves_small}
 
 -- A place stands at most three bytes behind the end of a table, which has at most 64,000 bytes; places of states (at most 184)
 -- and layers (at most 3,201) are below that.
@@ -82,8 +82,8 @@ table_small :
     → (k.header.props ≤ 120) × (k.header.vars ≤ 32) × (k.header.moves ≤ 64)
 unfolding paper
 table_small w t k e =
-    let ok : TaskOk paper k.header.form k.task = reading-ok paper w t e in
-    let counts = reading-head paper w t e in (
+    let ok : TaskOk paper k.header.form k.task = reading_ok paper w t e in
+    let counts = reading_head paper w t e in (
       omega (arith, ok.props, counts.0),
       omega (arith, vars_small k.header.form k.task.vars ok.vars, counts.1),
       omega (arith, ok.moves, counts.2),
@@ -209,7 +209,7 @@ BuiltSmall k s (stopped n m) = (1 ≤ n) × (n ≤ last_number) × (m ≤ report
 build_small : (k : Task) (s : State) (size : ℕ) → BuiltSmall k s (build paper k s size)
 unfolding build stop_at
 build_small k s size =
-    firstFrom-cases (refuses paper k s size) (λ (o : Option ℕ). BuiltSmall k s (stop_at paper k s o (outcome k s))) 0 (suc (reported (outcome k s)))
+    first_from_cases (refuses paper k s size) (λ (o : Option ℕ). BuiltSmall k s (stop_at paper k s o (outcome k s))) 0 (suc (reported (outcome k s)))
     (λ t low high bad before. ((stop_small (wrong15 paper k s t)).0, (stop_small (wrong15 paper k s t)).1, omega arith))
     (λ never. refl)
 
@@ -228,31 +228,31 @@ pub decide_small : (t bs : List ℕ) (layers : List ℤ) → DecideSmall (decide
 unfolding decide_answer decide_of decided reported
 decide_small t bs layers = go (prepared paper t bs) (prepared_small t bs)
   where
-    by-built : (k : Task) (s : State) → TaskOk paper normal k → (b : Built) → BuiltSmall k s b → DecideSmall (decided b)
-    by-built k s ok (answered (reached m)) h = (refl, subst (λ (o : Outcome). reported o ≤ 3201) (sym h) (reported-most ok s))
-    by-built k s ok (answered (exhausted m)) h = subst (λ (o : Outcome). reported o ≤ 3201) (sym h) (reported-most ok s)
-    by-built k s ok (stopped n m) h = record { positive = h.0; number = h.1; place = omega (arith, h.2, reported-most ok s) }
+    by_built : (k : Task) (s : State) → TaskOk paper normal k → (b : Built) → BuiltSmall k s b → DecideSmall (decided b)
+    by_built k s ok (answered (reached m)) h = (refl, subst (λ (o : Outcome). reported o ≤ 3201) (sym h) (reported_most ok s))
+    by_built k s ok (answered (exhausted m)) h = subst (λ (o : Outcome). reported o ≤ 3201) (sym h) (reported_most ok s)
+    by_built k s ok (stopped n m) h = record { positive = h.0; number = h.1; place = omega (arith, h.2, reported_most ok s) }
 
     go : (r : Ready) → ReadySmall r → DecideSmall (decide_of paper (length layers) r)
-    go (ready k s) ok = by-built k s ok (build paper k s (length layers)) (build_small k s (length layers))
+    go (ready k s) ok = by_built k s ok (build paper k s (length layers)) (build_small k s (length layers))
     go (unready r) small = small
 
 pub plan_small : (t bs : List ℕ) (layers : List ℤ) (out : List ℕ) → PlanSmall (plan_answer paper t bs layers out)
 unfolding plan_answer plan_of planned reported
 plan_small t bs layers out = go (prepared paper t bs) (prepared_small t bs)
   where
-    by-built : (k : Task) (s : State) → TaskOk paper normal k → (b : Built) → BuiltSmall k s b → PlanSmall (planned k s b)
-    by-built k s ok (answered (reached m)) h =
-        let most : m ≤ 3201 = subst (λ (o : Outcome). reported o ≤ 3201) (sym h) (reported-most ok s) in
-        (refl, most, records-most ok s m most, helpfulMoves-small ok s m)
-    by-built k s ok (answered (exhausted m)) h =
-        (subst (λ (o : Outcome). reported o ≤ 3201) (sym h) (reported-most ok s), lit≤ tt, lit≤ tt)
-    by-built k s ok (stopped n m) h = record { positive = h.0; number = h.1; place = omega (arith, h.2, reported-most ok s) }
+    by_built : (k : Task) (s : State) → TaskOk paper normal k → (b : Built) → BuiltSmall k s b → PlanSmall (planned k s b)
+    by_built k s ok (answered (reached m)) h =
+        let most : m ≤ 3201 = subst (λ (o : Outcome). reported o ≤ 3201) (sym h) (reported_most ok s) in
+        (refl, most, records_most ok s m most, helpful_moves_small ok s m)
+    by_built k s ok (answered (exhausted m)) h =
+        (subst (λ (o : Outcome). reported o ≤ 3201) (sym h) (reported_most ok s), lit≤ tt, lit≤ tt)
+    by_built k s ok (stopped n m) h = record { positive = h.0; number = h.1; place = omega (arith, h.2, reported_most ok s) }
 
     go : (r : Ready) → ReadySmall r → PlanSmall (plan_of paper (length layers) (length out) r)
     go (ready k s) ok =
         let b = build paper k s (length layers) in
-        plan-cases (length out) k s b PlanSmall (λ whole. by-built k s ok b (build_small k s (length layers)))
+        plan_cases (length out) k s b PlanSmall (λ whole. by_built k s ok b (build_small k s (length layers)))
         (record { positive = lit≤ tt; number = lit≤ tt; place = lit≤ tt })
     go (unready r) small = small
 
@@ -265,10 +265,10 @@ BlockingSmall (blocking.Refused r) = Small place_limit r
 -- refusals are those of decide
 pub blocking_small : (t bs : List ℕ) (layers : List ℤ) → BlockingSmall (blocking_answer paper t bs layers)
 blocking_small t bs layers =
-    answers-cases t bs layers (λ d b. DecideSmall d → BlockingSmall b) (λ m small. tt)
+    answers_cases t bs layers (λ d b. DecideSmall d → BlockingSmall b) (λ m small. tt)
     (λ d o a small.
-    let inside = blocks-inside a in
-    (inside.0, omega (arith, inside.1, reading-limit paper (only normal) t a.read, limit_most (only normal) t)))
+    let inside = blocks_inside a in
+    (inside.0, omega (arith, inside.1, reading_limit paper (only normal) t a.read, limit_most (only normal) t)))
     (λ r small. small) (decide_small t bs layers)
 
 -- ---- campaign
@@ -287,13 +287,13 @@ on_normal P run back t room f g = go (normalised paper t room) (normalised_small
     go (turns r) h = g r h
 
 module _ (t bs normalOut : List ℕ) (layers : List ℤ) where
-  pub campaign-decision-small : DecideSmall (campaign_decision paper t bs normalOut layers)
+  pub campaign_decision_small : DecideSmall (campaign_decision paper t bs normalOut layers)
   unfolding campaign_decision
-  campaign-decision-small = on_normal DecideSmall _ _ t (length normalOut) (λ nb. decide_small _ _ _) (λ r s. s)
+  campaign_decision_small = on_normal DecideSmall _ _ t (length normalOut) (λ nb. decide_small _ _ _) (λ r s. s)
 
-  pub campaign-plan-small : (out : List ℕ) → PlanSmall (campaign_plan paper t bs normalOut layers out)
+  pub campaign_plan_small : (out : List ℕ) → PlanSmall (campaign_plan paper t bs normalOut layers out)
   unfolding campaign_plan
-  campaign-plan-small out = on_normal PlanSmall _ _ t (length normalOut) (λ nb. plan_small _ _ _ _) (λ r s. s)
+  campaign_plan_small out = on_normal PlanSmall _ _ t (length normalOut) (λ nb. plan_small _ _ _ _) (λ r s. s)
 
 -- ---- the block reader
 
@@ -320,7 +320,7 @@ part_short t b = go (reading paper both t) refl
     chosen k h false = omega arith
 
     go : (v : Verdict) → reading paper both t ≡ v → length (part_of t b v) ≤ 64_000
-    go (accepted k) e = chosen k (omega (arith, reading-limit paper both t e, limit_most both t)) (leb b k.header.moves)
+    go (accepted k) e = chosen k (omega (arith, reading_limit paper both t e, limit_most both t)) (leb b k.header.moves)
     go (refused r) e = omega arith
 
 pub block_small : (t : List ℕ) (b : ℕ) → WriteSmall 64_000 (block_answer (block_part paper t b) (block_refusal paper t b))

@@ -130,15 +130,15 @@ module _ {A : Type 0} (P : A → Type 0) where
 
 module _ {f : Form} {vars : ℕ} where
   -- the first n of them, and those behind
-  pub few-take : (n : ℕ) {ts : List Term} → FewTerms f vars ts → FewTerms f vars (take n ts)
-  few-take n {ts} few =
+  pub few_take : (n : ℕ) {ts : List Term} → FewTerms f vars ts → FewTerms f vars (take n ts)
+  few_take n {ts} few =
       record {
         terms = All-take (TermOk paper f vars) n ts few.terms;
         few = omega (arith, few.few, length-take n ts);
       }
 
-  pub few-drop : (n : ℕ) {ts : List Term} → FewTerms f vars ts → FewTerms f vars (drop n ts)
-  few-drop n {ts} few =
+  pub few_drop : (n : ℕ) {ts : List Term} → FewTerms f vars ts → FewTerms f vars (drop n ts)
+  few_drop n {ts} few =
       record {
         terms = All-drop (TermOk paper f vars) n ts few.terms;
         few = omega (arith, few.few, length-drop n ts);

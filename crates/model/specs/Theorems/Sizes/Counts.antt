@@ -50,42 +50,42 @@ step_size_most unbounded h = omega arith
 
 module _ {b : ℕ} {z : ℤ} (large : 1_000_000_000_000 ≤ b) (near : Between 1_000_000 b z) where
   -- "value ≥ target T (:=) or > 0 (+=)"
-  pub demand-between : (d : Kind) → Between 1_000_000 b (demand d z)
+  pub demand_between : (d : Kind) → Between 1_000_000 b (demand d z)
   unfolding demand
-  demand-between assign = near
-  demand-between increase = between_wider {a = 1} {b = 1} (omega arith) (omega arith) (size_between (pos 1) (omega arith))
-  demand-between decrease = between_wider {a = 1} {b = 1} (omega arith) (omega arith) (size_between (pos 1) (omega arith))
+  demand_between assign = near
+  demand_between increase = between_wider {a = 1} {b = 1} (omega arith) (omega arith) (size_between (pos 1) (omega arith))
+  demand_between decrease = between_wider {a = 1} {b = 1} (omega arith) (omega arith) (size_between (pos 1) (omega arith))
 
   -- T − c or 1 − c, for an effect "with value sum + c": what its sum has to reach
-  pub wanted-between :
+  pub wanted_between :
       {vars : ℕ} {e : Effect}
       → EffectOk paper normal vars e
       → Between 2_000_000 (b + 1_000_000) (demand e.kind z -ℤ e.base)
   unfolding paper
-  wanted-between {e} ok = between_diff (demand-between e.kind) (size_between e.base ok.base)
+  wanted_between {e} ok = between_diff (demand_between e.kind) (size_between e.base ok.base)
 
   -- its size
-  pub wanted-size :
+  pub wanted_size :
       {vars : ℕ} {e : Effect}
       → b ≤ 30_000_000_000_000
       → EffectOk paper normal vars e
       → nat_abs (demand e.kind z -ℤ e.base) ≤ 40_000_000_000_000
-  wanted-size most ok = between_size 40_000_000_000_000 (omega arith) (omega arith) (wanted-between ok)
+  wanted_size most ok = between_size 40_000_000_000_000 (omega arith) (omega arith) (wanted_between ok)
 
   module _ {vars v : ℕ} {s : State} (start : SmallState vars s) (h : v < vars) where
     -- "T − state value of v"
-    pub way-between : Between 2_000_000 (b + 1_000_000) (z -ℤ s.val v)
-    way-between = between_diff near (size_between (s.val v) (start.values v h))
+    pub way_between : Between 2_000_000 (b + 1_000_000) (z -ℤ s.val v)
+    way_between = between_diff near (size_between (s.val v) (start.values v h))
 
     -- its size
-    pub way-size : b ≤ 30_000_000_000_000 → nat_abs (z -ℤ s.val v) ≤ 40_000_000_000_000
-    way-size most = between_size 40_000_000_000_000 (omega arith) (omega arith) way-between
+    pub way_size : b ≤ 30_000_000_000_000 → nat_abs (z -ℤ s.val v) ≤ 40_000_000_000_000
+    way_size most = between_size 40_000_000_000_000 (omega arith) (omega arith) way_between
 
     -- "Count: 1; for += (T − state value of v)/d rounded up"
-    pub runs-most : (d : Kind) (x : Value) → T (reaches x (demand d z)) → runs d z (s.val v) x ≤ b + 1_000_000
+    pub runs_most : (d : Kind) (x : Value) → T (reaches x (demand d z)) → runs d z (s.val v) x ≤ b + 1_000_000
     unfolding runs demand
-    runs-most assign x t = omega arith
-    runs-most increase x t =
+    runs_most assign x t = omega arith
+    runs_most increase x t =
         up_most (ceiling (z -ℤ s.val v) (step_size x)) (b + 1_000_000)
-        (ceiling_between (z -ℤ s.val v) (step_size x) (step_size_positive x t) way-between).to
-    runs-most decrease x t = omega arith
+        (ceiling_between (z -ℤ s.val v) (step_size x) (step_size_positive x t) way_between).to
+    runs_most decrease x t = omega arith

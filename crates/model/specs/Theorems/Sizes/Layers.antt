@@ -12,9 +12,9 @@ use Rattle.model.specs.Memory.{encode, too_large, wrong15}
 use Rattle.model.specs.Plan.{low_value, low}
 use Rattle.model.specs.Theorems.Reading.WellFormed.{All, TermOk, EffectOk, ItemOk, BlockOk, TaskOk}
 use Rattle.model.specs.Theorems.Laws.Booleans.{not-false, false_not, cond_cases}
-use Rattle.model.specs.Theorems.Laws.Searching.{All-map, anyBelow-at, anyBelow-cases}
+use Rattle.model.specs.Theorems.Laws.Searching.{All-map, any_below_at, any_below_cases}
 use Rattle.model.specs.Theorems.Layers.Order.{◌⊑◌, ⊑-finite, highest_cases}
-use Rattle.model.specs.Theorems.Layers.NextLayer.{effect_on_cases, raised-cases, move_ok, layer_mono}
+use Rattle.model.specs.Theorems.Layers.NextLayer.{effect_on_cases, raised_cases, move_ok, layer_mono}
 use Rattle.model.specs.Theorems.Sizes.Bounds.{Between, between_wider, between_size, size_between, between_sum, product_between, sum_between, FewTerms, sum_few}
 use Rattle.model.specs.Theorems.Sizes.States.{SmallState}
 
@@ -67,7 +67,7 @@ layer_small k s t start right =
     record {
       values =
           λ v h. go ((layer_at k s t).val v) ((layer_mono k.moves s {t = 0} {u = t} (omega arith)).val v)
-          (λ large. false_not right (anyBelow-at (λ u. too_large paper ((layer_at k s t).val u)) k.vars v h large))
+          (λ large. false_not right (any_below_at (λ u. too_large paper ((layer_at k s t).val u)) k.vars v h large))
           (start.values v h);
     }
   where
@@ -91,7 +91,7 @@ pub layer_zero_passes : (k : Task) (s : State) → SmallState k.vars s → wrong
 unfolding layer_at layer layer_of wrong15 too_large paper
 layer_zero_passes k s start =
     not-false (wrong15 paper k s 0)
-    (λ wrong. anyBelow-cases (λ u. too_large paper ((layer_at k s 0).val u)) k.vars wrong
+    (λ wrong. any_below_cases (λ u. too_large paper ((layer_at k s 0).val u)) k.vars wrong
     (λ v h large.
     let above : pos 1_000_000_000_000 <ℤ s.val v = lt_z_yes large in
     omega (zlin, size_above (s.val v) 1_000_000 (start.values v h))))
@@ -123,9 +123,9 @@ layer_product_between {t} ok near = product_between {m = 1000} t.weight ok.weigh
 
 module _ {vars : ℕ} {l : Layer} {s : State} (small : SmallLayer vars l) (start : SmallState vars s) where
   -- "layer values for finite and state values for other unbounded ones"
-  pub low-between : (v : ℕ) → v < vars → Between 1_000_000 1_000_000_000_000 (low l s v)
+  pub low_between : (v : ℕ) → v < vars → Between 1_000_000 1_000_000_000_000 (low l s v)
   unfolding low low_value
-  low-between v h = go (l.val v) (small.values v h)
+  low_between v h = go (l.val v) (small.values v h)
     where
       go :
           (x : Value)
@@ -135,56 +135,56 @@ module _ {vars : ℕ} {l : Layer} {s : State} (small : SmallLayer vars l) (start
       go unbounded i = between_wider (omega arith) (omega arith) (size_between (s.val v) (start.values v h))
 
   -- their size
-  pub low-size : (v : ℕ) → v < vars → nat_abs (low l s v) ≤ 1_000_000_000_000
-  low-size v h = between_size 1_000_000_000_000 (omega arith) (omega arith) (low-between v h)
+  pub low_size : (v : ℕ) → v < vars → nat_abs (low l s v) ≤ 1_000_000_000_000
+  low_size v h = between_size 1_000_000_000_000 (omega arith) (omega arith) (low_between v h)
 
   -- a sum of n terms with those values
-  pub low-terms-between :
+  pub low_terms_between :
       (ts : List Term)
       → All (TermOk paper normal vars) ts
       → Between (length ts * 1_000_000_000) (length ts * 1_000_000_000_000_000) (sum (low l s) ts)
-  low-terms-between ts ok =
+  low_terms_between ts ok =
       sum_between 1_000_000_000 1_000_000_000_000_000 (low l s) ts
-      (All-map {P = TermOk paper normal vars} ts (λ t t-ok. layer_product_between t-ok (low-between t.var t-ok.var)) ok)
+      (All-map {P = TermOk paper normal vars} ts (λ t t-ok. layer_product_between t-ok (low_between t.var t-ok.var)) ok)
 
   -- a sum of a table with those values, or a part of one
-  pub low-sum-between :
+  pub low_sum_between :
       {ts : List Term}
       → FewTerms normal vars ts
       → Between 8_000_000_000 8_000_000_000_000_000 (sum (low l s) ts)
-  low-sum-between {ts} few =
-      between_wider (omega (arith, few.few)) (omega (arith, few.few)) (low-terms-between ts few.terms)
+  low_sum_between {ts} few =
+      between_wider (omega (arith, few.few)) (omega (arith, few.few)) (low_terms_between ts few.terms)
 
   -- its size
-  pub low-sum-size : {ts : List Term} → FewTerms normal vars ts → nat_abs (sum (low l s) ts) ≤ 8_000_000_000_000_000
-  low-sum-size few = between_size 8_000_000_000_000_000 (omega arith) (omega arith) (low-sum-between few)
+  pub low_sum_size : {ts : List Term} → FewTerms normal vars ts → nat_abs (sum (low l s) ts) ≤ 8_000_000_000_000_000
+  low_sum_size few = between_size 8_000_000_000_000_000 (omega arith) (omega arith) (low_sum_between few)
 
   -- a sum in the layer, or a part of one
-  pub layerSum-between :
+  pub layer_sum_between :
       {ts : List Term}
       → FewTerms normal vars ts
       → FiniteBetween 8_000_000_000 8_000_000_000_000_000 (layer_sum l.val ts)
-  layerSum-between {ts} few = go (layer_sum l.val ts) (layer_sum_low l s ts)
+  layer_sum_between {ts} few = go (layer_sum l.val ts) (layer_sum_low l s ts)
     where
       go : (x : Value) → IfFinite (λ (z : ℤ). z ≡ sum (low l s) ts) x → FiniteBetween 8_000_000_000 8_000_000_000_000_000 x
-      go (finite z) e = record { if_finite = rw e (low-sum-between few) }
+      go (finite z) e = record { if_finite = rw e (low_sum_between few) }
       go unbounded e = record { if_finite = tt }
 
   -- its size where it is finite
-  pub layerSum-size :
+  pub layer_sum_size :
       {ts : List Term} {z : ℤ}
       → FewTerms normal vars ts
       → layer_sum l.val ts ≡ finite z
       → nat_abs z ≤ 8_000_000_000_000_000
-  layerSum-size few e = finite_size 8_000_000_000_000_000 (omega arith) (omega arith) (layerSum-between few) e
+  layer_sum_size few e = finite_size 8_000_000_000_000_000 (omega arith) (omega arith) (layer_sum_between few) e
 
   -- an effect's value in the layer
-  pub layerValue-between :
+  pub layer_value_between :
       {e : Effect}
       → EffectOk paper normal vars e
       → FiniteBetween 8_001_000_000 8_000_000_001_000_000 (layer_value l e)
   unfolding layer_value plus paper
-  layerValue-between {e} ok = go (layer_sum l.val e.terms) (layerSum-between (sum_few ok.sum))
+  layer_value_between {e} ok = go (layer_sum l.val e.terms) (layer_sum_between (sum_few ok.sum))
     where
       go :
           (x : Value)
@@ -194,24 +194,24 @@ module _ {vars : ℕ} {l : Layer} {s : State} (small : SmallLayer vars l) (start
       go unbounded i = record { if_finite = tt }
 
   -- its size where it is finite
-  pub layerValue-size :
+  pub layer_value_size :
       {e : Effect} {z : ℤ}
       → EffectOk paper normal vars e
       → layer_value l e ≡ finite z
       → nat_abs z ≤ 8_000_000_001_000_000
-  layerValue-size ok e = finite_size 8_000_000_001_000_000 (omega arith) (omega arith) (layerValue-between ok) e
+  layer_value_size ok e = finite_size 8_000_000_001_000_000 (omega arith) (omega arith) (layer_value_between ok) e
 
   -- what a move's effect offers a variable, before the larger is taken
-  pub offered-between :
+  pub offered_between :
       {props : ℕ} (v : ℕ) (b : Block)
       → v < vars
       → BlockOk paper normal props vars b
       → FiniteBetween 8_001_000_000 8_000_000_001_000_000 (offered l v (effect_on v b))
   unfolding offered offer
-  offered-between {props} v b h ok =
+  offered_between {props} v b h ok =
       effect_on_cases (λ o. FiniteBetween 8_001_000_000 8_000_000_001_000_000 (offered l v o))
       (ItemOk paper normal props vars) v b ok.items
-      old (λ e at-v e-ok. by_kind e.kind (layerValue-between e-ok))
+      old (λ e at-v e-ok. by_kind e.kind (layer_value_between e-ok))
     where
       old : FiniteBetween 8_001_000_000 8_000_000_001_000_000 (l.val v)
       old = finite_wider (omega arith) (omega arith) (small.values v h)
@@ -230,15 +230,15 @@ module _
     {k : Task} {l : Layer} {s : State} (ok : TaskOk paper normal k)
     (small : SmallLayer k.vars l) (start : SmallState k.vars s) (v : ℕ) (h : v < k.vars) where
   -- a finite value of the next layer, before it is checked: far below 2^62 in size
-  pub next-between : FiniteBetween 8_001_000_000 8_000_000_001_000_000 ((next k.moves l).val v)
+  pub next_between : FiniteBetween 8_001_000_000 8_000_000_001_000_000 ((next k.moves l).val v)
   unfolding next
-  next-between =
-      raised-cases l v (FiniteBetween 8_001_000_000 8_000_000_001_000_000) k.moves
+  next_between =
+      raised_cases l v (FiniteBetween 8_001_000_000 8_000_000_001_000_000) k.moves
       (finite_wider (omega arith) (omega arith) (small.values v h))
-      (λ b lt u. offered-between small start v (get_or k.moves b []) h (move_ok ok b lt))
+      (λ b lt u. offered_between small start v (get_or k.moves b []) h (move_ok ok b lt))
 
   -- its size
-  pub next-size : {z : ℤ} → (next k.moves l).val v ≡ finite z → nat_abs z < 2 ^ 62
-  next-size {z} e =
-      let size = finite_size 8_000_000_001_000_000 (omega arith) (omega arith) next-between e in
+  pub next_size : {z : ℤ} → (next k.moves l).val v ≡ finite z → nat_abs z < 2 ^ 62
+  next_size {z} e =
+      let size = finite_size 8_000_000_001_000_000 (omega arith) (omega arith) next_between e in
       omega arith

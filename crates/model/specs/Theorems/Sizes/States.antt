@@ -50,8 +50,8 @@ normal_state_small {s} most start =
 
 module _ {vars : ℕ} {s : State} (start : SmallState vars s) where
   -- a sum in the state, or a part of one
-  pub state-sum-size : {f : Form} {ts : List Term} → FewTerms f vars ts → nat_abs (sum s.val ts) ≤ 8_000_000_000
-  state-sum-size {f} {ts} few =
+  pub state_sum_size : {f : Form} {ts : List Term} → FewTerms f vars ts → nat_abs (sum s.val ts) ≤ 8_000_000_000
+  state_sum_size {f} {ts} few =
       omega (
         arith,
         few.few,
@@ -60,32 +60,32 @@ module _ {vars : ℕ} {s : State} (start : SmallState vars s) where
       )
 
   -- an effect's value in the state
-  pub state-value-size : {f : Form} {e : Effect} → EffectOk paper f vars e → nat_abs (value s e) ≤ 8_001_000_000
+  pub state_value_size : {f : Form} {e : Effect} → EffectOk paper f vars e → nat_abs (value s e) ≤ 8_001_000_000
   unfolding value paper
-  state-value-size {e} ok =
-      omega (arith, abs_sum (sum s.val e.terms) e.base, state-sum-size (sum_few ok.sum), ok.base)
+  state_value_size {e} ok =
+      omega (arith, abs_sum (sum s.val e.terms) e.base, state_sum_size (sum_few ok.sum), ok.base)
 
-  changed-size :
+  changed_size :
       {f : Form} {e : Effect} {v : ℕ}
       → EffectOk paper f vars e
       → v < vars
       → (d : Kind)
       → nat_abs (changed d (s.val v) (value s e)) ≤ 8_002_000_000
   unfolding changed
-  changed-size {e} {v} ok h assign = omega (arith, state-value-size ok)
-  changed-size {e} {v} ok h increase =
-      omega (arith, abs_sum (s.val v) (value s e), start.values v h, state-value-size ok)
-  changed-size {e} {v} ok h decrease =
-      omega (arith, abs_sub (s.val v) (value s e), start.values v h, state-value-size ok)
+  changed_size {e} {v} ok h assign = omega (arith, state_value_size ok)
+  changed_size {e} {v} ok h increase =
+      omega (arith, abs_sum (s.val v) (value s e), start.values v h, state_value_size ok)
+  changed_size {e} {v} ok h decrease =
+      omega (arith, abs_sub (s.val v) (value s e), start.values v h, state_value_size ok)
 
   -- "a result beyond ±1,000,000": what a move makes of a variable, before it is checked
-  pub real-size :
+  pub real_size :
       {f : Form} {props v : ℕ} {b : Block}
       → BlockOk paper f props vars b
       → v < vars
       → nat_abs ((real b s).val v) ≤ 8_002_000_000
   unfolding real changed_by
-  real-size {f} {props} {v} {b} ok h =
+  real_size {f} {props} {v} {b} ok h =
       effect_on_cases (λ o. nat_abs (changed_by s v o) ≤ 8_002_000_000) (ItemOk paper f props vars) v b ok.items
       (omega (arith, start.values v h))
-      (λ e at-v e-ok. changed-size e-ok h e.kind)
+      (λ e at-v e-ok. changed_size e-ok h e.kind)

@@ -10,12 +10,12 @@ use Rattle.model.specs.Move.{State}
 use Rattle.model.specs.Layer.{Outcome, reached, exhausted, reported, outcome}
 use Rattle.model.specs.Memory.{layer_memory, room, wrong15, wrong14, refuses, overwrite, answered, stop_at, build, built_memory}
 use Rattle.model.specs.Theorems.Laws.Booleans.{not-false, or_right}
-use Rattle.model.specs.Theorems.Laws.Searching.{firstFrom-cases}
+use Rattle.model.specs.Theorems.Laws.Searching.{first_from_cases}
 use Rattle.model.specs.Theorems.Reading.WellFormed.{TaskOk}
-use Rattle.model.specs.Theorems.Layers.Building.{built-outcome}
+use Rattle.model.specs.Theorems.Layers.Building.{built_outcome}
 use Rattle.model.specs.Theorems.Layers.Memories.{Holds, size, memory_holds}
 use Rattle.model.specs.Theorems.Sizes.States.{SmallState}
-use Rattle.model.specs.Theorems.Sizes.Plans.{answered_passes, reported-most}
+use Rattle.model.specs.Theorems.Sizes.Plans.{answered_passes, reported_most}
 
 -- the bound on layers, (A + N + 1) × (N + 1), for 64 moves and 32 signed variables
 abbrev pub layer_limit : ℕ
@@ -46,10 +46,10 @@ answered_memory k s (exhausted t) = refl
 
 module _ {k : Task} (ok : TaskOk paper normal k) {s : State} (small : SmallState k.vars s) (old : List ℤ) {o : Outcome} (e : build paper k s (length old) ≡ answered o) where
   -- where the layers are built to the end, there was room for each of them
-  answered-room : (u : ℕ) → u ≤ reported (outcome k s) → wrong14 k (length old) u ≡ false
+  answered_room : (u : ℕ) → u ≤ reported (outcome k s) → wrong14 k (length old) u ≡ false
   unfolding build stop_at
-  answered-room u h =
-      firstFrom-cases (refuses paper k s (length old)) (λ f. stop_at paper k s f (outcome k s) ≡ answered o → wrong14 k (length old) u ≡ false) 0
+  answered_room u h =
+      first_from_cases (refuses paper k s (length old)) (λ f. stop_at paper k s f (outcome k s) ≡ answered o → wrong14 k (length old) u ≡ false) 0
       (suc (reported (outcome k s)))
       (λ t low high bad before stopped-is. cc)
       (λ never same. not-false (wrong14 k (length old) u)
@@ -57,23 +57,23 @@ module _ {k : Task} (ok : TaskOk paper normal k) {s : State} (small : SmallState
       e
 
   last : reported o ≡ reported (outcome k s)
-  last = ap reported (built-outcome paper k s (length old) o e)
+  last = ap reported (built_outcome paper k s (length old) o e)
 
   enough : size k s (suc (reported o)) ≤ length old
   unfolding wrong14 room
   enough =
-      let fits = ltb-false (length old) (k.props + length k.moves + k.vars * (reported o + 1)) (answered-room (reported o) (omega (arith, last))) in
+      let fits = ltb-false (length old) (k.props + length k.moves + k.vars * (reported o + 1)) (answered_room (reported o) (omega (arith, last))) in
       rw (add-one (reported o)) at fits
 
   -- what building leaves where it ends with an answer
-  pub answered-layers :
+  pub answered_layers :
       {props vars moves : ℕ} {mem : List ℤ}
       → k.props ≡ props
       → k.vars ≡ vars
       → length k.moves ≡ moves
       → mem ≡ overwrite (built_memory k s (answered o)) old
       → StoredLayers k s props vars moves (reported o) (steps_of o) mem
-  answered-layers p v a m =
+  answered_layers p v a m =
       record {
         ok = ok;
         small = small;
@@ -87,5 +87,5 @@ module _ {k : Task} (ok : TaskOk paper normal k) {s : State} (small : SmallState
             (memory_holds k s (suc (reported o)) (steps_of o) old enough);
         room = enough;
         right = λ u h. answered_passes k s (length old) e u (omega (arith, last));
-        bounded = omega (arith, last, reported-most ok s);
+        bounded = omega (arith, last, reported_most ok s);
       }

@@ -12,11 +12,11 @@ use Rattle.model.specs.Move.{State, sum}
 use Rattle.model.specs.Layer.{finite, Layer}
 use Rattle.model.specs.Plan.{least, Wants, no_wants, want_prop, want_value, low, want_finite, want_sum, want_item, want_block}
 use Rattle.model.specs.Theorems.Reading.WellFormed.{All, TermOk, ItemOk, BlockOk}
-use Rattle.model.specs.Theorems.Plans.Targets.{EachTarget, Each, each_map, noWants-each, wantProp-each, wantValue-each}
-use Rattle.model.specs.Theorems.Plans.Wanting.{wantFinite-cases, wantSum-cases, want_sum_nil, positive_size}
+use Rattle.model.specs.Theorems.Plans.Targets.{EachTarget, Each, each_map, no_wants_each, want_prop_each, want_value_each}
+use Rattle.model.specs.Theorems.Plans.Wanting.{want_finite_cases, want_sum_cases, want_sum_nil, positive_size}
 use Rattle.model.specs.Theorems.Sizes.Bounds.{Between, between_wider, between_size, between_diff, FewTerms, sum_few}
 use Rattle.model.specs.Theorems.Sizes.States.{SmallState}
-use Rattle.model.specs.Theorems.Sizes.Layers.{FiniteBetween, SmallLayer, layer_product_between, low-terms-between}
+use Rattle.model.specs.Theorems.Sizes.Layers.{FiniteBetween, SmallLayer, layer_product_between, low_terms_between}
 
 -- ---- wants with small targets
 
@@ -26,40 +26,40 @@ pub record SmallWants (high : ℕ) (w : Wants) : Type 0 where
 
 module _ {high : ℕ} where
   -- what that says of one target, and its size
-  pub target-between :
+  pub target_between :
       {w : Wants} {z : ℤ}
       → SmallWants high w
       → (v : ℕ)
       → w.target v ≡ least z
       → Between 9_000_000_000_000_000 high z
-  target-between h v e = subst (EachTarget (Between 9_000_000_000_000_000 high)) e (h.each.targets v)
+  target_between h v e = subst (EachTarget (Between 9_000_000_000_000_000 high)) e (h.each.targets v)
 
-  pub target-size :
+  pub target_size :
       {w : Wants} {z : ℤ}
       → high ≤ 9_000_000_000_000_000
       → SmallWants high w
       → (v : ℕ)
       → w.target v ≡ least z
       → nat_abs z ≤ 9_000_000_000_000_000
-  target-size most small v e = between_size 9_000_000_000_000_000 (omega arith) most (target-between small v e)
+  target_size most small v e = between_size 9_000_000_000_000_000 (omega arith) most (target_between small v e)
 
   -- a higher bound does as well
-  pub wants-wider : {more : ℕ} {w : Wants} → high ≤ more → SmallWants high w → SmallWants more w
-  wants-wider h small = record { each = each_map (λ p t. t) (λ v z. between_wider (omega arith) h) small.each }
+  pub wants_wider : {more : ℕ} {w : Wants} → high ≤ more → SmallWants high w → SmallWants more w
+  wants_wider h small = record { each = each_map (λ p t. t) (λ v z. between_wider (omega arith) h) small.each }
 
   -- nothing wanted, one proposition more, one target more
-  pub noWants-small : SmallWants high no_wants
-  noWants-small = record { each = noWants-each }
+  pub no_wants_small : SmallWants high no_wants
+  no_wants_small = record { each = no_wants_each }
 
-  pub wantProp-small : {w : Wants} (p : ℕ) → SmallWants high w → SmallWants high (want_prop w p)
-  wantProp-small p small = record { each = wantProp-each small.each tt }
+  pub want_prop_small : {w : Wants} (p : ℕ) → SmallWants high w → SmallWants high (want_prop w p)
+  want_prop_small p small = record { each = want_prop_each small.each tt }
 
-  pub wantValue-small :
+  pub want_value_small :
       {w : Wants} {z : ℤ} (v : ℕ)
       → Between 9_000_000_000_000_000 high z
       → SmallWants high w
       → SmallWants high (want_value w v z)
-  wantValue-small v h small = record { each = wantValue-each small.each h }
+  want_value_small v h small = record { each = want_value_each small.each h }
 
 -- ---- the numbers on the way to the targets of a sum
 
@@ -100,39 +100,39 @@ module _ {vars : ℕ} {l : Layer} {s : State} (small : SmallLayer vars l) (start
   module _
       {b i : ℕ} {c : ℤ} (ts : List Term) (ok : All (TermOk paper normal vars) ts)
       (few : i + length ts ≤ 8) (left : Remaining b i c) where
-    pub rest-between : Between 8_000_000_002_000_000 (b + 8_000_000_000) (c -ℤ sum (low l s) ts)
-    rest-between = between_wider (omega arith) (omega arith) (between_diff left.between (low-terms-between small start ts ok))
+    pub rest_between : Between 8_000_000_002_000_000 (b + 8_000_000_000) (c -ℤ sum (low l s) ts)
+    rest_between = between_wider (omega arith) (omega arith) (between_diff left.between (low_terms_between small start ts ok))
 
     -- its size
-    pub rest-size : b ≤ 40_000_000_000_000 → nat_abs (c -ℤ sum (low l s) ts) ≤ 9_000_000_000_000_000
-    rest-size most = between_size 9_000_000_000_000_000 (omega arith) (omega arith) rest-between
+    pub rest_size : b ≤ 40_000_000_000_000 → nat_abs (c -ℤ sum (low l s) ts) ≤ 9_000_000_000_000_000
+    rest_size most = between_size 9_000_000_000_000_000 (omega arith) (omega arith) rest_between
 
   -- ---- wants of a sum, a condition, a block
 
   module _ {high : ℕ} (large : 1_000_000_000_000 ≤ high) where
     -- a finite layer value may be wanted
-    finite-target : {z : ℤ} → Between 1_000_000 1_000_000_000_000 z → Between 9_000_000_000_000_000 high z
-    finite-target h = between_wider (omega arith) large h
+    finite_target : {z : ℤ} → Between 1_000_000 1_000_000_000_000 z → Between 9_000_000_000_000_000 high z
+    finite_target h = between_wider (omega arith) large h
 
     -- the finite value of a term's variable
     near : (t : Term) → TermOk paper normal vars t → {z : ℤ} → l.val t.var ≡ finite z → Between 1_000_000 1_000_000_000_000 z
     near t ok e = (subst (FiniteBetween 1_000_000 1_000_000_000_000) e (small.values t.var ok.var)).if_finite
 
     -- "each finite variable's target is its layer value"
-    pub wantFinite-small :
+    pub want_finite_small :
         (w : Wants) (ts : List Term)
         → All (TermOk paper normal vars) ts
         → SmallWants high w
         → SmallWants high (want_finite l w ts)
     unfolding want_finite
-    wantFinite-small w [] ok h = h
-    wantFinite-small w (t ∷ ts) ok h =
-        wantFinite-cases l w t ts (SmallWants high)
-        (λ z e. wantFinite-small (want_value w t.var z) ts ok.1 (wantValue-small t.var (finite-target (near t ok.0 e)) h))
-        (λ e. wantFinite-small w ts ok.1 h)
+    want_finite_small w [] ok h = h
+    want_finite_small w (t ∷ ts) ok h =
+        want_finite_cases l w t ts (SmallWants high)
+        (λ z e. want_finite_small (want_value w t.var z) ts ok.1 (want_value_small t.var (finite_target (near t ok.0 e)) h))
+        (λ e. want_finite_small w ts ok.1 h)
 
     -- "To want "sum ≥ c" in layer t", from the term behind i others on
-    pub wantRest-small :
+    pub want_rest_small :
         (w : Wants) (ts : List Term) (c : ℤ) (b i : ℕ)
         → All (TermOk paper normal vars) ts
         → i + length ts ≤ 8
@@ -140,59 +140,59 @@ module _ {vars : ℕ} {l : Layer} {s : State} (small : SmallLayer vars l) (start
         → Remaining b i c
         → SmallWants high w
         → SmallWants high (want_sum l s w ts c)
-    wantRest-small w [] c b i ok few upper left h = subst (SmallWants high) (sym (want_sum_nil l s w c)) h
-    wantRest-small w (t ∷ ts) c b i ok few upper left h =
-        wantSum-cases l w t ts (SmallWants high) s c
+    want_rest_small w [] c b i ok few upper left h = subst (SmallWants high) (sym (want_sum_nil l s w c)) h
+    want_rest_small w (t ∷ ts) c b i ok few upper left h =
+        want_sum_cases l w t ts (SmallWants high) s c
         (λ z e.
-        wantRest-small (want_value w t.var z) ts (c -ℤ (t.weight *ℤ z)) b (suc i) ok.1 (omega arith) upper
+        want_rest_small (want_value w t.var z) ts (c -ℤ (t.weight *ℤ z)) b (suc i) ok.1 (omega arith) upper
         (remaining_step ok.0 (near t ok.0 e) left)
-        (wantValue-small t.var (finite-target (near t ok.0 e)) h))
+        (want_value_small t.var (finite_target (near t ok.0 e)) h))
         (λ e.
-        wantValue-small t.var
+        want_value_small t.var
         (between_wider (omega arith) upper
         (ceiling_between (c -ℤ sum (low l s) ts) (nat_abs t.weight) (positive_size t.weight ok.0.weight.0).1
-        (rest-between ts ok.1 (omega arith) left)))
-        (wantFinite-small w ts ok.1 h))
+        (rest_between ts ok.1 (omega arith) left)))
+        (want_finite_small w ts ok.1 h))
 
     -- "To want "sum ≥ c" in layer t", for c from −2,000,000 to b
-    pub wantSum-small :
+    pub want_sum_small :
         {w : Wants} {ts : List Term} {c : ℤ} {b : ℕ}
         → FewTerms normal vars ts
         → Between 2_000_000 b c
         → b + 8_000_000_000 ≤ high
         → SmallWants high w
         → SmallWants high (want_sum l s w ts c)
-    wantSum-small {w} {ts} {c} {b} few near upper h =
-        wantRest-small w ts c b 0 few.terms (omega (arith, few.few)) upper (remaining_start near) h
+    want_sum_small {w} {ts} {c} {b} few near upper h =
+        want_rest_small w ts c b 0 few.terms (omega (arith, few.few)) upper (remaining_start near) h
 
     -- one item of a block
-    pub wantItem-small :
+    pub want_item_small :
         (props : ℕ) {w : Wants} (i : Item)
         → ItemOk paper normal props vars i
         → SmallWants high w
         → SmallWants high (want_item l s w i)
     unfolding want_item paper
-    wantItem-small props (need p) ok h = wantProp-small p h
-    wantItem-small props (condition c) ok h =
+    want_item_small props (need p) ok h = want_prop_small p h
+    want_item_small props (condition c) ok h =
         let constant : Between 1_000_000 1_000_001 c.bound = record { from = ok.bound.0; to = ok.bound.1 } in
-        wantSum-small (sum_few ok.sum) (between_wider {d = 1_000_001} (omega arith) (omega arith) constant) (omega arith) h
-    wantItem-small props (add p) ok h = h
-    wantItem-small props (delete p) ok h = h
-    wantItem-small props (effect e) ok h = h
+        want_sum_small (sum_few ok.sum) (between_wider {d = 1_000_001} (omega arith) (omega arith) constant) (omega arith) h
+    want_item_small props (add p) ok h = h
+    want_item_small props (delete p) ok h = h
+    want_item_small props (effect e) ok h = h
 
-    wantItems-small :
+    want_items_small :
         (props : ℕ) {w : Wants} (b : Block)
         → All (ItemOk paper normal props vars) b
         → SmallWants high w
         → SmallWants high (want_block l s w b)
     unfolding want_block
-    wantItems-small props [] ok h = h
-    wantItems-small props (i ∷ b) ok h = wantItems-small props b ok.1 (wantItem-small props i ok.0 h)
+    want_items_small props [] ok h = h
+    want_items_small props (i ∷ b) ok h = want_items_small props b ok.1 (want_item_small props i ok.0 h)
 
     -- the conditions of a move or of the goal
-    pub wantBlock-small :
+    pub want_block_small :
         {props : ℕ} {w : Wants} {b : Block}
         → BlockOk paper normal props vars b
         → SmallWants high w
         → SmallWants high (want_block l s w b)
-    wantBlock-small {props} {w} {b} ok h = wantItems-small props b ok.items h
+    want_block_small {props} {w} {b} ok h = want_items_small props b ok.items h

@@ -16,7 +16,7 @@ use Rattle.block.specs.declared.ItemAt.{ItemAt}
 use Rattle.block.specs.declared.ItemAt.TheVariants.{Need, Add, Delete, Condition as ConditionAt, Effect as EffectAt, End}
 use Rattle.block.specs.contracts.ItemAt.{the_type}
 use Rattle.block.proofs.Passed.{before_end}
-use Rattle.targets.specs.Blocks.{BlockWantable, NoCondition, BlockDone, block_start, block-end, block-other, block-need, condition-wantable, condition-size, block-condition}
+use Rattle.targets.specs.Blocks.{BlockWantable, NoCondition, BlockDone, block_start, block_end, block_other, block_need, condition_wantable, condition_size, block_condition}
 use Rattle.targets.proofs.Targets.want_block.Statement.{statement}
 use Rattle.targets.proofs.Targets.want_block.Tie as tie
 
@@ -54,7 +54,7 @@ want-sum-requires c κs =
     let d = n.before.loop.invariant.1 x in
     let f = (next_is n.next.ensures m.item2.given.1).found x.ranges d.reading.rest d.reading.left in
     let z = m.item2.given.0.1.0 in
-    (condition-wantable x d f, rw (back_small z (omega (arith, condition-size x d f))) (omega (arith, condition-size x d f)))
+    (condition_wantable x d f, rw (back_small z (omega (arith, condition_size x d f))) (omega (arith, condition_size x d f)))
 
 behind-requires : tie.Need-behind-requires invariant-loop decreases-loop
 behind-requires c κs = search rules
@@ -95,14 +95,14 @@ passed c x =
     let n = c.before in
     let d = n.before.loop.invariant.1 x in
     ⊎_elim
-    (λ w. rw (w.4, w.5) (block-need x d ((next_is n.next.ensures w.1.given.1).found x.ranges d.reading.rest d.reading.left) w.3.ensures))
+    (λ w. rw (w.4, w.5) (block_need x d ((next_is n.next.ensures w.1.given.1).found x.ranges d.reading.rest d.reading.left) w.3.ensures))
     (⊎_elim
     (λ w.
     let f = (next_is n.next.ensures w.1.given.1).found x.ranges d.reading.rest d.reading.left in
     let z = w.1.given.0.1.0 in
     rw (w.4, w.5)
-    (block-condition x d f (rw (back_small z (omega (arith, condition-size x d f))) at (w.3.ensures (condition-wantable x d f)))))
-    (λ w. rw (w.1, w.2) (block-other x d (inside c) n.next.ensures (no_condition n.next.result w.0.keys4))))
+    (block_condition x d f (rw (back_small z (omega (arith, condition_size x d f))) at (w.3.ensures (condition_wantable x d f)))))
+    (λ w. rw (w.1, w.2) (block_other x d (inside c) n.next.ensures (no_condition n.next.result w.0.keys4))))
     c.match.branch
 
 loop-again : tie.Need-loop-preserved invariant-loop decreases-loop
@@ -119,7 +119,7 @@ enum_told c = search rules
 returns : tie.Need-returns invariant-loop decreases-loop
 returns c x =
     let n = c.before.before in
-    block-end x (n.before.loop.invariant.1 x) (next_is n.next.ensures c.enum_told.given.1).moves
+    block_end x (n.before.loop.invariant.1 x) (next_is n.next.ensures c.enum_told.given.1).moves
 
 pub want-block-spec : {M : Type 1} → statement M
 want-block-spec =
