@@ -1,19 +1,21 @@
 // "try the moves usable in t−1 in rising order and take the first": the first move that adds a proposition or whose effect reaches a
 // target (document 01, "Plan").
+#![tactic(auto)]
+
 ghost use Rattle.std.specs.Prelude.{◌≡◌};
 ghost use Rattle.achievers.specs.Search.{demand_by, Searchable, IsAdder, Achievable, IsAchiever};
 
 use block::ItemAt;
 
 // "take the first that adds the proposition": the move, or none.
-#[derive(Drop)]
+#[derive(Clone, Copy)]
 pub enum Adder {
     Move(usize),
     None,
 }
 
 // The move whose effect was found, the effect and its value in the layer.
-#[derive(Drop)]
+#[derive(Clone, Copy)]
 pub enum Achiever {
     Effect {
         index: usize,

@@ -152,14 +152,23 @@ module _ {t : List ℕ} {c : Cursor} {nd ch af : List ℕ} {es : List Bool} {mk 
         moved = unfold mark_cursor in omega arith;
         tracks = λ s h.
             mark_tracks h InGoal in_goal c.opened (c.stamp + 1) (closed s.place s.moves s.items) [] (unfold place_of in refl) (not_first in_goal (inr (inl refl)))
-            (unfold opened in h.closes)
-            (unfold closed in h.closes)
+            (goal_opens (length (closed s.place s.moves s.items)) h.closes)
+            (goal_closes (closed s.place s.moves s.items) h.closes)
             (stamped_new h.needed) (stamped_new h.changed) (stamped_new h.affected)
-            (unfold closed in h.edges)
+            (goal_edges (closed s.place s.moves s.items) h.edges)
             (λ x. refl)
             (mark_room open_goal v k.placed);
       })
     where
+      goal_opens : (n : ℕ) → c.opened ≡ n → c.opened ≡ opened in_goal n
+      goal_opens n e = unfold opened in e
+
+      goal_closes : (ms : List Block) → c.opened ≡ length ms → c.opened ≡ length (closed in_goal ms [])
+      goal_closes ms e = unfold closed in e
+
+      goal_edges : (ms : List Block) → Drawn ms es → Drawn (closed in_goal ms []) es
+      goal_edges ms d = unfold closed in d
+
       all_opened : c.moves ≤ c.opened
       all_opened = ltb-false c.opened c.moves (unfold miscounted in k.counted)
 

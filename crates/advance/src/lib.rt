@@ -1,4 +1,6 @@
 // Past a command that passed its checks: the cursor behind it, and what it names, draws and marks.
+#![tactic(auto)]
+
 ghost use Rattle.std.specs.Prelude.{◌≡◌, ℕ, ◌+◌, ◌*◌, ◌^◌, ◌<◌, ◌≤◌, length, get_or};
 ghost use Rattle.command.specs.Names.{command_is};
 ghost use Rattle.cursor.specs.State.{Valid, Passed, head_cursor, mark_cursor, term_cursor, item_cursor};

@@ -1,6 +1,8 @@
 // The items of one block, read from its part of an accepted table; sums, conditions and effects over a state and over a layer.
 // A part is the byte 41 or 47 and the bytes of the block's items. `specs/Items.antt` says what is left from an offset on: each
 // promise holds for every reading of the part that the caller has.
+#![tactic(auto)]
+
 ghost use Rattle.std.specs.Prelude.{◌≡◌, ◌+◌, ◌*◌, ◌<◌, ◌≤◌, length, nat_abs};
 ghost use Rattle.model.specs.Limits.{largest_value};
 ghost use Rattle.model.specs.Task.{Block, Comparison};
@@ -16,7 +18,7 @@ ghost use Rattle.block.specs.Unmet.{IsUnmet};
 ghost use Rattle.block.specs.Streams.{Addable, SumAt, width_by, Judged, Judgement};
 
 // One item, with the offset behind it. The terms of a condition's or an effect's sum stand from `from` on.
-#[derive(Drop)]
+#[derive(Clone, Copy)]
 pub enum ItemAt {
     Need {
         prop: usize,
@@ -251,7 +253,7 @@ pub fn condition_reached(part: &[u8], bound: i64, from: usize, n: usize, layer: 
 }
 
 // A sum over the values of a state: the number of its terms, and what they add up to.
-#[derive(Drop)]
+#[derive(Clone, Copy)]
 pub struct Sum {
     pub terms: usize,
     pub total: i64,

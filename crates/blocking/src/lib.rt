@@ -1,5 +1,7 @@
 // The goal part that blocks: where decide answers "no plan", the first part of the goal that the last layer does not meet (document 02,
 // request 3).
+#![tactic(auto)]
+
 ghost use Rattle.std.specs.Prelude.{◌≡◌};
 ghost use Rattle.model.specs.Limits.{paper};
 ghost use Rattle.model.specs.Blocking.{blocking_answer, blocking_memory};

@@ -1,4 +1,6 @@
 // Normalise, decide and plan in one call. Its promise is demand 3 (specs/Campaign.antt).
+#![tactic(auto)]
+
 ghost use Rattle.std.specs.Prelude.{◌≡◌};
 ghost use Rattle.model.specs.Limits.{paper};
 ghost use Rattle.model.specs.Calls.{decide_answer, plan_answer, plan_memory, plan_out};
@@ -7,7 +9,7 @@ ghost use Rattle.campaign.specs.Campaign.{Done};
 use model::{DecideAnswer, PlanAnswer, WriteAnswer};
 
 // Decide's and plan's answers.
-#[derive(Drop)]
+#[derive(Clone, Copy)]
 pub struct Answers {
     pub decision: DecideAnswer,
     pub plan: PlanAnswer,

@@ -1,12 +1,14 @@
 // What a board takes (document 02, request 7): a ceiling on tables and on layer memory. specs/ has the calls under a ceiling and what is proved
 // of them.
+#![tactic(auto)]
+
 ghost use Rattle.std.specs.Prelude.{◌≡◌};
 ghost use Rattle.ceiling.specs.Ceiling.{rig};
 ghost use Rattle.ceiling.specs.Heads.{ceiling_of, IsBeyond};
 ghost use Rattle.ceiling.specs.Numbers.{fewer};
 
 // The moves and the written variables that a table may have, and the numbers of layer memory that are used.
-#[derive(Drop)]
+#[derive(Clone, Copy)]
 pub struct Ceiling {
     pub moves: u8,
     pub vars: u8,

@@ -1,5 +1,7 @@
 // Checks a bought list of moves against a written table and a state (document 02, request 9). The table is read once and the state is kept
 // in arrays, so that an entry costs its block; the lent output is touched by a yes alone.
+#![tactic(auto)]
+
 ghost use Rattle.std.specs.Prelude.{◌≡◌};
 ghost use Rattle.std.proofs.Math.Option.{none};
 ghost use Rattle.model.specs.Limits.{paper};

@@ -1,5 +1,7 @@
 // Check 7 of document 01, "the edges have no circle", by pruning: variables without a predecessor are taken away, round after round;
 // what a circle leads to stays. `edges[u * 32 + v]` says that an edge leads from u to v.
+#![tactic(auto)]
+
 ghost use Rattle.std.specs.Prelude.{◌≡◌, true, ℕ, ◌<◌, ◌≤◌, length, replicate};
 ghost use Rattle.model.specs.Lists.{any_below};
 ghost use Rattle.circle.specs.Walks.{circular_in};

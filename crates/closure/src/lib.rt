@@ -1,5 +1,7 @@
 // The package for closure days (document 02, request 8): it places a list of entries in the windows of a closure, each entry in its turn
 // as early as can be, and writes their starts.
+#![tactic(auto)]
+
 ghost use Rattle.std.specs.Prelude.{◌≡◌, ◌+◌, ◌*◌, ◌^◌, ◌<◌, ◌≤◌, cond, leb, length};
 ghost use Rattle.placement.specs.Day.{paper_day, minute_at, wrong_window, wrong_duration, first_window, first_duration};
 ghost use Rattle.placement.specs.Placing.{starts_of, day_placed, place_answer, place_out};
@@ -12,14 +14,14 @@ use model::Refusal;
 use placement::PlaceAnswer;
 
 // The number of the first window or duration at fault.
-#[derive(Drop)]
+#[derive(Clone, Copy)]
 enum Fault {
     At(usize),
     Nothing,
 }
 
 // What becomes of a list: the minute at which its last entry ends, or the number of the first entry for which there is no room.
-#[derive(Drop)]
+#[derive(Clone, Copy)]
 enum Walked {
     Placed(u64),
     Stuck(usize),

@@ -1,5 +1,7 @@
 // The answers as one 64-bit number each, for hosts (crates/model/specs/Exports.antt; those of closure days and of the checker in
 // crates/placement/specs/Exports.antt and crates/schedule/specs/Exports.antt).
+#![tactic(auto)]
+
 ghost use Rattle.std.specs.Prelude.{◌≡◌, ◌<◌, ◌≤◌};
 ghost use Rattle.model.specs.Exports.{refusal_code, read_code, write_code, decide_code, plan_code, plan_record_count, plan_first_moves, blocking_code};
 ghost use Rattle.model.specs.Theorems.Sizes.Answers.{place_limit, result_limit, ReadSmall, WriteSmall, DecideSmall, PlanSmall, BlockingSmall};

@@ -1,5 +1,7 @@
 // The commands of a table (document 01, "Campaign table"): the byte of each, where it may stand, and the checks that need neither
 // its operands nor what the commands before it name: 3, 6 and 16.
+#![tactic(auto)]
+
 ghost use Rattle.std.specs.Prelude.{◌≡◌};
 ghost use Rattle.model.specs.Command.{code_of, command_of, width, order, in_place, after_term, head};
 ghost use Rattle.model.specs.Reading.{head_wanted};
@@ -7,14 +9,14 @@ ghost use Rattle.command.specs.Names.{form_of, command_is, place_of, wanted_of};
 ghost use Rattle.command.specs.Checks.{lies_in, misplaced, miscounted, unfinished, closes_idle};
 
 // "54 P V A: head of a written table"; "4E P N A: head of a normal table"
-#[derive(Drop)]
+#[derive(Clone, Copy)]
 pub enum Form {
     Written,
     Normal,
 }
 
 // The heads that a call takes. A stored table may have either, and moves that do nothing.
-#[derive(Drop)]
+#[derive(Clone, Copy)]
 pub enum Wanted {
     Written,
     Normal,
@@ -22,7 +24,7 @@ pub enum Wanted {
     Stored,
 }
 
-#[derive(Drop)]
+#[derive(Clone, Copy)]
 pub enum Command {
     Head(Form),
     OpenMove,
@@ -38,7 +40,7 @@ pub enum Command {
 }
 
 // Where a command stands.
-#[derive(Drop)]
+#[derive(Clone, Copy)]
 pub enum Place {
     Start,
     Preamble,

@@ -1,4 +1,6 @@
 // Where the reading of a table stands, and the checks of the command there: "each command, in this order".
+#![tactic(auto)]
+
 ghost use Rattle.std.specs.Prelude.{◌≡◌, ◌+◌, ◌<◌, ◌≤◌, eqb, length, get_or};
 ghost use Rattle.model.specs.Command.{width};
 ghost use Rattle.command.specs.Names.{command_is, wanted_of};
@@ -9,7 +11,7 @@ use command::{Command, Form, Place, Wanted};
 // Where the reading stands: the offset of the next command and its place, the head and whether the open move changes something, how
 // many moves have been opened, how many terms are open and the least variable that the next one may have, how many blocks and ends
 // have been marked. `stamp` is the number of the open block, from 1 on.
-#[derive(Drop)]
+#[derive(Clone, Copy)]
 pub struct Cursor {
     pub at: usize,
     pub place: Place,
@@ -26,7 +28,7 @@ pub struct Cursor {
 }
 
 // What the checks of one command say.
-#[derive(Drop)]
+#[derive(Clone, Copy)]
 pub enum Check {
     Passes,
     Refused(model::Refusal),

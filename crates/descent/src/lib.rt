@@ -1,4 +1,6 @@
 // One layer down: from the wants of layer t to those of layer t−1, with the counts of the moves taken there (document 01, "Plan").
+#![tactic(auto)]
+
 ghost use Rattle.std.specs.Prelude.{◌-◌, ◌<◌};
 ghost use Rattle.descent.specs.Layers.{GoalWantable, GoalWanted, LayerDescendable, LayerDescended};
 

@@ -1,4 +1,6 @@
 // The engine for its hosts: exported calls, each answered by one 64-bit number (crates/model/specs/Exports.antt, crates/placement/specs/Exports.antt).
+#![tactic(auto)]
+
 ghost use Rattle.std.specs.Prelude.{◌≡◌};
 ghost use Rattle.model.specs.Exports.{read_code, write_code, decide_code, plan_code, plan_record_count, plan_first_moves, blocking_code, block_answer, block_copy};
 ghost use Rattle.model.specs.Limits.{paper};

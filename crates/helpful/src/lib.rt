@@ -1,4 +1,6 @@
 // The helpful moves: those usable in layer 0 that give something which is wanted at layer 1 and layer 0 lacks (document 02, request 6).
+#![tactic(auto)]
+
 ghost use Rattle.std.specs.Prelude.{◌≡◌, not, ◌&&◌};
 ghost use Rattle.model.specs.Plan.{helpful, set_of};
 ghost use Rattle.helpful.specs.Support.{Testable, ReachesNew, Supportable, Supports};

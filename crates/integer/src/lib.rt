@@ -1,5 +1,7 @@
 // Whole-number arithmetic with exact contracts: signed operations that never wrap, division that rounds up,
 // big-endian numbers in slices of bytes, and bytes copied from one slice to another.
+#![tactic(auto)]
+
 ghost use Rattle.std.specs.Prelude.{◌≡◌, ◌+◌, ◌*◌, ◌^◌, ◌<◌, ◌≤◌, length, take, drop, neg_ℤ, nat_abs, ◌+ℤ◌, ◌-ℤ◌, ◌*ℤ◌, eqb};
 ghost use Rattle.std.specs.Int.Signed.{lt_z, le_z};
 ghost use Rattle.integer.specs.Linear.{larger};

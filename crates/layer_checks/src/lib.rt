@@ -1,5 +1,7 @@
 // The checks of a new layer in its arrays (document 01, "Layers" and refusal 15): is it equal to the last one, is a finite value above
 // the limit.
+#![tactic(auto)]
+
 ghost use Rattle.std.specs.Prelude.{◌≡◌, ◌&&◌, ◌≤◌, length};
 ghost use Rattle.std.specs.Bool.{beq};
 ghost use Rattle.model.specs.Lists.{all_below};

@@ -1,4 +1,6 @@
 // Writing layer memory (document 01, "Layers", its second paragraph): the entries of propositions and moves, and rows of values.
+#![tactic(auto)]
+
 ghost use Rattle.std.specs.Prelude.{◌≡◌, ◌+◌, ◌^◌, ◌<◌, ◌≤◌, pos, length};
 ghost use Rattle.model.specs.Theorems.Layers.Entries.{noted};
 ghost use Rattle.layer_memory.specs.Filling.{Filled, cleared, noted_at, row_at};

@@ -1,4 +1,6 @@
 // What the moves whose conditions hold in a layer give the next one (document 01, "Layers").
+#![tactic(auto)]
+
 ghost use Rattle.layer_moves.specs.Raising.{IsOffer, Raisable, IsRaised};
 ghost use Rattle.layer_moves.specs.Walking.{Appliable, Applied};
 ghost use Rattle.layer_moves.specs.UsingMoves.{Takeable, TakenIn, MovesReady, MovesUsed};

@@ -1,8 +1,10 @@
 // The step from a layer to the next one (document 01, "Layers"): it is equal to the last one, refused by 15 or 14, or new.
+#![tactic(auto)]
+
 ghost use Rattle.layer_step.specs.Step.{Steppable, Stepped};
 
 // What the next layer is: equal to the last one, with a finite value above the limit, without room in the memory, or new.
-#[derive(Drop)]
+#[derive(Clone, Copy)]
 pub enum NextLayer {
     Same,
     TooLarge,
@@ -11,7 +13,7 @@ pub enum NextLayer {
 }
 
 // A normal table's counts.
-#[derive(Drop)]
+#[derive(Clone, Copy)]
 pub struct Sizes {
     pub props: usize,
     pub vars: usize,

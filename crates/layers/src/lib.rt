@@ -1,4 +1,6 @@
 // Building layers in a lent memory (document 01, "Layers"), and `decide`.
+#![tactic(auto)]
+
 ghost use Rattle.std.specs.Prelude.{◌≡◌};
 ghost use Rattle.model.specs.Theorems.Campaigns.Demand3.{decide_layers};
 ghost use Rattle.model.specs.Theorems.Campaigns.EndToEnd.{LayersWithin};
@@ -15,7 +17,7 @@ use state::StateCheck;
 use table::Wanted;
 
 // How building layers ends: with the answer layer, with "no plan" and the layers, or with a refusal's number and place.
-#[derive(Drop)]
+#[derive(Clone, Copy)]
 pub enum Built {
     Reached { layer: u64 },
     Exhausted { layers: u64 },
@@ -23,7 +25,7 @@ pub enum Built {
 }
 
 // What stands before any layer: the counts of an accepted normal table with an accepted state, or the refusal.
-#[derive(Drop)]
+#[derive(Clone, Copy)]
 pub enum Prepared {
     Ready {
         props: usize,

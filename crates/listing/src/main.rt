@@ -1,4 +1,6 @@
 // The listing program: reads task.bin and state.bin in the working folder, and prints the plan, "no plan" or the refusal.
+#![tactic(auto)]
+
 ghost use Rattle.std.specs.Prelude.{◌≡◌, ◌≤◌, length, take};
 ghost use Rattle.model.specs.Limits.{paper};
 ghost use Rattle.model.specs.Listing.{listing};

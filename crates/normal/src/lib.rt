@@ -1,4 +1,6 @@
 // The normal form of a written table (document 01, "Normal form").
+#![tactic(auto)]
+
 ghost use Rattle.std.specs.Prelude.{◌≡◌, ◌∷◌, [], ◌+◌, ◌*◌, ◌≤◌, ltb, length};
 ghost use Rattle.model.specs.Task.{written, normal};
 ghost use Rattle.model.specs.Command.{head, code_of};

@@ -1,5 +1,7 @@
 // The normal form of a block of a written table (document 01, "Normal form"). Every function returns the offset behind what it
 // writes, and writes only what fits (crate `output`).
+#![tactic(auto)]
+
 ghost use Rattle.std.specs.Prelude.{◌∷◌, ◌+◌, ◌^◌, ◌<◌, ◌≤◌, nat_abs};
 ghost use Rattle.model.specs.Task.{Block};
 ghost use Rattle.model.specs.Seen.{kind_of};

@@ -1,5 +1,7 @@
 // The normal form of sums and conditions (document 01, "Normal form"), a function an operator. Every function returns the offset behind
 // what it writes, and writes only what fits (crate `output`).
+#![tactic(auto)]
+
 ghost use Rattle.std.specs.Prelude.{◌≡◌, [], ◌∷◌, ℕ, ◌^◌, ◌<◌, ◌≤◌, T, nat_abs};
 ghost use Rattle.model.specs.Task.{written, at_least, above, at_most, below, equal};
 ghost use Rattle.model.specs.Limits.{comparison_in_range};

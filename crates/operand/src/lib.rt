@@ -1,4 +1,6 @@
 // The operands of a command, and check 4 of document 01, "operand out of range".
+#![tactic(auto)]
+
 ghost use Rattle.std.specs.Prelude.{◌≡◌, ◌+◌, ◌<◌, ◌≤◌, length, get_or};
 ghost use Rattle.model.specs.Limits.{paper, vars_in_range, weight_in_range, bound_in_range, base_in_range, comparison_in_range, kind_in_range};
 ghost use Rattle.model.specs.Task.{written};

@@ -1,4 +1,6 @@
 // Stores into a lent output. Each returns the offset behind what it writes, and writes only what fits whole.
+#![tactic(auto)]
+
 ghost use Rattle.std.specs.Prelude.{◌∷◌, [], ◌≡◌, ◌+◌, ◌^◌, ◌<◌, ◌≤◌, nat_abs, length};
 ghost use Rattle.integer.specs.BigEndian.{bytes, signed_bytes};
 ghost use Rattle.model.specs.Listing.{decimal};

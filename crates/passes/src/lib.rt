@@ -1,4 +1,6 @@
 // The two passes from the answer layer down: the records counted and kept, with the helpful moves, and written (document 01, "Plan").
+#![tactic(auto)]
+
 ghost use Rattle.std.specs.Prelude.{◌≡◌, length};
 ghost use Rattle.model.specs.Calls.{record_bytes};
 ghost use Rattle.integer.specs.Store.{put};
@@ -10,7 +12,7 @@ use records::RECORD_LEN;
 use targets::Targets;
 
 // The number of records and the set of helpful moves.
-#[derive(Drop)]
+#[derive(Clone, Copy)]
 pub struct Summary {
     pub records: usize,
     pub helpful: u64,

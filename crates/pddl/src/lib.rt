@@ -1,4 +1,6 @@
 // A written table and a state as PDDL 2.1 text, a domain and then a problem (document 02, request 1).
+#![tactic(auto)]
+
 ghost use Rattle.std.specs.Prelude.{◌≡◌, ltb, length};
 ghost use Rattle.model.specs.Limits.{paper};
 ghost use Rattle.model.specs.Reading.{only, reading};

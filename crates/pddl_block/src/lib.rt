@@ -1,5 +1,7 @@
 // The conditions and the effects of a block as PDDL text (document 02, request 1), each on a line of its own. Every function returns
 // the offset behind what it writes, and writes only what fits (crate `output`).
+#![tactic(auto)]
+
 ghost use Rattle.std.specs.Prelude.{◌++◌, ◌^◌, ◌<◌, ◌≤◌, T};
 ghost use Rattle.model.specs.Ascii.{ascii};
 ghost use Rattle.model.specs.Seen.{comparison_of, kind_of};

@@ -1,5 +1,7 @@
 // Numbers, names, declarations and sums of the PDDL text (document 02, request 1). Every function returns the offset behind what it
 // writes, and writes only what fits (crate `output`).
+#![tactic(auto)]
+
 ghost use Rattle.std.specs.Prelude.{◌^◌, ◌<◌, nat_abs};
 ghost use Rattle.model.specs.Pddl.{number_text, expression_text, sum_of};
 ghost use Rattle.block.specs.Terms.{SumAt, term_of, terms_at};

@@ -1,5 +1,7 @@
 // The domain and the problem of the PDDL text of a written table and a state (document 02, request 1). Every function returns the
 // offset behind what it writes, and writes only what fits (crate `output`).
+#![tactic(auto)]
+
 ghost use Rattle.std.specs.Prelude.{◌+◌, ◌*◌, ◌<◌, ◌≤◌, length};
 ghost use Rattle.model.specs.Task.{Block};
 ghost use Rattle.model.specs.StateTable.{state_of};

@@ -1,9 +1,11 @@
 // Closure days (document 02, request 8): the answer of placing a list. specs/ has what a placement is, which one is asked for, and what is
 // proved of it.
+#![tactic(auto)]
+
 use model::Refusal;
 
 // "written is each entry's start, and the answer is the end minute": with the length of the starts.
-#[derive(Drop)]
+#[derive(Clone, Copy)]
 pub enum PlaceAnswer {
     Placed { end: u64, length: u64 },
     Refused(Refusal),

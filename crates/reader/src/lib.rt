@@ -1,13 +1,15 @@
 // "A reader stands on a table at one command": a table and the offset of a command in it. It hands back a part of its table,
 // "neither copy nor offsets". The functions on the struct are thin; `part` and `block_at` serve every other caller, with a plain
 // table.
+#![tactic(auto)]
+
 ghost use Rattle.std.specs.Prelude.{◌≡◌, ◌≤◌, length, get_or};
 ghost use Rattle.model.specs.Limits.{paper};
 ghost use Rattle.model.specs.Calls.{block_part, block_start, block_refusal, refusal_number, refusal_place};
 ghost use Rattle.table.specs.Outlines.{part_at};
 ghost use Rattle.reader.specs.Parts.{LiesAt, IsCut, PartIn};
 
-#[derive(Drop)]
+#[derive(Clone, Copy)]
 struct Reader<'a> {
     table: &'a [u8],
     at: usize,

@@ -1,4 +1,6 @@
 // One real move (document 01, "Moves") on the state that two pairs of arrays hold: conditions and sums read one, the effects change the other.
+#![tactic(auto)]
+
 ghost use Rattle.std.specs.Prelude.{◌≡◌, false, ◌<◌, ◌≤◌, ℕ, length, get_or, nat_abs};
 ghost use Rattle.model.specs.Seen.{kind_of};
 ghost use Rattle.model.specs.Move.{changed};
@@ -9,7 +11,7 @@ ghost use Rattle.real_move.specs.Moving.{Triable, Tried, KeptValues, Movable, Mo
 use schedule::Fault;
 
 // What becomes of a move: it is made, or why not.
-#[derive(Drop)]
+#[derive(Clone, Copy)]
 pub enum Turn {
     Made,
     Fails(Fault),

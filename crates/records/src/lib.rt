@@ -1,4 +1,6 @@
 // The records of one layer from its moves' counts: how many, and their bytes (document 01, "Plan").
+#![tactic(auto)]
+
 ghost use Rattle.std.specs.Prelude.{◌≡◌, ◌+◌, ◌*◌, ◌<◌, ◌≤◌, length};
 ghost use Rattle.model.specs.Plan.{layer_records};
 ghost use Rattle.model.specs.Calls.{record_bytes};

@@ -1,4 +1,6 @@
 // The plan of a table and a state: the layers are built, then the records are made from the answer layer down (document 01, "Plan").
+#![tactic(auto)]
+
 ghost use Rattle.std.specs.Prelude.{◌≡◌};
 ghost use Rattle.model.specs.Limits.{paper};
 ghost use Rattle.model.specs.Calls.{plan_answer, plan_memory, plan_out};

@@ -1,5 +1,7 @@
 // The text of the listing program (document 01, "Trial campaigns"), written into a lent buffer: the lines of a plan, and the
 // whole text of an answer.
+#![tactic(auto)]
+
 ghost use Rattle.std.specs.Prelude.{List, ◌+◌, ◌*◌, ◌^◌, ◌<◌, length};
 ghost use Rattle.model.specs.Listing.{refusal_text, records_text, answer_text};
 ghost use Rattle.model.specs.Plan.{Record};

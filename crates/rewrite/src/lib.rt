@@ -1,5 +1,7 @@
 // The rewriter of stored tables (document 02, request 5): it "drops such moves and renumbers the others". A move that is kept stands
 // in the new table byte for byte, and its number is how many are kept before it.
+#![tactic(auto)]
+
 ghost use Rattle.std.specs.Prelude.{◌≡◌, ◌∷◌, [], ◌+◌, ◌≤◌, ltb, length, get_or};
 ghost use Rattle.model.specs.Limits.{paper};
 ghost use Rattle.model.specs.Command.{moves_bytes};

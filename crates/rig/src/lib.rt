@@ -1,4 +1,6 @@
 // The calls of document 01 under a ceiling (document 02, request 7), proved for every ceiling.
+#![tactic(auto)]
+
 ghost use Rattle.std.specs.Prelude.{◌≡◌};
 ghost use Rattle.model.specs.Limits.{paper};
 ghost use Rattle.model.specs.Calls.{refusal_number, refusal_place};
@@ -17,7 +19,7 @@ use model::{DecideAnswer, PlanAnswer, ReadAnswer, Refusal, WriteAnswer};
 use table::Wanted;
 
 // Whether a table goes on to the full call, which makes all its checks.
-#[derive(Drop)]
+#[derive(Clone, Copy)]
 pub enum Admission {
     Admitted,
     Refused(Refusal),

@@ -1,5 +1,7 @@
 // The bytes of a state (document 01, "Campaign table"): their check, the truths and values that they stand for, and their
 // writing.
+#![tactic(auto)]
+
 ghost use Rattle.std.specs.Prelude.{◌≡◌, [], ◌+◌, ◌*◌, ◌<◌, ◌≤◌, length};
 ghost use Rattle.std.proofs.Math.Option.{none};
 ghost use Rattle.integer.specs.Store.{put};
@@ -14,7 +16,7 @@ ghost use Rattle.state.specs.Storing.{Storable, state_in, truth_bytes};
 use model::Refusal;
 
 // A state's bytes are accepted, or the first refusal.
-#[derive(Drop)]
+#[derive(Clone, Copy)]
 pub enum StateCheck {
     Accepted,
     Refused(Refusal),

@@ -1,4 +1,6 @@
 // A stored layer read back: its propositions and usable moves from the entries, its values, and the low values beside the state's.
+#![tactic(auto)]
+
 ghost use Rattle.std.specs.Prelude.{◌≡◌, ◌+◌, ◌^◌, ◌<◌, ◌≤◌, length, false, pos};
 ghost use Rattle.stored_layer.specs.View.{Filled, held_by, held_at, number_at, low_by, low_at};
 

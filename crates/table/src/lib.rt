@@ -1,4 +1,6 @@
 // Reading a table: every check of document 01, "Where a call turns back", and 16 of document 02, in one pass over the bytes.
+#![tactic(auto)]
+
 ghost use Rattle.std.specs.Prelude.{◌≡◌, false, ◌≤◌, replicate};
 ghost use Rattle.model.specs.Limits.{paper};
 ghost use Rattle.model.specs.Reading.{both, length_limit, reading};

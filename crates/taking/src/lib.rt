@@ -1,4 +1,6 @@
 // The moves taken in one layer for what is wanted above it, and their counts (document 01, "Plan").
+#![tactic(auto)]
+
 ghost use Rattle.std.specs.Prelude.{◌≡◌, ◌<◌, ◌≤◌, max, replicate, nat_abs};
 ghost use Rattle.integer.specs.Linear.{up};
 ghost use Rattle.model.specs.Limits.{largest_value};

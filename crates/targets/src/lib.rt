@@ -1,4 +1,6 @@
 // What is wanted in a layer: propositions and one target a variable (document 01, "Plan").
+#![tactic(auto)]
+
 ghost use Rattle.std.specs.Prelude.{◌≡◌, ℕ, ◌<◌, ◌≤◌, length, Bool, false, ◌&&◌, List, pos, nat_abs};
 ghost use Rattle.model.specs.Plan.{want_finite};
 ghost use Rattle.model.specs.Layer.{Value};
@@ -15,7 +17,7 @@ use block::ItemAt;
 const NO_TARGET: i64 = -9223372036854775808;
 
 // "keep wanted propositions and one target (the largest) a variable".
-#[derive(Drop)]
+#[derive(Clone, Copy)]
 pub struct Targets {
     pub props: [bool; 120],
     pub target: [i64; 32],

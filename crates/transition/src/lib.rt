@@ -1,4 +1,6 @@
 // Real moves of a written table (document 01, "Moves"): those of a list, and one, which is a list of one.
+#![tactic(auto)]
+
 ghost use Rattle.std.specs.Prelude.{◌≡◌};
 ghost use Rattle.std.proofs.Math.Option.{none};
 ghost use Rattle.model.specs.Reading.{only, reading};
@@ -20,7 +22,7 @@ use state::StateCheck;
 use table::Wanted;
 
 // Every move of a list is made, or the first that cannot be.
-#[derive(Drop)]
+#[derive(Clone, Copy)]
 pub enum Walked {
     Ended,
     Stopped { index: usize, fault: Fault },

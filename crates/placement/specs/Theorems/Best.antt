@@ -43,6 +43,7 @@ module _ (ws : List Window) (t d y : ℕ) (ds : List ℕ) (early : Earliest ws t
       none_earlier u (z ∷ zs) h (entry k i p) =
           let low : y ≤ z = early.least z (omega arith) i in
           both_left low (right.first (z + d) zs (omega arith) p)
+      none_earlier u [] h p = elim p [ ]
   behind_right (stuck i) right =
       record {
         within = omega (arith, right.within);
@@ -54,6 +55,7 @@ module _ (ws : List Window) (t d y : ℕ) (ds : List ℕ) (early : Earliest ws t
       none_fits u (z ∷ zs) h (entry k at p) =
           let low : y ≤ z = early.least z (omega arith) at in
           right.never (z + d) zs (omega arith) p
+      none_fits u [] h p = elim p [ ]
 
 module _ (m : ℕ) (ws : List Window) (up : Rising m ws) where
   pub place_right : (t : ℕ) (ds : List ℕ) → RightFrom ws t ds (place_from ws t ds)
@@ -62,6 +64,7 @@ module _ (m : ℕ) (ws : List Window) (up : Rising m ws) where
     where
       empty : {u : ℕ} (zs : List ℕ) → PlacementFrom ws u [] zs → NoneEarlier [] zs
       empty [] nothing = none_left
+      empty (_ ∷ _) p = elim p [ ]
   place_right t (d ∷ ds) =
       earliest_cases (λ (o : Option ℕ). RightFrom ws t (d ∷ ds) (place_next d (λ end. place_from ws end ds) o)) m ws t d up
       (λ y early. behind_right ws t d y ds early (place_from ws (y + d) ds) (place_right (y + d) ds))
@@ -74,13 +77,16 @@ module _ (m : ℕ) (ws : List Window) (up : Rising m ws) where
     where
       none_first : NoStart ws t d → (u : ℕ) (zs : List ℕ) → t ≤ u → PlacementFrom ws u (d ∷ []) zs → ⊥
       none_first full u (z ∷ zs) h (entry k at p) = full z (omega arith) at
+      none_first full u [] h p = elim p [ ]
 
 -- ---- the list
 
 -- as many starts as entries
 pub same_count : {ws : List Window} {t : ℕ} (ds ys : List ℕ) → PlacementFrom ws t ds ys → length ys ≡ length ds
 same_count [] [] nothing = refl
-same_count (d ∷ ds) (y ∷ ys) (entry h i p) = ap suc (same_count ds ys p)
+same_count {t = t} (d ∷ ds) (y ∷ ys) (entry h i p) = ap suc (same_count {t = y + d} ds ys p)
+same_count [] (y ∷ ys) p = elim p [ ]
+same_count (d ∷ ds) [] p = elim p [ ]
 
 no_starts : {ws : List Window} {t d : ℕ} {ds : List ℕ} → PlacementFrom ws t (d ∷ ds) [] → ⊥
 no_starts = elim [ ]
@@ -95,6 +101,7 @@ ends_later t u [] ys zs h n p = h
 ends_later t u (d ∷ ds) [] [] h n p = absurd (no_starts p)
 ends_later t u (d ∷ ds) [] (z ∷ zs) h n p = absurd (not_longer n)
 ends_later t u (d ∷ ds) (y ∷ ys) (z ∷ zs) h (both_left low n) (entry k i p) = ends_later (y + d) (z + d) ds ys zs (omega arith) n p
+ends_later t u (d ∷ ds) (y ∷ ys) [] h n p = elim n [ ]
 
 -- the end minute is the last entry's start and its minutes
 last_end :
@@ -104,6 +111,8 @@ last_end :
 unfolding end_from
 last_end y d [] [] nothing = refl
 last_end y d (e ∷ ds) (z ∷ ys) (entry h i p) = last_end z e ds ys p
+last_end y d [] (z ∷ ys) p = elim p [ ]
+last_end y d (e ∷ ds) [] p = elim p [ ]
 
 list_end :
     {ws : List Window} (t : ℕ) (ds ys : List ℕ)
@@ -114,6 +123,7 @@ unfolding end_from
 list_end t [] ys p some-entry = absurd (omega arith)
 list_end t (d ∷ ds) (y ∷ ys) (entry h i p) some-entry =
     let e : suc (length ds) - 1 ≡ length ds = omega arith in rw e (last_end y d ds ys p)
+list_end t (d ∷ ds) [] p some-entry = elim p [ ]
 
 -- what is written: a placement, earlier than every other
 pub record Best (ws : List Window) (ds ys : List ℕ) (end : ℕ) : Type 0 where
@@ -138,6 +148,8 @@ placement_prefix : {ws : List Window} (t j : ℕ) (ds ys : List ℕ) → Placeme
 placement_prefix t zero ds ys p = nothing
 placement_prefix t (suc j) [] [] nothing = nothing
 placement_prefix t (suc j) (d ∷ ds) (y ∷ ys) (entry h i p) = entry h i (placement_prefix (y + d) j ds ys p)
+placement_prefix t (suc j) [] (y ∷ ys) p = elim p [ ]
+placement_prefix t (suc j) (d ∷ ds) [] p = elim p [ ]
 
 -- "19, no placement exists, place the first entry up to which the list has none"
 pub record FirstWithout (ws : List Window) (ds : List ℕ) (i : ℕ) : Type 0 where

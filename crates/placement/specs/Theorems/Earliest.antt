@@ -40,6 +40,7 @@ module _ (t : ℕ) (w : Window) where
 inside_after : (m : ℕ) (ws : List Window) {from to : ℕ} → Rising m ws → Inside from to ws → m ≤ from
 inside_after m (w ∷ ws) up (here h k) = omega (arith, up.0)
 inside_after m (w ∷ ws) up (later at) = let h = inside_after w.shutting ws up.2 at in omega (arith, up.0, up.1)
+inside_after m [] up p = elim p [ ]
 
 -- y is the earliest start of d minutes from t on
 pub record Earliest (ws : List Window) (t d y : ℕ) : Type 0 where

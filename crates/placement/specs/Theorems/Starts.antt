@@ -54,16 +54,21 @@ windows_shut {L} {ws} ok = shut_by L.last_minute (window_at ws) 0 (pieces 8 (len
 inside_by : (m : ℕ) (ws : List Window) {from to : ℕ} → ShutBy m ws → Inside from to ws → to ≤ m
 inside_by m (w ∷ ws) by (here h k) = omega (arith, by.0)
 inside_by m (w ∷ ws) by (later i) = inside_by m ws by.1 i
+inside_by m [] by p = elim p [ ]
 
 pub starts_by : (m : ℕ) (ws : List Window) (t : ℕ) (ds ys : List ℕ) → ShutBy m ws → PlacementFrom ws t ds ys → (i : ℕ) → i < length ys → get_or ys i 0 ≤ m
 starts_by m ws t [] [] by nothing i h = absurd (omega arith)
 starts_by m ws t (d ∷ ds) (y ∷ ys) by (entry k at p) zero h = let last = inside_by m ws by at in omega arith
 starts_by m ws t (d ∷ ds) (y ∷ ys) by (entry k at p) (suc i) h = starts_by m ws (y + d) ds ys by p i (omega arith)
+starts_by m ws t [] (y ∷ ys) by p i h = elim p [ ]
+starts_by m ws t (d ∷ ds) [] by p i h = elim p [ ]
 
 pub end_by : (m : ℕ) (ws : List Window) (t : ℕ) (ds ys : List ℕ) → ShutBy m ws → t ≤ m → PlacementFrom ws t ds ys → end_from t ds ys ≤ m
 unfolding end_from
 end_by m ws t [] [] by h nothing = h
 end_by m ws t (d ∷ ds) (y ∷ ys) by h (entry k at p) = end_by m ws (y + d) ds ys by (inside_by m ws by at) p
+end_by m ws t [] (y ∷ ys) by h p = elim p [ ]
+end_by m ws t (d ∷ ds) [] by h p = elim p [ ]
 
 -- every entry takes a minute at least
 minutes_least : (ws : List Window) (t : ℕ) (ds ys : List ℕ) → Positive ds → PlacementFrom ws t ds ys → t + length ds ≤ end_from t ds ys
@@ -71,6 +76,8 @@ unfolding end_from
 minutes_least ws t [] [] some_time nothing = omega arith
 minutes_least ws t (d ∷ ds) (y ∷ ys) some_time (entry k at p) =
     let rest = minutes_least ws (y + d) ds ys some_time.1 p in let one = some_time.0 in omega arith
+minutes_least ws t [] (y ∷ ys) some_time p = elim p [ ]
+minutes_least ws t (d ∷ ds) [] some_time p = elim p [ ]
 
 -- a list of more entries than the last minute has no placement
 pub few_entries : (m : ℕ) (ws : List Window) (ds : List ℕ) → ShutBy m ws → Positive ds → m < length ds → NoPlacement ws ds

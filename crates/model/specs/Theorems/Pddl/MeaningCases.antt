@@ -35,14 +35,17 @@ module _ (s : State) where
       added : (p : ℕ) → In (gain p) (gain 0 ∷ lose 0 ∷ []) → p ≡ 0
       added p (inl e) = cc
       added p (inr (inl e)) = cc
+      added p (inr (inr x)) = elim x [ ]
 
       deleted : (p : ℕ) → In (lose p) (gain 0 ∷ lose 0 ∷ []) → p ≡ 0
       deleted p (inl e) = cc
       deleted p (inr (inl e)) = cc
+      deleted p (inr (inr x)) = elim x [ ]
 
       no_alter : (k : Kind) (v : ℕ) (e : Expression) → In (alter k v e) (gain 0 ∷ lose 0 ∷ []) → ⊥
       no_alter k v e (inl h) = not_gain h
       no_alter k v e (inr (inl h)) = not_lose h
+      no_alter k v e (inr (inr x)) = elim x [ ]
 
   -- (and (assign (v0) (v1)) (assign (v1) (v0))): each expression is read in the state before
   unfoldable pub swap : List Change
@@ -74,10 +77,12 @@ module _ (s : State) where
       no_gain : (p : ℕ) → In (gain p) swap → ⊥
       no_gain p (inl h) = not_gain (sym h)
       no_gain p (inr (inl h)) = not_gain (sym h)
+      no_gain p (inr (inr x)) = elim x [ ]
 
       no_lose : (p : ℕ) → In (lose p) swap → ⊥
       no_lose p (inl h) = not_lose (sym h)
       no_lose p (inr (inl h)) = not_lose (sym h)
+      no_lose p (inr (inr x)) = elim x [ ]
 
       alters_are : (k : Kind) (v : ℕ) (e : Expression) → In (alter k v e) swap → after_swap.val v ≡ altered k (s.val v) (value_in s e)
       alters_are k v e (inl h) =
@@ -90,6 +95,7 @@ module _ (s : State) where
           let name : v ≡ 1 = cc in
           let read : e ≡ fluent 0 = cc in
           rw (kind, name, read) refl
+      alters_are k v e (inr (inr x)) = elim x [ ]
 
   -- (:init (p0)): p1 is false
   pub unlisted_false : Initial (given 0 ∷ []) s → T (s.has 1) → ⊥
@@ -97,3 +103,4 @@ module _ (s : State) where
     where
       only : In (given 1) (given 0 ∷ []) → ⊥
       only (inl e) = let z : ◌≡◌ {A = ℕ} 1 0 = cc in omega arith
+      only (inr x) = elim x [ ]

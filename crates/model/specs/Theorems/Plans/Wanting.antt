@@ -222,6 +222,21 @@ module _ (l : Layer) where
       (λ z e. rw (e, lowest_unbounded) (lowest_none ts a.1))
       (λ e. absurd (a.0 e))
 
+  lowest_among :
+      (t : Term) (ts : List Term)
+      → Rising ts
+      → Among t ts
+      → l.val t.var ≡ unbounded
+      → All (λ (u : Term). l.val u.var ≡ unbounded → t.var ≤ u.var) ts
+      → lowest_unbounded l ts ≡ some t
+  unfolding lowest_unbounded
+  lowest_among t ts rising (here {ts = us}) e lowest = rw (e, lowest_unbounded)
+  lowest_among t ts rising (there {u = u} {ts = us} m) e lowest =
+      let before : u.var < t.var = among_all (λ r. u.var < r.var) m rising.0 in
+      value_cases (l.val u.var)
+      (λ z f. rw (f, lowest_unbounded) (lowest_among t us rising.1 m e lowest.1))
+      (λ f. absurd (omega (arith, lowest.0 f)))
+
   -- t is unbounded, and no unbounded variable is lower
   pub lowest_some :
       (ts : List Term) (t : Term)
@@ -230,10 +245,4 @@ module _ (l : Layer) where
       → l.val t.var ≡ unbounded
       → All (λ (u : Term). l.val u.var ≡ unbounded → t.var ≤ u.var) ts
       → lowest_unbounded l ts ≡ some t
-  unfolding lowest_unbounded
-  lowest_some ts t rising (here {ts = us}) e lowest = rw (e, lowest_unbounded)
-  lowest_some ts t rising (there {u = u} {ts = us} m) e lowest =
-      let before : u.var < t.var = among_all (λ r. u.var < r.var) m rising.0 in
-      value_cases (l.val u.var)
-      (λ z f. rw (f, lowest_unbounded) (lowest_some us t rising.1 m e lowest.1))
-      (λ f. absurd (omega (arith, lowest.0 f)))
+  lowest_some ts t rising m e lowest = lowest_among t ts rising m e lowest

@@ -186,8 +186,9 @@ module _ {vars : ℕ} {l : Layer} {s : State} (small : SmallLayer vars l) (start
         → SmallWants high w
         → SmallWants high (want_block l s w b)
     unfolding want_block
-    want_items_small props [] ok h = h
-    want_items_small props (i ∷ b) ok h = want_items_small props b ok.1 (want_item_small props i ok.0 h)
+    want_items_small props {w = w} [] ok h = h
+    want_items_small props {w = w} (i ∷ b) ok h =
+        want_items_small props {w = want_item l s w i} b ok.1 (want_item_small props i ok.0 h)
 
     -- the conditions of a move or of the goal
     pub want_block_small :
