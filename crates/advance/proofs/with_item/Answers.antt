@@ -1,0 +1,10 @@
+-- `with_item` meets its contract.
+-- Assumes nothing.
+use mathlib.Core.Path.{refl}
+use borrow.Author.Rules.{rules}
+use Rattle.cursor.specs.State.{item_cursor}
+use Rattle.advance.proofs.with_item.Goals as goal
+
+pub returns : goal.returns
+unfolding item_cursor
+returns c = refl
