@@ -6,8 +6,10 @@ ghost use Rattle.model.specs.Limits.{paper};
 ghost use Rattle.model.specs.Listing.{listing};
 ghost use Rattle.listing.specs.Rooms.{Rooms};
 
-use libc::STDOUT_FILENO;
 use model::{PlanAnswer, WriteAnswer};
+use std::fs::File;
+use std::io::Read;
+use std::rt::Files;
 
 // The text for a table and a state, at the start of `text`: how many bytes it has.
 fn text_of(
@@ -31,17 +33,22 @@ fn text_of(
     }
 }
 
-// The first bytes of a file, as many as `buffer` holds; a missing file is empty.
-fn file_bytes(path: &[u8], buffer: &mut [u8]) -> usize
+// The first bytes of a file, as many as `buffer` holds; a missing file is empty, and so is one that cannot be opened. A read that
+// fails ends the file.
+fn file_bytes(rt: &impl Files, path: &str, buffer: &mut [u8]) -> usize
     ensures { result ≤ length buffer.new }
 {
-    let file = os::open_read(path);
-    if file < 0 {
+    let Ok(mut file) = File::open(rt, path) else {
         return 0;
+    };
+    let mut done = 0;
+    while done < buffer.len() {
+        match file.read(&mut buffer[done..]) {
+            Ok(0) | Err(_) => break,
+            Ok(n) => done += n,
+        }
     }
-    let n = io::read_full(file, buffer);
-    libc::close(file);
-    n
+    done
 }
 
 // Memory for the normal form and for the plan.
@@ -63,16 +70,17 @@ fn text_buffer() -> [u8; 160056]
     [0; 160056]
 }
 
-// A buffer of one byte more than any accepted file has is enough: a longer file is refused by its length alone.
-fn main() {
+// A buffer of one byte more than any accepted file has is enough: a longer file is refused by its length alone. Whether
+// the text could be written is not asked: the exit status is 0 in any case.
+fn main(rt: HostRuntime) {
     let mut task = [0u8; 32001];
     let mut state = [0u8; 185];
     let mut normal = output_buffer();
     let mut layers = layer_memory();
     let mut plan = output_buffer();
     let mut text = text_buffer();
-    let task_len = file_bytes(b"task.bin", &mut task);
-    let state_len = file_bytes(b"state.bin", &mut state);
+    let task_len = file_bytes(&rt, "task.bin", &mut task);
+    let state_len = file_bytes(&rt, "state.bin", &mut state);
     let n = text_of(
         &task[..task_len],
         &state[..state_len],
@@ -81,5 +89,5 @@ fn main() {
         &mut plan,
         &mut text,
     );
-    io::write_all(STDOUT_FILENO, &text[..n]);
+    let _ = rt.write_all(&text[..n]);
 }
