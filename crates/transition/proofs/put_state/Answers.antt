@@ -1,0 +1,33 @@
+-- `put_state` meets its contract: 13, or the state is stored. Assumes nothing.
+use Prim.Native.Nat.{◌+◌, ◌*◌}
+use native.Mathlib.Omega.{arith}
+use mathlib.Core.Path.{◌≡◌, sym}
+use borrow.Author.Rules.{rules}
+use lib.ListN.{length}
+use Rattle.model.specs.StateTable.{state_bytes}
+use Rattle.model.specs.Theorems.Reading.States.{length_state_bytes}
+use Rattle.state.specs.Storing.{state_in}
+use Rattle.output.specs.Answers.{answered_short, answered_whole}
+use Rattle.real_move.specs.Moving.{holds_small}
+use Rattle.transition.proofs.put_state.Goals as goal
+
+pub overflow_mul-size : goal.overflow_mul-size
+overflow_mul-size c = omega (arith, c.requires.few_vars)
+
+pub overflow_add-size : goal.overflow_add-size
+overflow_add-size c = omega (arith, c.requires.few_props, c.requires.few_vars)
+
+pub returns-then-out-size : goal.returns-then-out-size
+returns-then-out-size c =
+    let size : length (state_bytes c.args.props c.args.vars (state_in c.args.has.now c.args.values.now)) ≡ c.args.props + 4 * c.args.vars = length_state_bytes c.args.props c.args.vars (state_in c.args.has.now c.args.values.now) in
+    answered_short (sym (size)) (omega (arith, c.if-out-size.true))
+
+pub store-requires : goal.store-requires
+store-requires c =
+    let w = c.requires.holds in
+    (w.long_has, record { room = omega (arith, c.if-out-size.false); given = w.long_values; small = holds_small w })
+
+pub returns : goal.returns
+returns c =
+    let size : length (state_bytes c.args.props c.args.vars (state_in c.args.has.now c.args.values.now)) ≡ c.args.props + 4 * c.args.vars = length_state_bytes c.args.props c.args.vars (state_in c.args.has.now c.args.values.now) in
+    answered_whole (sym (size)) (omega (arith, c.if-out-size.false)) c.store.ensures
