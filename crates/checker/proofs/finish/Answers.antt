@@ -1,0 +1,22 @@
+-- `finish` meets its contract: the goal, then the end state or 13. Assumes nothing.
+use borrow.Author.Rules.{rules}
+use borrow.Author.Tests.{not-true, not-false}
+use Rattle.checker.specs.Replies.{goal_testable, tested_unmet, tested_yes, tested_short}
+use Rattle.checker.proofs.finish.Goals as goal
+
+pub applicable-requires : goal.applicable-requires
+applicable-requires c = goal_testable c.requires
+
+pub returns-then-not-applicable : goal.returns-then-not-applicable
+returns-then-not-applicable c = tested_unmet c.applicable.ensures _ c.if-not-applicable.true
+
+pub put_state-requires : goal.put_state-requires
+put_state-requires c =
+    let p = c.requires in
+    record { few_props = p.few_props; few_vars = p.few_vars; state = p.over; holds = p.holds }
+
+pub returns-in-Written : goal.returns-in-Written
+returns-in-Written c = tested_yes c.applicable.ensures _ c.if-not-applicable.false c.put_state.ensures c.in-Written.is
+
+pub returns-in-Refused : goal.returns-in-Refused
+returns-in-Refused c = tested_short c.applicable.ensures _ c.if-not-applicable.false c.put_state.ensures c.in-Refused.is
