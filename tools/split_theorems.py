@@ -34,11 +34,17 @@ class Item:
     def __init__(self, lines):
         self.lines = lines
         self.names, self.defs, self.others, fields = set(), set(), set(), set()
-        inside = None
+        inside, levels = None, {0}
         for l in lines:
             if l.startswith(("--", "infix")):
                 continue
+            block = re.match(r"( *)module ", l)
+            if block:
+                levels.add(len(block.group(1)) + 2)
             m = SIGN.match(l)
+            # names of a `where` are its own
+            if m and len(m.group(1)) not in levels and inside is None:
+                continue
             if inside is not None and (len(l) - len(l.lstrip()) <= inside and l.strip()):
                 inside = None
             if inside is not None:

@@ -1,5 +1,0 @@
-
-use Rattle.reader.proofs.placed.Goals as goal
-
-pub returns : goal.returns
-returns c = ?
