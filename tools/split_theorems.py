@@ -43,7 +43,7 @@ class Item:
                 levels.add(len(block.group(1)) + 2)
             m = SIGN.match(l)
             # names of a `where` are its own
-            if m and len(m.group(1)) not in levels and inside is None:
+            if m and len(m.group(1)) not in levels and inside is None and "pub" not in m.group(2).split():
                 continue
             if inside is not None and (len(l) - len(l.lstrip()) <= inside and l.strip()):
                 inside = None
@@ -72,10 +72,20 @@ class Item:
         first = next(l for l in self.lines if SIGN.match(l) or l.startswith("module "))
         return first.startswith("module ") or " pub " in " " + SIGN.match(first).group(2)
 
-    def publish(self):
-        """Gives a definition that others now import the mark pub."""
-        i = next(i for i, l in enumerate(self.lines) if SIGN.match(l))
-        self.lines[i] = re.sub(r"^((?:(?:unfoldable|abbrev|pattern) )*)", r"\1pub ", self.lines[i])
+    def publish(self, words):
+        """Gives the definitions among these words, which others now import, the mark pub."""
+        inside = None
+        for i, l in enumerate(self.lines):
+            m = SIGN.match(l)
+            if inside is not None and l.strip() and len(l) - len(l.lstrip()) <= inside:
+                inside = None
+            if inside is not None:
+                continue
+            if m and m.group(3) and m.group(4) != "{":
+                inside = len(m.group(1))
+            if m and (m.group(4) if m.group(3) else m.group(5)) in self.names and "pub" not in m.group(2).split():
+                if occurs(m.group(4) if m.group(3) else m.group(5), words):
+                    self.lines[i] = re.sub(r"^( *(?:(?:unfoldable|abbrev|pattern) )*)", r"\1pub ", l)
 
 
 def parse(path):
@@ -181,8 +191,8 @@ def main(argv):
             gone |= alone
         words = set().union(*(items[i].words for i in gone)) if gone else set()
         for i, it in enumerate(items):
-            if gone and i not in gone and not it.is_public() and any(occurs(n, words) for n in it.names):
-                it.publish()
+            if gone and i not in gone:
+                it.publish(words)
     names_moved = {k: set().union(*(files[k][2][i].names for i in v)) if v else set() for k, v in moved.items()}
     if argv == ["--list"]:
         for (c, module), names in sorted(names_moved.items()):
