@@ -12,7 +12,8 @@ use Rattle.model.specs.Move.{move_at}
 use Rattle.model.specs.Layer.{Value, Layer, reaches, usable, layer_value}
 use Rattle.model.specs.Memory.{encode}
 use Rattle.model.specs.Plan.{adder, demand, achieves, achiever}
-use Rattle.model.specs.Theorems.Laws.Searching.{Searched, searched_next, searched_found, searched_all}
+use Rattle.model.specs.Theorems.Laws.Searching.{Searched}
+use Rattle.model.proofs.Theorems.Laws.Searching.{searched_next, searched_found, searched_all}
 use Rattle.table.specs.Outlines.{part_at}
 use Rattle.reader.specs.Parts.{PartIn}
 use Rattle.block.specs.Parts.{ranges_of}

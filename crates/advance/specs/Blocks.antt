@@ -13,7 +13,7 @@ use Rattle.model.specs.Circle.{item_edge}
 use Rattle.model.specs.Command.{Command, head, open_move, open_goal, end_table, unknown, width, Place, start, preamble, in_move, in_goal, finished, in_place}
 use Rattle.model.specs.Seen.{Seen, nothing_seen, byte_after, closed, with_head, with_mark, advance}
 use Rattle.model.specs.Reading.{opened}
-use Rattle.model.specs.Theorems.Reading.Commands.{width_positive, none_finished}
+use Rattle.model.proofs.Theorems.Reading.Commands.{width_positive, none_finished}
 use Rattle.cursor.specs.declared.Cursor.{Cursor}
 use Rattle.command.specs.declared.Form.{Form}
 use Rattle.command.specs.declared.Place as code
@@ -21,7 +21,7 @@ use Rattle.command.specs.declared.Place.TheVariants.{Start, Preamble, InMove, In
 use Rattle.command.specs.Names.{form_of, place_of}
 use Rattle.command.specs.Checks.{miscounted}
 use Rattle.cursor.specs.State.{head_cursor, mark_cursor, Stage, Valid, Passed}
-use Rattle.cursor.specs.Passing.{head_range}
+use Rattle.cursor.proofs.Passing.{head_range}
 use Rattle.advance.specs.Stamps.{needs, changes, affects, Stamped, stamped_new}
 use Rattle.advance.specs.Edges.{Drawn, closed_new}
 use Rattle.advance.specs.Marks.{Marks, marks_none, marks_more}

@@ -14,7 +14,7 @@ use Rattle.model.specs.Lists.{any, any_below}
 use Rattle.model.specs.Task.{Item, Block}
 use Rattle.model.specs.Circle.{item_edge}
 use Rattle.model.specs.Seen.{closed}
-use Rattle.model.specs.Theorems.Laws.Booleans.{T-cases, T_true, and_left, and_right, and_both}
+use Rattle.model.proofs.Theorems.Laws.Booleans.{T-cases, T_true, and_left, and_right, and_both}
 use Rattle.circle.specs.Walks.{table_edge}
 use Rattle.advance.specs.Stamps.{or-false, or-true, or_assoc, any_snoc}
 

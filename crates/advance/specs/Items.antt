@@ -11,13 +11,13 @@ use Rattle.model.specs.Task as task
 use Rattle.model.specs.Circle.{is_assign, item_edge}
 use Rattle.model.specs.Command.{Command, need_prop, add_prop, delete_prop, close_condition, close_effect, width, Place, in_move, in_place, start}
 use Rattle.model.specs.Seen.{Seen, byte_after, number_after, comparison_of, kind_of, item_at, closed, with_item, advance}
-use Rattle.model.specs.Theorems.Reading.Commands.{width_positive}
+use Rattle.model.proofs.Theorems.Reading.Commands.{width_positive}
 use Rattle.cursor.specs.declared.Cursor.{Cursor}
 use Rattle.command.specs.declared.Place as code
 use Rattle.command.specs.declared.Place.TheVariants.{Start, Preamble, InMove, InGoal, Finished}
 use Rattle.command.specs.Names.{place_of}
 use Rattle.cursor.specs.State.{item_cursor, Valid, Passed}
-use Rattle.cursor.specs.Passing.{need_range, add_range, delete_range, effect_range}
+use Rattle.cursor.proofs.Passing.{need_range, add_range, delete_range, effect_range}
 use Rattle.advance.specs.Stamps.{or-false, or-true, needs, changes, affects, Stamped, stamped_other, stamped_here}
 use Rattle.advance.specs.Edges.{Drawn, length_draw, draw_at, closed_more, closed_other}
 use Rattle.advance.specs.Tracks.{open_from, Tracks}

@@ -3,7 +3,7 @@ use Rattle.std.specs.Prelude.{ℕ, suc, ◌+◌, ◌≤◌, ◌<◌, ◌≡◌, 
 use Rattle.std.proofs.Common.{arith, sym, ◌∙◌, length-set, length-append, get_or-set_same, get_or-set_other}
 use Rattle.std.proofs.Math.ListN.{get_or-append}
 use Rattle.std.proofs.Math.Seq.{get_or-append_seam}
-use Rattle.model.specs.Theorems.Laws.Searching.{below_suc}
+use Rattle.model.proofs.Theorems.Laws.Searching.{below_suc}
 
 -- the array holds these marks, which rise and lie before `at`
 pub record Marks (at : ℕ) (ms : List ℕ) (a : List ℕ) : Type 0 where

@@ -8,7 +8,7 @@ use Rattle.std.proofs.Math.Dec.{eqb_refl}
 use borrow.Author.Tests.{ne_eqb}
 use Rattle.model.specs.Lists.{any}
 use Rattle.model.specs.Task.{Item, need, add, delete, condition, effect, Effect, assign, Block, clashes}
-use Rattle.model.specs.Theorems.Laws.Booleans.{T-cases, T_true, not-false}
+use Rattle.model.proofs.Theorems.Laws.Booleans.{T-cases, T_true, not-false}
 
 pub or-false : (b : Bool) → (b || false) ≡ b
 or-false true = refl

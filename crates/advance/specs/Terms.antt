@@ -12,12 +12,12 @@ use Rattle.model.specs.Lists.{all, any, any_below}
 use Rattle.model.specs.Task.{Term, kept}
 use Rattle.model.specs.Command.{term, width, in_place}
 use Rattle.model.specs.Seen.{Seen, byte_after, number_after, term_at, with_term, advance}
-use Rattle.model.specs.Theorems.Laws.Booleans.{T-equal, and_right, and_both}
-use Rattle.model.specs.Theorems.Laws.Searching.{below_suc}
-use Rattle.model.specs.Theorems.Reading.Commands.{width_positive}
+use Rattle.model.proofs.Theorems.Laws.Booleans.{T-equal, and_right, and_both}
+use Rattle.model.proofs.Theorems.Laws.Searching.{below_suc}
+use Rattle.model.proofs.Theorems.Reading.Commands.{width_positive}
 use Rattle.cursor.specs.declared.Cursor.{Cursor}
 use Rattle.cursor.specs.State.{term_cursor, source_at, Valid, repeated, Passed}
-use Rattle.cursor.specs.Passing.{term_range}
+use Rattle.cursor.proofs.Passing.{term_range}
 use Rattle.advance.specs.Stamps.{or-false, or_assoc}
 use Rattle.advance.specs.Edges.{weightless, source_is}
 use Rattle.advance.specs.Marks.{marks_later}

@@ -16,7 +16,7 @@ use Rattle.command.specs.Names.{form_of, place_of}
 use Rattle.command.specs.Checks.{lies_in, misplaced, miscounted, unfinished, closes_idle}
 use Rattle.operand.specs.Ranges.{wrong_operand, view_at}
 use Rattle.cursor.specs.State.{repeated, wrong_at, refused_offset, in_order, cursor_refusal}
-use Rattle.cursor.specs.Passing.{operands_refused}
+use Rattle.cursor.proofs.Passing.{operands_refused}
 use Rattle.advance.specs.Stamps.{needs, changes, affects, Stamped, needs_clash, changes_add, changes_delete, affects_effect}
 use Rattle.advance.specs.Edges.{Drawn, source_is}
 use Rattle.advance.specs.Marks.{Marks}

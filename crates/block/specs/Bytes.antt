@@ -2,7 +2,8 @@
 -- Assumes nothing.
 use Rattle.std.specs.Prelude.{ℕ, ◌+◌, ◌≤◌, ◌<◌, ◌≡◌, refl, List, [], ◌∷◌, ◌++◌, ℤ, pos, nat_abs, length, get_or, take, drop}
 use Rattle.std.proofs.Common.{add-zero, arith, sym, ap, ◌∙◌, subst, length-append, length-drop, get_or-drop, drop-drop, drop_at, take_at}
-use Rattle.integer.specs.BigEndian.{half, signed, signed_bytes, length_signed_bytes, signed_signed_bytes}
+use Rattle.integer.specs.BigEndian.{half, signed, signed_bytes}
+use Rattle.integer.proofs.BigEndian.{length_signed_bytes, signed_signed_bytes}
 use Rattle.integer.specs.Linear.{zlin, nat_abs_split, neg_up, neg_dn}
 
 -- from the offset on, the list is `bs`

@@ -5,7 +5,8 @@ use Rattle.std.proofs.Math.Path.{refl, sym}
 use Rattle.std.proofs.Common.{◌∙◌, subst, length-append}
 use Rattle.std.proofs.Math.IntN.{nat_abs}
 use Rattle.std.proofs.Math.ListN.{get_or}
-use Rattle.integer.specs.BigEndian.{half, signed, signed_bytes, length_signed_bytes}
+use Rattle.integer.specs.BigEndian.{half, signed, signed_bytes}
+use Rattle.integer.proofs.BigEndian.{length_signed_bytes}
 use Rattle.model.specs.Limits.{paper}
 use Rattle.model.specs.Task.{Term, Item, need, add, delete, condition, effect, Block, terms_of}
 use Rattle.model.specs.Command.{code_of, comparison_code, kind_code, term_bytes, items_bytes}

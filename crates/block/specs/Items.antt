@@ -2,13 +2,15 @@
 -- Assumes nothing.
 use Rattle.std.specs.Prelude.{ℕ, suc, ◌+◌, ◌*◌, ◌≤◌, ◌<◌, ◌≡◌, refl, List, [], ◌∷◌, ◌++◌, ℤ, nat_abs, ◌*ℤ◌, length, get_or, take, drop}
 use Rattle.std.proofs.Common.{arith, sym, ap, ◌∙◌, subst, append_assoc, length-append}
-use Rattle.integer.specs.BigEndian.{half, signed, signed_bytes, length_signed_bytes}
+use Rattle.integer.specs.BigEndian.{half, signed, signed_bytes}
+use Rattle.integer.proofs.BigEndian.{length_signed_bytes}
 use Rattle.integer.specs.Linear.{zlin, nat_abs_split}
 use Rattle.model.specs.Limits.{paper, largest_value}
 use Rattle.model.specs.Task.{Form, written, normal, Term, Condition, Effect, Item, need, add, delete, condition, effect, Block, terms_of}
 use Rattle.model.specs.Command.{term, code_of, comparison_code, kind_code, term_bytes, items_bytes}
-use Rattle.model.specs.Theorems.Printing.Operands.{weight_size}
-use Rattle.model.specs.Theorems.Printing.Items.{closing, item_parts}
+use Rattle.model.proofs.Theorems.Printing.Operands.{weight_size}
+use Rattle.model.specs.Theorems.Printing.Items.{closing}
+use Rattle.model.proofs.Theorems.Printing.Items.{item_parts}
 use Rattle.model.specs.Theorems.Reading.WellFormed.{All, WeightOk, SumOk, BoundOk, ConditionOk, EffectOk, ItemOk}
 use Rattle.block.specs.Bytes.{At, at_same, at_place, at_head, at_behind, at_tail, at_room, at_signed, at_length}
 use Rattle.block.specs.declared.ItemAt.{ItemAt}

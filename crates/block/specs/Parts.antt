@@ -4,7 +4,7 @@ use Rattle.model.specs.Limits.{paper}
 use Rattle.model.specs.Task.{Form, Task}
 use Rattle.model.specs.Command.{open_move, open_goal, code_of, items_bytes}
 use Rattle.model.specs.Theorems.Reading.WellFormed.{TaskOk}
-use Rattle.model.specs.Theorems.Layers.NextLayer.{move_ok}
+use Rattle.model.proofs.Theorems.Layers.NextLayer.{move_ok}
 use Rattle.block.specs.Items.{Ranges, Left, left_start}
 
 abbrev pub ranges_of : Form → Task → Ranges

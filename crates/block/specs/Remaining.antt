@@ -8,7 +8,7 @@ use Rattle.model.specs.Limits.{paper, comparison_in_range}
 use Rattle.model.specs.Task.{written, Condition, Kind, assign, increase, decrease, Effect, Item, need, add, delete, condition, effect, Block}
 use Rattle.model.specs.Command.{kind_code, items_bytes}
 use Rattle.model.specs.Seen.{comparison_of, kind_of}
-use Rattle.model.specs.Theorems.Printing.Operands.{comparison_back, comparison_range, kind_back}
+use Rattle.model.proofs.Theorems.Printing.Operands.{comparison_back, comparison_range, kind_back}
 use Rattle.block.specs.Bytes.{At, at_length}
 use Rattle.block.specs.Items.{Ranges, Left, Readable, readable, left_end, Followed, ConditionIs, EffectIs, ConditionFound, EffectFound, Found, behind, Next}
 use Rattle.block.specs.Terms.{SumAt, terms_at, terms_read}

@@ -12,7 +12,7 @@ use Rattle.model.specs.Lists.{all}
 use Rattle.model.specs.Command.{comparison_code}
 use Rattle.model.specs.Move.{State, compares, holds}
 use Rattle.model.specs.Theorems.Reading.WellFormed.{ItemOk, SumOk}
-use Rattle.model.specs.Theorems.Laws.Booleans.{true_t, cond_cases}
+use Rattle.model.proofs.Theorems.Laws.Booleans.{true_t, cond_cases}
 use Rattle.block.specs.Items.{Ranges, Left, Terms, TermAt, IsVariable, IsScaled, Found, behind, Moves, Next}
 use Rattle.block.specs.Closing.{Passed, pass_start, pass_room, pass_more, pass_step, pass_end, Closed, closed_room, found_need, found_add, found_delete, found_condition, found_effect, closes_effect}
 use Rattle.block.specs.Sums.{Row, Adding, few_terms, adding_start, adding_term, adding_room, adding_small, adding_step, adding_end, IsSum}

@@ -12,7 +12,7 @@ use Rattle.model.specs.Command.{comparison_code}
 use Rattle.model.specs.Move.{sum, compares}
 use Rattle.model.specs.Layer.{Value, finite, unbounded, plus, times, layer_sum, reaches, highest}
 use Rattle.model.specs.Memory.{encode, unbounded_mark}
-use Rattle.model.specs.Theorems.Laws.Booleans.{true_t, false_not}
+use Rattle.model.proofs.Theorems.Laws.Booleans.{true_t, false_not}
 use Rattle.block.specs.Items.{Ranges, Terms, TermAt, IsVariable, IsScaled, FirstOf, first_of, term_at, terms_place, term_var_small, terms_behind}
 
 -- a sum has at most eight terms

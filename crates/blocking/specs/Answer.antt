@@ -11,11 +11,13 @@ use Rattle.model.specs.Move.{State}
 use Rattle.model.specs.Layer.{exhausted, reported, layer_at, usable, meets_goal}
 use Rattle.model.specs.Calls.{Ready, ready, unready, prepared, decide_memory, memory_of}
 use Rattle.model.specs.Blocking.{unmet_answer, blocked, blocking_of, blocking_answer, blocking_memory}
-use Rattle.model.specs.Theorems.Layers.Answer.{outcome_exhausted}
-use Rattle.model.specs.Theorems.Layers.Building.{built_outcome}
-use Rattle.model.specs.Theorems.Sizes.Stored.{StoredLayers, steps_of}
-use Rattle.model.specs.Theorems.Blocking.Parts.{unmet_some}
-use Rattle.model.specs.Theorems.Blocking.EndToEnd.{Reasoned, answer_reasoned}
+use Rattle.model.proofs.Theorems.Layers.Answer.{outcome_exhausted}
+use Rattle.model.proofs.Theorems.Layers.Building.{built_outcome}
+use Rattle.model.specs.Theorems.Sizes.Stored.{steps_of}
+use Rattle.model.proofs.Theorems.Sizes.Stored.{StoredLayers}
+use Rattle.model.proofs.Theorems.Blocking.Parts.{unmet_some}
+use Rattle.model.specs.Theorems.Blocking.EndToEnd.{Reasoned}
+use Rattle.model.proofs.Theorems.Blocking.EndToEnd.{answer_reasoned}
 use Rattle.layers.specs.declared.Built.{Built as BuiltAnswer}
 use Rattle.layers.specs.declared.Built.TheVariants as building
 use Rattle.layers.specs.Starting.{start_of}

@@ -11,9 +11,11 @@ use Rattle.model.specs.declared.PlanAnswer.{PlanAnswer}
 use Rattle.model.specs.declared.PlanAnswer.TheVariants as plan
 use Rattle.model.specs.Limits.{paper}
 use Rattle.model.specs.Calls.{turns, normalised, normalise_answer, normalise_out, decide_answer, decide_memory, plan_answer, plan_memory, plan_out, on_output, campaign_decision, campaign_plan, campaign_memory, campaign_out}
-use Rattle.model.specs.Theorems.Campaigns.Demand2.{Handed, written_hands, refused_turns}
-use Rattle.model.specs.Theorems.Layers.Rebuilding.{decide_length, decide_again, plan_same_length}
-use Rattle.model.specs.Theorems.Campaigns.OneCall.{Promise, decides_on, plans_on, fills_on, writes_on, campaign_promise}
+use Rattle.model.specs.Theorems.Campaigns.Demand2.{Handed}
+use Rattle.model.proofs.Theorems.Campaigns.Demand2.{written_hands, refused_turns}
+use Rattle.model.proofs.Theorems.Layers.Rebuilding.{decide_length, decide_again, plan_same_length}
+use Rattle.model.specs.Theorems.Campaigns.OneCall.{Promise}
+use Rattle.model.proofs.Theorems.Campaigns.OneCall.{decides_on, plans_on, fills_on, writes_on, campaign_promise}
 
 -- what campaign answers, d and p, and leaves in each memory, as equations, and demand 3 of it
 pub record Done (t bs normal_form : List ℕ) (layers : List ℤ) (out normalFormAfter : List ℕ) (layersAfter : List ℤ) (outAfter : List ℕ) (d : DecideAnswer) (p : PlanAnswer) : Type 0 where

@@ -11,7 +11,8 @@ use Rattle.model.specs.Command.{head, code_of, task_bytes}
 use Rattle.model.specs.Seen.{Head}
 use Rattle.model.specs.Reading.{Table, accepted, refused, Wanted, reading}
 use Rattle.ceiling.specs.Ceiling as ceilings
-use Rattle.model.specs.Theorems.Reading.Accepted.{reading_length, HeadBytes, head_bytes_lem}
+use Rattle.model.specs.Theorems.Reading.Accepted.{HeadBytes}
+use Rattle.model.proofs.Theorems.Reading.Accepted.{reading_length, head_bytes_lem}
 use Rattle.ceiling.specs.declared.Ceiling.{Ceiling}
 
 -- a ceiling whose numbers are limited

@@ -8,11 +8,7 @@
 --   rig-plan-layers, rig-campaign-layers, rig-decide-14, rig-plan-14, rig-plan-13; Longer.same-but-14, campaign-but-14; Cases
 -- Assumes nothing.
 pub mod Used
-pub mod Calls
-pub mod Full
-pub mod Campaign
 pub mod EndToEnd
-pub mod Sizes
 pub mod Codes
 pub mod Fitting
 pub mod Board

@@ -4,8 +4,8 @@ use Rattle.std.proofs.Common.{arith, add-one, sym, ◌∙◌, subst, length-set,
 use Rattle.std.proofs.Math.Path.{ap}
 use Rattle.std.proofs.lemmas.List.{length-replicate, get_or-replicate}
 use Rattle.model.specs.Lists.{any_below}
-use Rattle.model.specs.Theorems.Laws.Booleans.{T_true, true_t, and_right, and_both, T-equal}
-use Rattle.model.specs.Theorems.Laws.Searching.{below_suc, any_below_at}
+use Rattle.model.proofs.Theorems.Laws.Booleans.{T_true, true_t, and_right, and_both, T-equal}
+use Rattle.model.proofs.Theorems.Laws.Searching.{below_suc, any_below_at}
 use Rattle.circle.specs.Walks.{table_edge, any_below_same, walk_in, circular_in, none_longer, walk_shorter}
 
 -- is u alive, with an edge to v

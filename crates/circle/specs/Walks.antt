@@ -8,8 +8,8 @@ use Rattle.std.proofs.Math.Bool.{true, false}
 use Rattle.model.specs.Lists.{any_below}
 use Rattle.model.specs.Task.{Task}
 use Rattle.model.specs.Circle.{edge, walk_to, circular}
-use Rattle.model.specs.Theorems.Laws.Booleans.{not-false, false_not, and_left, and_right, and_both}
-use Rattle.model.specs.Theorems.Laws.Searching.{any_below_cases, any_below_at}
+use Rattle.model.proofs.Theorems.Laws.Booleans.{not-false, false_not, and_left, and_right, and_both}
+use Rattle.model.proofs.Theorems.Laws.Searching.{any_below_cases, any_below_at}
 
 unfoldable pub table_edge : List Bool → ℕ → ℕ → Bool
 table_edge es u v = get_or es (u * 32 + v) false

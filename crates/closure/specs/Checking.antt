@@ -4,12 +4,13 @@ use Rattle.std.proofs.Common.{arith, sym, ◌∙◌}
 use Rattle.std.proofs.Math.Path.{refl, ap}
 use Rattle.std.proofs.Math.Option.{Option, none, some}
 use Rattle.model.specs.Calls.{Output, turns}
-use Rattle.model.specs.Theorems.Laws.Booleans.{false_not, clash}
+use Rattle.model.proofs.Theorems.Laws.Booleans.{false_not, clash}
 use Rattle.closure.specs.declared.Fault.{Fault}
 use Rattle.closure.specs.declared.Fault.TheVariants as fault
 use Rattle.placement.specs.Day.{paper_day, window_at, wrong_window, wrong_duration, first_window, first_duration}
 use Rattle.placement.specs.Placing.{checked}
-use Rattle.placement.specs.Theorems.Checks.{same_test, WindowOk, right_window, wrong_window_lem, WindowsOk, windows_cases, DurationOk, right_duration, wrong_duration_holds, DurationsOk, durations_cases}
+use Rattle.placement.specs.Theorems.Checks.{WindowOk, WindowsOk, DurationOk, DurationsOk}
+use Rattle.placement.proofs.Theorems.Checks.{same_test, right_window, wrong_window_lem, windows_cases, right_duration, wrong_duration_holds, durations_cases}
 use Rattle.placement.specs.Theorems.Answers.{DayOk}
 
 unfoldable pub fault_of : Fault → Option ℕ

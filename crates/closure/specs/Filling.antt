@@ -7,8 +7,8 @@ use mathlib.Core.List.{List, []}
 use Rattle.model.specs.declared.Refusal.{Refusal}
 use Rattle.model.specs.Memory.{overwrite}
 use Rattle.model.specs.Calls.{Output, writes, turns, fitted, output_after}
-use Rattle.model.specs.Theorems.Laws.Booleans.{clash}
-use Rattle.model.specs.Theorems.Printing.Outputs.{fitted_whole, fitted_short}
+use Rattle.model.proofs.Theorems.Laws.Booleans.{clash}
+use Rattle.model.proofs.Theorems.Printing.Outputs.{fitted_whole, fitted_short}
 use Rattle.output.specs.Writing.{written_first}
 use Rattle.placement.specs.declared.PlaceAnswer.{PlaceAnswer}
 use Rattle.placement.specs.declared.PlaceAnswer.TheVariants as place
@@ -16,7 +16,8 @@ use Rattle.closure.specs.declared.Walked.{Walked}
 use Rattle.closure.specs.declared.Walked.TheVariants as walked
 use Rattle.placement.specs.Day.{paper_day, first_window, first_duration}
 use Rattle.placement.specs.Placing.{Placed, placed, stuck, start_bytes, starts_of, end_minute, checked, day_placed, placing, answered, place_answer, place_out}
-use Rattle.placement.specs.Theorems.Answers.{PlaceRight, answer_right}
+use Rattle.placement.specs.Theorems.Answers.{PlaceRight}
+use Rattle.placement.proofs.Theorems.Answers.{answer_right}
 use Rattle.closure.specs.Walking.{Wrote, Stopped, Walks}
 
 -- o is what the call writes, or why it turns back, 13 apart

@@ -3,19 +3,22 @@ use Rattle.std.specs.Prelude.{ℕ, suc, ◌+◌, ◌-◌, ◌*◌, ◌≤◌, �
 use Rattle.std.proofs.Common.{add-one, arith, sym, ◌∙◌, length-append}
 use Rattle.std.proofs.Math.Path.{ap}
 use Rattle.std.proofs.Math.ListN.{length}
-use Rattle.integer.specs.BigEndian.{bytes, length_bytes}
+use Rattle.integer.specs.BigEndian.{bytes}
+use Rattle.integer.proofs.BigEndian.{length_bytes}
 use Rattle.output.specs.Writing.{Written, written_none, written_join, written_same}
 use Rattle.model.specs.Lists.{tabulate}
-use Rattle.model.specs.Theorems.Laws.Searching.{length_tabulate}
+use Rattle.model.proofs.Theorems.Laws.Searching.{length_tabulate}
 use Rattle.closure.specs.declared.Walked.{Walked}
 use Rattle.closure.specs.declared.Walked.TheVariants as walked
 use Rattle.placement.specs.Day.{Window, paper_day, window_at, duration_at, pieces, windows_of, durations_of}
 use Rattle.placement.specs.Placing.{start_in, placed, stuck, start_bytes, day_placed}
-use Rattle.placement.specs.Theorems.Earliest.{start_most}
-use Rattle.placement.specs.Theorems.Checks.{WindowOk, durations_positive}
+use Rattle.placement.proofs.Theorems.Earliest.{start_most}
+use Rattle.placement.specs.Theorems.Checks.{WindowOk}
+use Rattle.placement.proofs.Theorems.Checks.{durations_positive}
 use Rattle.placement.specs.Theorems.Answers.{DayOk}
-use Rattle.placement.specs.Theorems.Starts.{starts_one}
-use Rattle.placement.specs.Theorems.Walk.{Walk, begin, place, leave, walk_turns, walk_placed, walk_stuck}
+use Rattle.placement.proofs.Theorems.Starts.{starts_one}
+use Rattle.placement.specs.Theorems.Walk.{Walk, begin, place, leave}
+use Rattle.placement.proofs.Theorems.Walk.{walk_turns, walk_placed, walk_stuck}
 
 -- what is left from number i on, of n
 abbrev left_of : {A : Type 0} → (ℕ → A) → ℕ → ℕ → List A

@@ -12,7 +12,7 @@ use Rattle.model.specs.Calls.{refusal_number, refusal_place}
 use Rattle.model.specs.Exports.{refusal_code, write_code, block_answer, block_copy}
 use Rattle.model.specs.Theorems.Reading.Places.{Small, IfSome}
 use Rattle.model.specs.Theorems.Sizes.Answers.{place_limit}
-use Rattle.model.specs.Theorems.Printing.Outputs.{put_first}
+use Rattle.model.proofs.Theorems.Printing.Outputs.{put_first}
 
 -- number 0 is no refusal
 unfoldable pub part_code : ℕ → ℕ → ℕ → ℕ

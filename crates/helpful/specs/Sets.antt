@@ -12,8 +12,8 @@ use Rattle.model.specs.Task.{normal, Block, Task}
 use Rattle.model.specs.Move.{move_at}
 use Rattle.model.specs.Layer.{Layer, usable, layer_at}
 use Rattle.model.specs.Plan.{Wants, supports, helpful, set_of}
-use Rattle.model.specs.Theorems.Laws.Sets.{set_small}
-use Rattle.model.specs.Theorems.Sizes.Layers.{layer_small}
+use Rattle.model.proofs.Theorems.Laws.Sets.{set_small}
+use Rattle.model.proofs.Theorems.Sizes.Layers.{layer_small}
 use Rattle.block.specs.Parts.{ranges_of}
 use Rattle.targets.specs.declared.Targets.{Targets}
 use Rattle.targets.specs.Encoding.{Encodes}

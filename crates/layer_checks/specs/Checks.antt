@@ -9,9 +9,10 @@ use Rattle.model.specs.Limits.{paper}
 use Rattle.model.specs.Lists.{all_below, any_below}
 use Rattle.model.specs.Layer.{Value, finite, unbounded, Layer, same_value, same_layer}
 use Rattle.model.specs.Memory.{unbounded_mark, encode, too_large}
-use Rattle.model.specs.Theorems.Laws.Booleans.{T_true, true_t}
-use Rattle.model.specs.Theorems.Layers.Order.{◌⊑◌, ⊑-finite}
-use Rattle.model.specs.Theorems.Laws.Searching.{all_below_at}
+use Rattle.model.proofs.Theorems.Laws.Booleans.{T_true, true_t}
+use Rattle.model.specs.Theorems.Layers.Order.{◌⊑◌}
+use Rattle.model.proofs.Theorems.Layers.Order.{⊑-finite}
+use Rattle.model.proofs.Theorems.Laws.Searching.{all_below_at}
 use Rattle.block.specs.Sums.{Sized, Encoded, LayerRow, is_mark, encoded_more}
 use Rattle.layer_checks.specs.Comparing.{same_truth, not_above, within_limit, within_at}
 use Rattle.layer_memory.specs.Arrays.{Truths, Values, effect_size}

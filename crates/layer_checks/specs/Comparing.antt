@@ -8,8 +8,8 @@ use Rattle.std.specs.Bool.{beq}
 use Rattle.std.specs.Int.Signed.{le_z}
 use Rattle.model.specs.Limits.{paper, largest_value}
 use Rattle.model.specs.Lists.{all_below}
-use Rattle.model.specs.Theorems.Laws.Booleans.{not-false, false_not}
-use Rattle.model.specs.Theorems.Laws.Searching.{all_below_at}
+use Rattle.model.proofs.Theorems.Laws.Booleans.{not-false, false_not}
+use Rattle.model.proofs.Theorems.Laws.Searching.{all_below_at}
 use Rattle.block.specs.Sums.{is_mark}
 
 -- ---- a test at each number below a bound, passed so far

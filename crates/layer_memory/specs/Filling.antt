@@ -5,7 +5,7 @@ use Rattle.std.proofs.Common.{arith, sym, ◌∙◌, subst, length-set, get_or-s
 use Rattle.std.proofs.Math.Path.{refl}
 use Rattle.std.proofs.Math.Bool.{true, false, cond}
 use Rattle.std.specs.Int.Signed.{lt_z}
-use Rattle.model.specs.Theorems.Laws.Searching.{below_suc}
+use Rattle.model.proofs.Theorems.Laws.Searching.{below_suc}
 use Rattle.model.specs.Theorems.Layers.Entries.{noted}
 
 -- the first n elements are g's, the others are as they were; d stands for what is past the end

@@ -13,10 +13,11 @@ use Rattle.model.specs.Task.{Task}
 use Rattle.model.specs.Move.{State, move_at}
 use Rattle.model.specs.Layer.{usable, layer_at}
 use Rattle.model.specs.Memory.{encode, entry, prop_entry, move_entry}
-use Rattle.model.specs.Theorems.Laws.Booleans.{T-cases}
-use Rattle.model.specs.Theorems.Laws.Searching.{below_suc}
-use Rattle.model.specs.Theorems.Layers.Entries.{noted, entry_next}
-use Rattle.model.specs.Theorems.Layers.Memories.{Holds, size, place_below}
+use Rattle.model.proofs.Theorems.Laws.Booleans.{T-cases}
+use Rattle.model.proofs.Theorems.Laws.Searching.{below_suc}
+use Rattle.model.specs.Theorems.Layers.Entries.{noted}
+use Rattle.model.proofs.Theorems.Layers.Entries.{entry_next}
+use Rattle.model.proofs.Theorems.Layers.Memories.{Holds, size, place_below}
 use Rattle.layer_memory.specs.Filling.{Filled, cleared, noted_at, row_at}
 use Rattle.layer_memory.specs.Arrays.{Truths, Values}
 

@@ -11,8 +11,9 @@ use Rattle.model.specs.Lists.{any}
 use Rattle.model.specs.Task.{normal, Effect, Item, need, add, delete, condition, effect, Block, is_add, adds, effect_on, clashes}
 use Rattle.model.specs.Layer.{Value, Layer, highest, offered}
 use Rattle.model.specs.Theorems.Reading.WellFormed.{Once}
-use Rattle.model.specs.Theorems.Laws.Booleans.{true_t, false_not}
-use Rattle.model.specs.Theorems.Layers.Order.{◌⊑◌, ⊑_trans, highest_left}
+use Rattle.model.proofs.Theorems.Laws.Booleans.{true_t, false_not}
+use Rattle.model.specs.Theorems.Layers.Order.{◌⊑◌}
+use Rattle.model.proofs.Theorems.Layers.Order.{⊑_trans, highest_left}
 use Rattle.layer_memory.specs.Arrays.{Truths, Values, encoded_same, truths_same, values_same, effect_size}
 use Rattle.layer_moves.specs.Raising.{IsRaised, highest_old}
 use Rattle.block.specs.Items.{Ranges, Left, Followed, EffectFound}

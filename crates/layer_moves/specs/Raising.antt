@@ -12,7 +12,8 @@ use Rattle.model.specs.Command.{kind_code}
 use Rattle.model.specs.Layer.{Value, finite, unbounded, Layer, plus, layer_sum, reaches, highest, layer_value, offer}
 use Rattle.model.specs.Memory.{unbounded_mark, encode}
 use Rattle.model.specs.Theorems.Reading.WellFormed.{KindOk}
-use Rattle.model.specs.Theorems.Layers.Order.{◌⊑◌, ⊑_refl, ⊑-antisym, ⊑-unbounded, highest_left, highest_least}
+use Rattle.model.specs.Theorems.Layers.Order.{◌⊑◌}
+use Rattle.model.proofs.Theorems.Layers.Order.{⊑_refl, ⊑-antisym, ⊑-unbounded, highest_left, highest_least}
 use Rattle.layer_memory.specs.Arrays.{effect_size, encoded_same}
 use Rattle.block.specs.Items.{Ranges, EffectFound}
 use Rattle.block.specs.Sums.{Encoded, is_mark, mark_yes, LayerRow, LayerSummable, IsLayerValue, encoded_more, encoded_highest}

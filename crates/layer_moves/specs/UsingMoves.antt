@@ -9,9 +9,10 @@ use Rattle.model.specs.Lists.{any}
 use Rattle.model.specs.Task.{normal, Block, Task, adds, effect_on}
 use Rattle.model.specs.Layer.{Value, Layer, highest, usable, offered, gained, raised, next}
 use Rattle.model.specs.Theorems.Reading.WellFormed.{Once}
-use Rattle.model.specs.Theorems.Laws.Searching.{below_suc}
-use Rattle.model.specs.Theorems.Layers.Order.{◌⊑◌, highest_comm, highest_assoc}
-use Rattle.model.specs.Theorems.Layers.NextLayer.{raised_old, move_ok}
+use Rattle.model.proofs.Theorems.Laws.Searching.{below_suc}
+use Rattle.model.specs.Theorems.Layers.Order.{◌⊑◌}
+use Rattle.model.proofs.Theorems.Layers.Order.{highest_comm, highest_assoc}
+use Rattle.model.proofs.Theorems.Layers.NextLayer.{raised_old, move_ok}
 use Rattle.table.specs.Outlines.{part_at, Outline}
 use Rattle.reader.specs.Parts.{PartIn, outline_part}
 use Rattle.block.specs.Items.{Ranges, Left}

@@ -13,7 +13,7 @@ use Rattle.model.specs.Move.{State, move_at}
 use Rattle.model.specs.Layer.{Value, Layer, usable, layer, layer_at, settled}
 use Rattle.model.specs.Memory.{wrong15}
 use Rattle.model.specs.Theorems.Layers.Order.{◌⊑◌}
-use Rattle.model.specs.Theorems.Layers.NextLayer.{layer_rises}
+use Rattle.model.proofs.Theorems.Layers.NextLayer.{layer_rises}
 use Rattle.table.specs.Outlines.{Outline}
 use Rattle.block.specs.Parts.{ranges_of}
 use Rattle.block.specs.Sums.{LayerRow}

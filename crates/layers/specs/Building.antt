@@ -17,13 +17,13 @@ use Rattle.model.specs.Move.{State, move_at}
 use Rattle.model.specs.Layer.{Layer, usable, layer, layer_at, meets_goal, Passed, reached, exhausted, settled, bound}
 use Rattle.model.specs.Memory.{encode, room, wrong15, wrong14, overwrite, Built, answered, stopped, build, built_memory}
 use Rattle.model.specs.Theorems.Reading.WellFormed.{TaskOk}
-use Rattle.model.specs.Theorems.Laws.Booleans.{T_true, true_t, false_not}
-use Rattle.model.specs.Theorems.Layers.Order.{usable_mono}
-use Rattle.model.specs.Theorems.Layers.NextLayer.{layer_rises, move_ok}
-use Rattle.model.specs.Theorems.Layers.Settled.{settled_equal}
-use Rattle.model.specs.Theorems.Layers.Answer.{passed_next, passed_bound, unsettled_unequal}
+use Rattle.model.proofs.Theorems.Laws.Booleans.{T_true, true_t, false_not}
+use Rattle.model.proofs.Theorems.Layers.Order.{usable_mono}
+use Rattle.model.proofs.Theorems.Layers.NextLayer.{layer_rises, move_ok}
+use Rattle.model.proofs.Theorems.Layers.Settled.{settled_equal}
+use Rattle.model.proofs.Theorems.Layers.Answer.{passed_next, passed_bound, unsettled_unequal}
 use Rattle.model.specs.Theorems.Layers.Building.{Stored, BuildsFrom}
-use Rattle.model.specs.Theorems.Layers.Memories.{Holds, size, holds_memory}
+use Rattle.model.proofs.Theorems.Layers.Memories.{Holds, size, holds_memory}
 use Rattle.table.specs.Outlines.{Outline}
 use Rattle.block.specs.Parts.{ranges_of}
 use Rattle.block.specs.Blocks.{LayerState}

@@ -9,8 +9,10 @@ use Rattle.model.specs.Layer.{Outcome, reported}
 use Rattle.model.specs.Memory.{overwrite, Built, answered, build, built_memory}
 use Rattle.model.specs.StateTable.{state_refusal}
 use Rattle.model.specs.Theorems.Reading.WellFormed.{TaskOk}
-use Rattle.model.specs.Theorems.Sizes.States.{SmallState, accepted_small, normal_state_small}
-use Rattle.model.specs.Theorems.Sizes.Stored.{StoredLayers, steps_of, answered_layers}
+use Rattle.model.specs.Theorems.Sizes.States.{SmallState}
+use Rattle.model.proofs.Theorems.Sizes.States.{accepted_small, normal_state_small}
+use Rattle.model.specs.Theorems.Sizes.Stored.{steps_of}
+use Rattle.model.proofs.Theorems.Sizes.Stored.{StoredLayers, answered_layers}
 use Rattle.layers.specs.Building.{IsBuilt, built_of}
 use Rattle.layers.specs.Starting.{start_of}
 use Rattle.layers.specs.Preparing.{ReadyIn}

@@ -17,7 +17,8 @@ use Rattle.model.specs.Move.{State}
 use Rattle.model.specs.StateTable.{state_refusal}
 use Rattle.model.specs.Calls.{Ready, ready, unready, ready_with, ready_of, prepared, decided, decide_of, decide_answer, memory_of, decide_memory}
 use Rattle.model.specs.Theorems.Campaigns.Demand3.{decide_layers}
-use Rattle.model.specs.Theorems.Campaigns.EndToEnd.{LayersWithin, decide_within}
+use Rattle.model.specs.Theorems.Campaigns.EndToEnd.{LayersWithin}
+use Rattle.model.proofs.Theorems.Campaigns.EndToEnd.{decide_within}
 use Rattle.table.specs.Outlines.{Outline, HeadRead}
 use Rattle.layer_step.specs.Step.{Counts}
 use Rattle.layers.specs.Building.{IsBuilt, built_of}

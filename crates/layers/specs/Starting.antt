@@ -21,17 +21,18 @@ use Rattle.model.specs.StateTable.{state_of, state_refusal}
 use Rattle.model.specs.Layer.{finite, layer_of, layer, layer_at}
 use Rattle.model.specs.Memory.{encode, too_large, wrong15, overwrite, stopped, built_memory}
 use Rattle.model.specs.Theorems.Reading.WellFormed.{TaskOk}
-use Rattle.model.specs.Theorems.Laws.Booleans.{not-false, false_not}
-use Rattle.model.specs.Theorems.Laws.Searching.{any_below_cases}
-use Rattle.model.specs.Theorems.Layers.Answer.{passed_none}
-use Rattle.model.specs.Theorems.Layers.Building.{BuildsFrom, build_unrolled}
-use Rattle.model.specs.Theorems.Layers.Memories.{size}
+use Rattle.model.proofs.Theorems.Laws.Booleans.{not-false, false_not}
+use Rattle.model.proofs.Theorems.Laws.Searching.{any_below_cases}
+use Rattle.model.proofs.Theorems.Layers.Answer.{passed_none}
+use Rattle.model.specs.Theorems.Layers.Building.{BuildsFrom}
+use Rattle.model.proofs.Theorems.Layers.Building.{build_unrolled}
+use Rattle.model.proofs.Theorems.Layers.Memories.{size}
 use Rattle.table.specs.Outlines.{Outline}
 use Rattle.block.specs.Parts.{ranges_of}
 use Rattle.block.specs.Sums.{Encoded}
 use Rattle.block.specs.Blocks.{LayerState}
 use Rattle.state.specs.Overwriting.{written_at}
-use Rattle.model.specs.Theorems.Reading.States.{accepted_state}
+use Rattle.model.proofs.Theorems.Reading.States.{accepted_state}
 use Rattle.state.specs.Loading.{accepted_signed}
 use Rattle.layer_memory.specs.Filling.{Filled, cleared, noted_at, row_at}
 use Rattle.layer_memory.specs.Arrays.{Values}

@@ -12,8 +12,8 @@ use Rattle.model.specs.Limits.{paper}
 use Rattle.model.specs.Memory.{overwrite}
 use Rattle.model.specs.Calls.{Output, on_output, prepared, normalised, normalise_answer, normalise_out, plan_answer, plan_out}
 use Rattle.model.specs.Listing.{listing, listing_layers, listing_bytes, refusal_text, answer_text, ready_text}
-use Rattle.model.specs.Theorems.Printing.Outputs.{length_overwrite}
-use Rattle.model.specs.Theorems.Campaigns.Demand2.{written_hands, refused_turns}
+use Rattle.model.proofs.Theorems.Printing.Outputs.{length_overwrite}
+use Rattle.model.proofs.Theorems.Campaigns.Demand2.{written_hands, refused_turns}
 use Rattle.report.specs.Answer.{Lists, Printable, Printed}
 use Rattle.report.specs.Plans.{planned_records, text_length, plan_lists, plan_text, plan_printable, refused_printable}
 

@@ -9,7 +9,7 @@ use Rattle.model.specs.Command.{head, open_move, open_goal, end_table, code_of, 
 use Rattle.model.specs.Reading.{length_limit}
 use Rattle.model.specs.NormalForm.{normal_block, normal_task}
 use Rattle.model.specs.Calls.{normal_bytes}
-use Rattle.model.specs.Theorems.NormalForm.Print.{normal_length_lem, normal_fits, written_length_lem}
+use Rattle.model.proofs.Theorems.NormalForm.Print.{normal_length_lem, normal_fits, written_length_lem}
 use Rattle.table.specs.Outlines.{HeadRead}
 use Rattle.reader.specs.Written.{read_task, Source, task_is}
 use Rattle.output.specs.Writing.{Written, written_join, written_same, Writing, writing_start, writing_rest, writing_behind, writing_step, writing_end}

@@ -2,7 +2,8 @@
 -- Assumes nothing.
 use Rattle.std.specs.Prelude.{ℕ, ◌+◌, ◌*◌, ◌≤◌, ◌≡◌, Bool, true, false, not, List, ◌∷◌, ◌++◌, ℤ, neg_ℤ, length}
 use Rattle.std.proofs.Common.{arith, sym, ap, ◌∙◌, append-nil, length-append}
-use Rattle.integer.specs.BigEndian.{signed_bytes, length_signed_bytes}
+use Rattle.integer.specs.BigEndian.{signed_bytes}
+use Rattle.integer.proofs.BigEndian.{length_signed_bytes}
 use Rattle.model.specs.Task.{Term, Kind, assign, increase, decrease}
 use Rattle.model.specs.Command.{code_of, close_effect, kind_code, term_bytes, item_bytes, items_bytes}
 use Rattle.model.specs.NormalForm.{negated, signed_sum, mirrored, normal_effect}

@@ -2,7 +2,8 @@
 -- Assumes nothing.
 use Rattle.std.specs.Prelude.{ℕ, ◌≤◌, ◌≡◌, refl, Bool, List, [], ◌∷◌, ◌++◌, ℤ, length}
 use Rattle.std.proofs.Common.{arith, sym, ap, ◌∙◌, append-nil, append_assoc, length-append}
-use Rattle.integer.specs.BigEndian.{signed_bytes, length_signed_bytes}
+use Rattle.integer.specs.BigEndian.{signed_bytes}
+use Rattle.integer.proofs.BigEndian.{length_signed_bytes}
 use Rattle.model.specs.Task.{Term, Block}
 use Rattle.model.specs.Command.{code_of, close_condition, comparison_code, item_bytes, items_bytes}
 use Rattle.model.specs.NormalForm.{least}

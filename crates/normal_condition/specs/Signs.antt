@@ -9,9 +9,10 @@ use Rattle.integer.specs.Linear.{neg_neg}
 use Rattle.model.specs.Task.{Term, kept}
 use Rattle.model.specs.Command.{term_bytes}
 use Rattle.model.specs.NormalForm.{negated, signed_term, signed_sum}
-use Rattle.model.specs.Theorems.Reading.Kept.{kept_length}
-use Rattle.model.specs.Theorems.NormalForm.SignedSums.{negative, negated_map}
-use Rattle.model.specs.Theorems.Printing.Items.{length_terms}
+use Rattle.model.proofs.Theorems.Reading.Kept.{kept_length}
+use Rattle.model.specs.Theorems.NormalForm.SignedSums.{negative}
+use Rattle.model.proofs.Theorems.NormalForm.SignedSums.{negated_map}
+use Rattle.model.proofs.Theorems.Printing.Items.{length_terms}
 use Rattle.block.specs.Items.{first_term}
 
 -- z, or −z

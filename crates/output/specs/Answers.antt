@@ -7,7 +7,7 @@ use Rattle.model.specs.declared.WriteAnswer.{WriteAnswer}
 use Rattle.model.specs.declared.WriteAnswer.TheVariants as write
 use Rattle.model.specs.Memory.{overwrite}
 use Rattle.model.specs.Calls.{Output, writes, turns, fitted, write_answer, output_after}
-use Rattle.model.specs.Theorems.Printing.Outputs.{fitted_whole, fitted_short}
+use Rattle.model.proofs.Theorems.Printing.Outputs.{fitted_whole, fitted_short}
 use Rattle.output.specs.Writing.{Written, written_first}
 
 -- o is what the call writes, or why it turns back, 13 apart

@@ -4,7 +4,7 @@ use Rattle.std.proofs.Common.{add-one, arith, sym, ap, ◌∙◌, append-nil, le
 use Rattle.std.proofs.Math.Seq.{append_snoc}
 use Rattle.integer.specs.Store.{put, put_nil, put_cons, length_put}
 use Rattle.model.specs.Listing.{decimal}
-use Rattle.model.specs.Theorems.Printing.Decimals.{decimal_small, decimal_large, decimal_some, length_small, length_large}
+use Rattle.model.proofs.Theorems.Printing.Decimals.{decimal_small, decimal_large, decimal_some, length_small, length_large}
 use Rattle.output.specs.Writing.{Written, written_whole}
 
 -- `width` digits of n are counted, less one, and `rest` is the number that the other digits stand for

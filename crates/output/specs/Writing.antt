@@ -6,7 +6,7 @@ use Rattle.std.proofs.Common.{add-one, arith, sym, ap, ap₂, ◌∙◌, subst, 
 use Rattle.std.proofs.Math.Seq.{take-length}
 use Rattle.integer.specs.Store.{put, put_nil, put_cons, put_append, length_put}
 use Rattle.model.specs.Memory.{overwrite}
-use Rattle.model.specs.Theorems.Printing.Outputs.{put_first}
+use Rattle.model.proofs.Theorems.Printing.Outputs.{put_first}
 
 -- `next` is the offset behind the bytes bs from `at` on; if it lies within `old`, `new` is `old` with those bytes
 pub record Written (old : List ℕ) (at : ℕ) (bs new : List ℕ) (next : ℕ) : Type 0 where

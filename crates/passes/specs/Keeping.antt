@@ -7,7 +7,7 @@ use Rattle.std.proofs.Math.ListN.{drop_of_length-le}
 use Rattle.integer.specs.Store.{put, drop_put_at}
 use Rattle.model.specs.Plan.{Record, layer_records, records_from}
 use Rattle.model.specs.Calls.{record_bytes}
-use Rattle.model.specs.Theorems.Plans.Records.{length_record_bytes}
+use Rattle.model.proofs.Theorems.Plans.Records.{length_record_bytes}
 use Rattle.descent.specs.Layers.{Stored}
 use Rattle.records.specs.Records.{kept_records, kept_bytes, KeptBefore, count_at, record_bytes_append, record_bytes_layer, records_layer_length}
 use Rattle.passes.specs.Passes.{records_below, plan_records, Counted, split_start, split_next, down}

@@ -12,11 +12,13 @@ use Rattle.model.specs.Move.{State}
 use Rattle.model.specs.Layer.{layer_at}
 use Rattle.model.specs.Plan.{Target, free, least, Wants, Record, layer_records, records_from, records, wants_at, helpful, set_of, helpful_moves}
 use Rattle.model.specs.Calls.{record_bytes}
-use Rattle.model.specs.Theorems.Plans.Records.{descent_at, wants_at_answer, wants_at_down, records_answer, records_down, length_record_bytes}
+use Rattle.model.specs.Theorems.Plans.Records.{descent_at}
+use Rattle.model.proofs.Theorems.Plans.Records.{wants_at_answer, wants_at_down, records_answer, records_down, length_record_bytes}
 use Rattle.model.specs.Theorems.Plans.Targets.{EachTarget}
-use Rattle.model.specs.Theorems.Sizes.Bounds.{Between, between_size}
+use Rattle.model.specs.Theorems.Sizes.Bounds.{Between}
+use Rattle.model.proofs.Theorems.Sizes.Bounds.{between_size}
 use Rattle.model.specs.Theorems.Sizes.Targets.{SmallWants}
-use Rattle.model.specs.Theorems.Sizes.Plans.{targets_small, records_most}
+use Rattle.model.proofs.Theorems.Sizes.Plans.{targets_small, records_most}
 use Rattle.block.specs.Sums.{Row}
 use Rattle.targets.specs.declared.Targets.{Targets}
 use Rattle.targets.specs.Encoding.{SmallTarget, Encodes}

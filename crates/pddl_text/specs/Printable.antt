@@ -10,8 +10,8 @@ use Rattle.model.specs.Task.{written, Block}
 use Rattle.model.specs.Move.{State}
 use Rattle.model.specs.StateTable.{state_of, state_refusal}
 use Rattle.model.specs.Pddl.{task_text}
-use Rattle.model.specs.Theorems.Reading.States.{accepted_state}
-use Rattle.model.specs.Theorems.Pddl.Sizes.{accepted_size}
+use Rattle.model.proofs.Theorems.Reading.States.{accepted_state}
+use Rattle.model.proofs.Theorems.Pddl.Sizes.{accepted_size}
 use Rattle.table.specs.Outlines.{HeadRead}
 use Rattle.block.specs.Remaining.{Remaining}
 use Rattle.reader.specs.Written.{read_task, Source, task_is, head_source, head_short}

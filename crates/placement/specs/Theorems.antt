@@ -14,6 +14,5 @@ pub mod Checks
 pub mod Walk
 pub mod Starts
 pub mod Answers
-pub mod Exactly
 pub mod Codes
 pub mod Cases

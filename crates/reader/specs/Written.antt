@@ -5,7 +5,7 @@ use Rattle.std.proofs.Math.Path.{ap}
 use Rattle.model.specs.Limits.{paper}
 use Rattle.model.specs.Task.{written, Task}
 use Rattle.model.specs.Reading.{Verdict, accepted, refused, only, length_limit, reading}
-use Rattle.model.specs.Theorems.Reading.Accepted.{reading_limit}
+use Rattle.model.proofs.Theorems.Reading.Accepted.{reading_limit}
 use Rattle.table.specs.Outlines.{part_at, Outline, HeadRead}
 use Rattle.block.specs.Parts.{move_left, goal_left}
 use Rattle.block.specs.Remaining.{Remaining}

@@ -7,7 +7,7 @@ use Rattle.std.proofs.Math.Option.{Option, none, some}
 use Rattle.model.specs.Lists.{any}
 use Rattle.model.specs.Task.{Effect, need, add, delete, condition, effect, Block, is_add, is_delete, adds, deletes, effect_on, clashes}
 use Rattle.model.specs.Move.{State, value, changed, changed_by}
-use Rattle.model.specs.Theorems.Laws.Booleans.{not-false}
+use Rattle.model.proofs.Theorems.Laws.Booleans.{not-false}
 
 -- ---- named once
 

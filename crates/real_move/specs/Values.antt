@@ -6,8 +6,8 @@ use Rattle.std.proofs.Math.Path.{ap}
 use Rattle.model.specs.Limits.{paper}
 use Rattle.model.specs.Lists.{all_below}
 use Rattle.model.specs.StateTable.{value_in_range}
-use Rattle.model.specs.Theorems.Laws.Booleans.{T_true, T-equal, true_t, false_not, not-false}
-use Rattle.model.specs.Theorems.Laws.Searching.{below_suc, all_below_at, at_all_below}
+use Rattle.model.proofs.Theorems.Laws.Booleans.{T_true, T-equal, true_t, false_not, not-false}
+use Rattle.model.proofs.Theorems.Laws.Searching.{below_suc, all_below_at, at_all_below}
 use Rattle.state.specs.Checking.{range_size}
 use Rattle.real_move.specs.Changes.{at_other}
 

@@ -6,7 +6,7 @@ use Rattle.model.specs.Limits.{largest_value}
 use Rattle.model.specs.Seen.{kind_of}
 use Rattle.model.specs.Task.{Kind, decrease, Effect, Block}
 use Rattle.model.specs.Move.{State, value, changed}
-use Rattle.model.specs.Theorems.Printing.Operands.{kind_back}
+use Rattle.model.proofs.Theorems.Printing.Operands.{kind_back}
 use Rattle.block.specs.Items.{Ranges, left_end, EffectIs, Found, behind, Moves, Next, next_ahead}
 use Rattle.block.specs.declared.ItemAt.{ItemAt}
 use Rattle.block.specs.declared.ItemAt.TheVariants.{Need, Add, Delete, Condition as ConditionAt, Effect as EffectAt, End}

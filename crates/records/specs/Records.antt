@@ -7,11 +7,12 @@ use Rattle.std.specs.Prelude.{◌≡◌, refl, true, false, eqb, length, get_or,
 use Rattle.std.proofs.Math.Path.{sym, ap}
 use mathlib.Core.List.{List, [], ◌∷◌, ◌++◌, append_assoc, append-nil}
 use Rattle.std.proofs.Math.ListN.{length-append}
-use Rattle.integer.specs.BigEndian.{bytes, length_bytes}
+use Rattle.integer.specs.BigEndian.{bytes}
+use Rattle.integer.proofs.BigEndian.{length_bytes}
 use Rattle.integer.specs.Store.{put, put_nil, put_cons, put_append, take_put_before, drop_put_at, length_put}
 use Rattle.model.specs.Plan.{Record, layer_records}
 use Rattle.model.specs.Calls.{record_bytes}
-use Rattle.model.specs.Theorems.Plans.Records.{length_record_bytes}
+use Rattle.model.proofs.Theorems.Plans.Records.{length_record_bytes}
 
 -- the counts in an array
 unfoldable pub count_at : List ℕ → ℕ → ℕ

@@ -14,10 +14,11 @@ use Rattle.model.specs.Layer.{reached, exhausted, reported}
 use Rattle.model.specs.Memory.{overwrite, Built, answered, stopped}
 use Rattle.model.specs.Plan.{records, helpful_moves}
 use Rattle.model.specs.Calls.{writes, fitted, output_after, Ready, ready, unready, prepared, memory_of, decide_memory, record_bytes, plan_records, planned, plan_fitted, plan_of, plan_answer, plan_memory, plan_out_of, plan_out, Output}
-use Rattle.model.specs.Theorems.Plans.Records.{length_record_bytes}
+use Rattle.model.proofs.Theorems.Plans.Records.{length_record_bytes}
 use Rattle.model.specs.Theorems.Campaigns.Demand3.{plan_layers}
-use Rattle.model.specs.Theorems.Printing.Outputs.{fitted_whole, fitted_short, plan_whole, plan_short, put_first}
-use Rattle.model.specs.Theorems.Campaigns.EndToEnd.{LayersWithin, plan_within}
+use Rattle.model.proofs.Theorems.Printing.Outputs.{fitted_whole, fitted_short, plan_whole, plan_short, put_first}
+use Rattle.model.specs.Theorems.Campaigns.EndToEnd.{LayersWithin}
+use Rattle.model.proofs.Theorems.Campaigns.EndToEnd.{plan_within}
 use Rattle.model.specs.Theorems.Sizes.Stored.{steps_of}
 use Rattle.table.specs.Outlines.{Outline}
 use Rattle.reader.specs.Parts.{outline_part}

@@ -4,7 +4,7 @@ use Rattle.std.proofs.Common.{arith, sym, ap, ◌∙◌}
 use Rattle.std.proofs.Math.Path.{refl}
 use mathlib.Core.List.{List, [], ◌++◌, append_assoc}
 use Rattle.std.proofs.Math.ListN.{length-append}
-use Rattle.model.specs.Theorems.Printing.Decimals.{decimal_byte, decimal_word}
+use Rattle.model.proofs.Theorems.Printing.Decimals.{decimal_byte, decimal_word}
 use Rattle.model.specs.declared.Refusal.{Refusal}
 use Rattle.model.specs.Listing.{decimal, plan_word, layers_word, no_plan_word, refusal_word, place_word, space, newline, refusal_text}
 

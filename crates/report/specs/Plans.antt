@@ -17,12 +17,14 @@ use Rattle.model.specs.StateTable.{state_refusal}
 use Rattle.model.specs.Calls.{Output, on_output, output_after, Ready, ready, unready, ready_with, ready_of, prepared, record_bytes, plan_records, planned, plan_fitted, plan_of, plan_answer, plan_out_of, plan_out}
 use Rattle.model.specs.Listing.{listing_layers, listing_bytes, answer_text, ready_text}
 use Rattle.model.specs.Theorems.Reading.WellFormed.{All, TaskOk}
-use Rattle.model.specs.Theorems.Printing.Outputs.{fitted_cases, plan_cases}
-use Rattle.model.specs.Theorems.Reading.Accepted.{reading_task}
-use Rattle.model.specs.Theorems.Layers.Building.{built_outcome}
-use Rattle.model.specs.Theorems.Plans.Records.{Bounded, length_record_bytes, records_bounded}
-use Rattle.model.specs.Theorems.Sizes.States.{SmallState, accepted_small, normal_state_small}
-use Rattle.model.specs.Theorems.Sizes.Plans.{reported_most, records_counts, answered_passes}
+use Rattle.model.proofs.Theorems.Printing.Outputs.{fitted_cases, plan_cases}
+use Rattle.model.proofs.Theorems.Reading.Accepted.{reading_task}
+use Rattle.model.proofs.Theorems.Layers.Building.{built_outcome}
+use Rattle.model.specs.Theorems.Plans.Records.{Bounded}
+use Rattle.model.proofs.Theorems.Plans.Records.{length_record_bytes, records_bounded}
+use Rattle.model.specs.Theorems.Sizes.States.{SmallState}
+use Rattle.model.proofs.Theorems.Sizes.States.{accepted_small, normal_state_small}
+use Rattle.model.proofs.Theorems.Sizes.Plans.{reported_most, records_counts, answered_passes}
 use Rattle.report.specs.Records.{Encodable}
 use Rattle.report.specs.Answer.{record_count, Lists, Printable}
 

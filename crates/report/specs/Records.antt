@@ -4,12 +4,13 @@ use Rattle.std.proofs.Common.{arith, ap₂, ◌∙◌, subst, length-append, tak
 use Rattle.std.proofs.Math.Path.{sym, ap}
 use mathlib.Core.List.{List, [], ◌∷◌, ◌++◌, append_assoc}
 use Rattle.std.proofs.Math.ListN.{length, get_or}
-use Rattle.integer.specs.BigEndian.{unsigned, bytes, length_bytes, unsigned_bytes}
+use Rattle.integer.specs.BigEndian.{unsigned, bytes}
+use Rattle.integer.proofs.BigEndian.{length_bytes, unsigned_bytes}
 use Rattle.model.specs.Plan.{Record}
 use Rattle.model.specs.Calls.{record_bytes}
 use Rattle.model.specs.Listing.{records_text}
 use Rattle.model.specs.Theorems.Reading.WellFormed.{All}
-use Rattle.model.specs.Theorems.Plans.Records.{length_record_bytes}
+use Rattle.model.proofs.Theorems.Plans.Records.{length_record_bytes}
 use Rattle.output.specs.Writing.{Written, Writing, writing_start, writing_rest, writing_behind, writing_step, writing_end}
 use Rattle.report.specs.Lines.{pair_text, record_line, record_room}
 

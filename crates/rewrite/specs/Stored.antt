@@ -11,8 +11,8 @@ use Rattle.model.specs.Task.{Form, written, normal, Block, Task}
 use Rattle.model.specs.Command.{head, open_move, open_goal, end_table, code_of, items_bytes, moves_bytes, task_bytes}
 use Rattle.model.specs.Reading.{Verdict, accepted, refused, only, stored, length_limit, reading}
 use Rattle.model.specs.Rewrite.{active_moves, rewritten}
-use Rattle.model.specs.Theorems.NormalForm.Print.{length_task}
-use Rattle.model.specs.Theorems.Rewriting.Accepted.{kept_few, kept_bytes, rewritten_shorter}
+use Rattle.model.proofs.Theorems.NormalForm.Print.{length_task}
+use Rattle.model.proofs.Theorems.Rewriting.Accepted.{kept_few, kept_bytes, rewritten_shorter}
 use Rattle.table.specs.Outlines.{part_at, Outline, StoredRead}
 use Rattle.block.specs.Items.{Left}
 use Rattle.block.specs.Parts.{ranges_of, move_left}

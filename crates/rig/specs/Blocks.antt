@@ -7,7 +7,7 @@ use Rattle.model.specs.declared.Refusal.{Refusal}
 use Rattle.model.specs.Limits.{paper}
 use Rattle.model.specs.Calls.{block_part, block_start, block_refusal, refusal_number, refusal_place}
 use Rattle.ceiling.specs.Ceiling.{Ceiling, block_part_under, block_start_under, block_refusal_under}
-use Rattle.ceiling.specs.Theorems.Calls.{SameReading, TurnedReading}
+use Rattle.ceiling.proofs.Theorems.Calls.{SameReading, TurnedReading}
 use Rattle.reader.specs.Parts.{LiesAt}
 
 module _ (C : Ceiling) (table part : Bor (List ℕ)) (b number place : ℕ) where

@@ -10,12 +10,8 @@
 --   Codes.check-apart: the answer's numbers can be taken apart; Cases.
 -- Assumes nothing.
 pub mod Moves
-pub mod Lists
-pub mod Exactly
 pub mod Answers
-pub mod Calls
 pub mod Codes
 pub mod Agreeing
-pub mod Steps
 pub mod NoPlan
 pub mod Cases

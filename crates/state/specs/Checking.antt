@@ -14,8 +14,8 @@ use Rattle.model.specs.declared.Refusal.{Refusal}
 use Rattle.model.specs.Limits.{paper}
 use Rattle.model.specs.Lists.{first_from}
 use Rattle.model.specs.StateTable.{value_offset, state_value, value_in_range, refused_value, refused_byte, state_refusal}
-use Rattle.model.specs.Theorems.Laws.Booleans.{false_not}
-use Rattle.model.specs.Theorems.Laws.Searching.{first_from_cases}
+use Rattle.model.proofs.Theorems.Laws.Booleans.{false_not}
+use Rattle.model.proofs.Theorems.Laws.Searching.{first_from_cases}
 use Rattle.model.specs.Theorems.Reading.States.{AcceptedState}
 
 unfoldable pub check_of : StateCheck → Option Refusal

@@ -12,7 +12,7 @@ use Rattle.model.specs.Memory.{overwrite}
 use Rattle.model.specs.Move.{State}
 use Rattle.model.specs.NormalForm.{normal_state}
 use Rattle.model.specs.StateTable.{value_offset, state_value, state_of, state_refusal}
-use Rattle.model.specs.Theorems.Sizes.States.{accepted_small, normal_state_small}
+use Rattle.model.proofs.Theorems.Sizes.States.{accepted_small, normal_state_small}
 use Rattle.state.specs.Overwriting.{length_written, written_none, written_next}
 
 -- a value read from its place

@@ -12,8 +12,8 @@ use Rattle.std.proofs.Math.Seq.{set_at}
 use Rattle.integer.specs.Store.{put, put_append}
 use Rattle.model.specs.Lists.{tabulate}
 use Rattle.model.specs.Memory.{overwrite}
-use Rattle.model.specs.Theorems.Laws.Searching.{length_tabulate, get_d_tabulate}
-use Rattle.model.specs.Theorems.Printing.Outputs.{overwrite_at, overwrite_past, length_overwrite, put_first}
+use Rattle.model.proofs.Theorems.Laws.Searching.{length_tabulate, get_d_tabulate}
+use Rattle.model.proofs.Theorems.Printing.Outputs.{overwrite_at, overwrite_past, length_overwrite, put_first}
 
 -- ---- tables
 

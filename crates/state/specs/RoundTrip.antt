@@ -8,14 +8,15 @@ use mathlib.Core.List.{List, [], ◌∷◌, ◌++◌}
 use Rattle.std.proofs.Math.Option.{none}
 use Rattle.std.proofs.Math.Dec.{eqb}
 use Rattle.std.proofs.Math.ListN.{length, get_or-append}
-use Rattle.integer.specs.BigEndian.{half, signed, signed_bytes, length_signed_bytes, signed_signed_bytes}
+use Rattle.integer.specs.BigEndian.{half, signed, signed_bytes}
+use Rattle.integer.proofs.BigEndian.{length_signed_bytes, signed_signed_bytes}
 use Rattle.integer.specs.Linear.{zlin, nat_abs_split, neg_up, neg_dn}
 use Rattle.model.specs.Limits.{paper}
 use Rattle.model.specs.Lists.{tabulate}
 use Rattle.model.specs.Move.{State}
 use Rattle.model.specs.StateTable.{value_offset, state_value, state_of, state_refusal, truth_byte, values_bytes, state_bytes}
-use Rattle.model.specs.Theorems.Laws.Searching.{length_tabulate, get_d_tabulate}
-use Rattle.model.specs.Theorems.Reading.States.{length_state_bytes}
+use Rattle.model.proofs.Theorems.Laws.Searching.{length_tabulate, get_d_tabulate}
+use Rattle.model.proofs.Theorems.Reading.States.{length_state_bytes}
 use Rattle.state.specs.Checking.{state_accepted}
 
 -- ---- one truth, one value

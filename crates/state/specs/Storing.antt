@@ -9,8 +9,8 @@ use Rattle.model.specs.Lists.{tabulate}
 use Rattle.model.specs.Memory.{overwrite}
 use Rattle.model.specs.Move.{State}
 use Rattle.model.specs.StateTable.{truth_byte, values_bytes, state_bytes}
-use Rattle.model.specs.Theorems.Laws.Searching.{length_tabulate}
-use Rattle.model.specs.Theorems.Reading.States.{length_values_bytes, state_bytes_same}
+use Rattle.model.proofs.Theorems.Laws.Searching.{length_tabulate}
+use Rattle.model.proofs.Theorems.Reading.States.{length_values_bytes, state_bytes_same}
 use Rattle.state.specs.Overwriting.{tabulate_last, overwrite_put}
 
 -- the state whose truths and values stand in two arrays

@@ -13,13 +13,13 @@ use Rattle.model.specs.Move.{State, move_at}
 use Rattle.model.specs.Layer.{Value, finite, unbounded, Layer, usable, layer, layer_of, layer_at}
 use Rattle.model.specs.Memory.{encode, prop_entry, move_entry, unbounded_mark}
 use Rattle.model.specs.Plan.{low_value, low}
-use Rattle.model.specs.Theorems.Laws.Searching.{below_suc}
-use Rattle.model.specs.Theorems.Layers.Order.{usable_mono}
+use Rattle.model.proofs.Theorems.Laws.Searching.{below_suc}
+use Rattle.model.proofs.Theorems.Layers.Order.{usable_mono}
 use Rattle.model.specs.Theorems.Reading.WellFormed.{TaskOk}
-use Rattle.model.specs.Theorems.Layers.NextLayer.{layer_mono, move_ok}
-use Rattle.model.specs.Theorems.Layers.Entries.{entry_says}
-use Rattle.model.specs.Theorems.Layers.Memories.{Holds, size}
-use Rattle.model.specs.Theorems.Sizes.Bounds.{between_size}
+use Rattle.model.proofs.Theorems.Layers.NextLayer.{layer_mono, move_ok}
+use Rattle.model.proofs.Theorems.Layers.Entries.{entry_says}
+use Rattle.model.proofs.Theorems.Layers.Memories.{Holds, size}
+use Rattle.model.proofs.Theorems.Sizes.Bounds.{between_size}
 use Rattle.model.specs.Theorems.Sizes.States.{SmallState}
 use Rattle.model.specs.Theorems.Sizes.Layers.{SmallLayer, FiniteBetween}
 use Rattle.block.specs.Sums.{Row, LayerRow, Encoded, Sized, is_mark, mark_yes, mark_no}

@@ -29,7 +29,8 @@ use Rattle.command.specs.declared.Place as code
 use Rattle.command.specs.declared.Place.TheVariants.{Start, Preamble, InMove, InGoal, Finished}
 use Rattle.cursor.specs.declared.Check.TheVariants.{Passes, Refused}
 use Rattle.command.specs.Names.{form_of, place_of}
-use Rattle.cursor.specs.State.{start_cursor, Stage, Valid, cursor_refusal, check_of, passes_none}
+use Rattle.cursor.specs.State.{start_cursor, Stage, Valid, cursor_refusal, check_of}
+use Rattle.cursor.proofs.State.{passes_none}
 use Rattle.advance.specs.Stamps.{needs, changes, affects, Stamped}
 use Rattle.advance.specs.Edges.{drawn_none}
 use Rattle.circle.specs.Walks.{table_edge, circular_in, circular_same}

@@ -12,10 +12,11 @@ use Rattle.model.specs.Task.{Form, Block, Task}
 use Rattle.model.specs.Command.{open_move, open_goal, code_of, items_bytes, moves_bytes, task_bytes}
 use Rattle.model.specs.Reading.{Table, accepted, refused, Wanted, only, stored, length_limit, reading}
 use Rattle.model.specs.Theorems.Reading.WellFormed.{TaskOk}
-use Rattle.model.specs.Theorems.Reading.Accepted.{Accepted, reading_accepted, reading_canonical, reading_form, reading_head}
-use Rattle.model.specs.Theorems.Rewriting.Accepted.{stored_limit}
-use Rattle.model.specs.Theorems.Reading.Marks.{starts_at}
-use Rattle.model.specs.Theorems.Reading.Parts.{move_part, goal_part}
+use Rattle.model.specs.Theorems.Reading.Accepted.{Accepted}
+use Rattle.model.proofs.Theorems.Reading.Accepted.{reading_accepted, reading_canonical, reading_form, reading_head}
+use Rattle.model.proofs.Theorems.Rewriting.Accepted.{stored_limit}
+use Rattle.model.proofs.Theorems.Reading.Marks.{starts_at}
+use Rattle.model.proofs.Theorems.Reading.Parts.{move_part, goal_part}
 use Rattle.table.specs.Answer.{Outlined, answer_accepted, answer_refused}
 
 -- a part by its start and its length

@@ -10,7 +10,7 @@ use Rattle.std.proofs.Math.ListN.{length, length-set}
 use Rattle.std.proofs.lemmas.List.{length-replicate, get_or-replicate}
 use Rattle.integer.specs.Linear.{zlin, nat_abs_split, le_true, le_false, larger, larger_is_right}
 use Rattle.model.specs.Plan.{Target, free, least, Wants, no_wants, raise_target, want_prop, want_value}
-use Rattle.model.specs.Theorems.Laws.Booleans.{T-cases}
+use Rattle.model.proofs.Theorems.Laws.Booleans.{T-cases}
 use Rattle.model.specs.Theorems.Plans.Targets.{EachTarget}
 use Rattle.targets.specs.declared.Targets.{Targets}
 

@@ -14,7 +14,7 @@ use Rattle.model.specs.Move.{State, sum}
 use Rattle.model.specs.Layer.{Value, finite, unbounded, Layer}
 use Rattle.model.specs.Plan.{Wants, low, want_value, want_finite, want_sum}
 use Rattle.model.specs.Theorems.Reading.WellFormed.{WeightOk}
-use Rattle.model.specs.Theorems.Plans.Wanting.{want_finite_finite, want_finite_unbounded, want_sum_finite, want_sum_unbounded, want_sum_nil}
+use Rattle.model.proofs.Theorems.Plans.Wanting.{want_finite_finite, want_finite_unbounded, want_sum_finite, want_sum_unbounded, want_sum_nil}
 use Rattle.block.specs.Items.{Ranges, Terms, TermAt, IsVariable, IsWeight, IsScaled, first_of, term_at, terms_place, terms_behind, term_var_small}
 use Rattle.block.specs.Sums.{Row, Summable, IsSum, LayerRow, Encoded, Sized, is_mark, mark_yes, mark_no}
 use Rattle.targets.specs.declared.Targets.{Targets}

@@ -7,12 +7,12 @@ use Rattle.model.specs.Limits.{paper}
 use Rattle.model.specs.Task.{Task}
 use Rattle.model.specs.Move.{State, real, move_at}
 use Rattle.model.specs.StateTable.{state_of}
-use Rattle.model.specs.Theorems.Laws.Searching.{below_suc}
+use Rattle.model.proofs.Theorems.Laws.Searching.{below_suc}
 use Rattle.schedule.specs.declared.Fault.{Fault}
 use Rattle.schedule.specs.Run.{state_after}
 use Rattle.schedule.specs.Check.{fault_of}
-use Rattle.schedule.specs.Theorems.Lists.{fault_at, Made, FirstFault}
-use Rattle.schedule.specs.Theorems.Steps.{state_next}
+use Rattle.schedule.proofs.Theorems.Lists.{fault_at, Made, FirstFault}
+use Rattle.schedule.proofs.Theorems.Steps.{state_next}
 use Rattle.real_move.specs.declared.Turn.{Turn}
 use Rattle.real_move.specs.declared.Turn.TheVariants as turn
 use Rattle.transition.specs.declared.Walked.{Walked}

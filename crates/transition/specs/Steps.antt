@@ -14,11 +14,12 @@ use Rattle.model.specs.Lists.{tabulate}
 use Rattle.model.specs.Memory.{overwrite}
 use Rattle.model.specs.StateTable.{state_of, state_value, state_refusal, state_bytes}
 use Rattle.model.specs.Calls.{writes, turns, step_with_state, step_of, stepped, step_answer, step_out}
-use Rattle.model.specs.Theorems.Reading.States.{accepted_state, state_bytes_same}
+use Rattle.model.proofs.Theorems.Reading.States.{accepted_state, state_bytes_same}
 use Rattle.schedule.specs.declared.Fault.{Fault}
 use Rattle.schedule.specs.declared.Fault.TheVariants as fault
 use Rattle.schedule.specs.Check.{fault_of, fault_number}
-use Rattle.schedule.specs.Theorems.Moves.{step_output, step_fault}
+use Rattle.schedule.specs.Theorems.Moves.{step_output}
+use Rattle.schedule.proofs.Theorems.Moves.{step_fault}
 use Rattle.state.specs.Overwriting.{length_written, written_at}
 use Rattle.state.specs.Storing.{state_in}
 use Rattle.output.specs.Answers.{Answered}

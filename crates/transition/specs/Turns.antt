@@ -9,7 +9,7 @@ use Rattle.std.proofs.Math.ListN.{length}
 use Rattle.model.specs.Limits.{paper}
 use Rattle.model.specs.Task.{written}
 use Rattle.model.specs.Move.{State, move_at}
-use Rattle.model.specs.Theorems.Layers.NextLayer.{move_ok}
+use Rattle.model.proofs.Theorems.Layers.NextLayer.{move_ok}
 use Rattle.schedule.specs.declared.Fault.TheVariants as fault
 use Rattle.schedule.specs.Check.{block_fault, fault_of}
 use Rattle.table.specs.Outlines.{part_at, HeadRead}

@@ -19,7 +19,8 @@ use Rattle.block.specs.Blocks.{next_is, effect_on_other, layer_summable, layer_e
 use Rattle.block.specs.declared.ItemAt.{ItemAt}
 use Rattle.block.specs.declared.ItemAt.TheVariants.{Need, Add, Delete, Condition as ConditionAt, Effect as EffectAt, End}
 use Rattle.table.specs.Outlines.{part_at}
-use Rattle.model.specs.Theorems.Laws.Searching.{Searched, searched_start, searched_next}
+use Rattle.model.specs.Theorems.Laws.Searching.{Searched}
+use Rattle.model.proofs.Theorems.Laws.Searching.{searched_start, searched_next}
 use Rattle.achievers.specs.Search.{Skipped, Achievable, fails, part_in, achieves_at, AchieverAt, achiever_none, achiever_start, achiever_skip, achiever_hit, achiever_miss, achiever_over}
 use Rattle.achievers.proofs.find_achiever.Goals as goal
 use Rattle.achievers.proofs.find_achiever.Goals.{in-Effect+else-var-v, in_default}
@@ -106,12 +107,11 @@ loop-at-smaller c =
     let same : c.next-item.result ≡ c.match-item.item = elim c.match-item.branch [ in-Effect+else-var-v w ↦ w.in-Effect.is ∙ sym w.item-is | in_default w ↦ sym w.item-is ] in
     omega (arith, next_ahead c.loop-at-test.true (next_is c.next-item.ensures (same)), c.behind-at.ensures)
 
-
 pub loop-at-preserved : goal.loop-at-preserved
 loop-at-preserved c =
     let same : c.next-item.result ≡ c.match-item.item = elim c.match-item.branch [ in-Effect+else-var-v w ↦ w.in-Effect.is ∙ sym w.item-is | in_default w ↦ sym w.item-is ] in
     let skipped : Skipped (effect_on c.args.v) c.part-part.result.now c.match-item.item = elim c.match-item.branch [
-      in-Effect+else-var-v w ↦ rw w.item-is (λ k s e u q r. effect_on_other _ e (λ p. w.if-var-v.false (sym q ∙ p)))
+      | in-Effect+else-var-v w ↦ rw w.item-is (λ k s e u q r. effect_on_other _ e (λ p. w.if-var-v.false (sym q ∙ p)))
       | in_default w ↦ rw w.item-is (no_effect _ _ c.next-item.result w.in_default.not-Effect)
     ] in
     let i = c.loop-at.invariant in

@@ -22,7 +22,8 @@ use Rattle.block.specs.declared.ItemAt.{ItemAt}
 use Rattle.block.specs.declared.ItemAt.TheVariants.{Need, Add, Delete, Condition as ConditionAt, Effect as EffectAt, End}
 use Rattle.block.specs.contracts.ItemAt.{the_type}
 use Rattle.table.specs.Outlines.{part_at}
-use Rattle.model.specs.Theorems.Laws.Searching.{Searched, searched_start, searched_next}
+use Rattle.model.specs.Theorems.Laws.Searching.{Searched}
+use Rattle.model.proofs.Theorems.Laws.Searching.{searched_start, searched_next}
 use Rattle.achievers.specs.Search.{Skipped, Achievable, fails, part_in, achieves_at, AchieverAt, achiever_none, achiever_start, achiever_skip, achiever_hit, achiever_miss, achiever_over}
 use Rattle.achievers.proofs.find_achiever.Given as goal
 

@@ -14,7 +14,8 @@ use Rattle.block.specs.Items.{readable, next_ahead}
 use Rattle.block.specs.Blocks.{next_is, any_false}
 use Rattle.block.specs.declared.ItemAt.{ItemAt}
 use Rattle.block.specs.declared.ItemAt.TheVariants.{Need, Add, Delete, Condition as ConditionAt, Effect as EffectAt, End}
-use Rattle.model.specs.Theorems.Laws.Searching.{Searched, searched_start, searched_next}
+use Rattle.model.specs.Theorems.Laws.Searching.{Searched}
+use Rattle.model.proofs.Theorems.Laws.Searching.{searched_start, searched_next}
 use Rattle.achievers.specs.Search.{Skipped, Searchable, fails, part_in, adds_at, AdderAt, adder_none, adder_start, adder_skip, adder_hit, adder_over}
 use Rattle.achievers.proofs.find_adder.Goals as goal
 use Rattle.achievers.proofs.find_adder.Goals.{in-Add+else-prop-p, in_default}
@@ -75,13 +76,12 @@ loop-at-smaller c =
     let same : c.next-item.result ≡ c.match-item.item = elim c.match-item.branch [ in-Add+else-prop-p w ↦ w.in-Add.is ∙ sym w.item-is | in_default w ↦ sym w.item-is ] in
     omega (arith, next_ahead c.loop-at-test.true (next_is c.next-item.ensures (same)), c.behind-at.ensures)
 
-
 pub loop-at-preserved : goal.loop-at-preserved
 unfolding is_add
 loop-at-preserved c =
     let same : c.next-item.result ≡ c.match-item.item = elim c.match-item.branch [ in-Add+else-prop-p w ↦ w.in-Add.is ∙ sym w.item-is | in_default w ↦ sym w.item-is ] in
     let skipped : Skipped (any (is_add c.args.p)) c.part-part.result.now c.match-item.item = elim c.match-item.branch [
-      in-Add+else-prop-p w ↦ rw w.item-is (λ k s u r. any_false (is_add _) (ne_eqb _ _ w.if-prop-p.false))
+      | in-Add+else-prop-p w ↦ rw w.item-is (λ k s u r. any_false (is_add _) (ne_eqb _ _ w.if-prop-p.false))
       | in_default w ↦ rw w.item-is (no_add _ _ c.next-item.result w.in_default.not-Add)
     ] in
     let i = c.loop-at.invariant in

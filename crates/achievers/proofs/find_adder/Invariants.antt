@@ -18,7 +18,8 @@ use Rattle.block.specs.Blocks.{next_is, any_false}
 use Rattle.block.specs.declared.ItemAt.{ItemAt}
 use Rattle.block.specs.declared.ItemAt.TheVariants.{Need, Add, Delete, Condition as ConditionAt, Effect as EffectAt, End}
 use Rattle.block.specs.contracts.ItemAt.{the_type}
-use Rattle.model.specs.Theorems.Laws.Searching.{Searched, searched_start, searched_next}
+use Rattle.model.specs.Theorems.Laws.Searching.{Searched}
+use Rattle.model.proofs.Theorems.Laws.Searching.{searched_start, searched_next}
 use Rattle.achievers.specs.Search.{Skipped, Searchable, fails, part_in, adds_at, AdderAt, adder_none, adder_start, adder_skip, adder_hit, adder_over}
 use Rattle.achievers.proofs.find_adder.Given as goal
 

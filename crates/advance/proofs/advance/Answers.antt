@@ -7,7 +7,7 @@ use borrow.Author.Rules.{rules}
 use Rattle.model.specs.Command.{head, open_move, open_goal, end_table, need_prop, add_prop, delete_prop, term, close_condition, close_effect, unknown, width}
 use Rattle.command.specs.Names.{form_of, command_is}
 use Rattle.cursor.specs.State.{Passed}
-use Rattle.cursor.specs.Passing.{need_range, add_range, delete_range, effect_range}
+use Rattle.cursor.proofs.Passing.{need_range, add_range, delete_range, effect_range}
 use Rattle.advance.specs.Blocks.{mark_room, opened_most, advance_head, advance_move, advance_goal, advance_end, advance_unknown}
 use Rattle.advance.specs.Items.{advance_need, advance_add, advance_delete, advance_condition, advance_effect}
 use Rattle.advance.specs.Terms.{advance_term}

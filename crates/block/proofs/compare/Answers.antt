@@ -8,8 +8,8 @@ use mir.Val.{to_z, of_z}
 use Rattle.integer.specs.Linear.{back}
 use Rattle.model.specs.Task.{Comparison, written}
 use Rattle.model.specs.Command.{comparison_code}
-use Rattle.model.specs.Theorems.Reading.Ranges.{one_of_five}
-use Rattle.model.specs.Theorems.Printing.Operands.{comparison_range}
+use Rattle.model.proofs.Theorems.Reading.Ranges.{one_of_five}
+use Rattle.model.proofs.Theorems.Printing.Operands.{comparison_range}
 use Rattle.block.specs.Sums.{compares_by, compares_code, both_first, both_second}
 use Rattle.block.proofs.compare.Goals as goal
 

@@ -74,11 +74,10 @@ returns-in-45 c =
 
 pub returns-in-67 : goal.returns-in-67
 returns-in-67 c =
-    let room-condition : c.args.from + 4 * c.args.terms + 6 ≤ length c.args.part.now = (found_condition c.requires.closed _ _ c.in-67.is refl refl).followed.left.bytes.within in
-    (
-  (omega arith, room-condition),
-  λ k rest d. found_condition d _ _ c.in-67.is refl (back c.i32_at.result c.i32_at.type_inv ∙ c.i32_at.ensures.0),
-)
+    let room-condition : c.args.from + 4 * c.args.terms + 6 ≤ length c.args.part.now = (found_condition c.requires.closed _ _ c.in-67.is refl refl).followed.left.bytes.within in (
+      (omega arith, room-condition),
+      λ k rest d. found_condition d _ _ c.in-67.is refl (back c.i32_at.result c.i32_at.type_inv ∙ c.i32_at.ensures.0),
+    )
 
 pub returns-in_default : goal.returns-in_default
 returns-in_default c =

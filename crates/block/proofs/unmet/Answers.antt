@@ -11,7 +11,7 @@ use borrow.Author.Rules.{rules}
 use borrow.Author.Tests.{not-true, not-false}
 use lib.IntN.{ℤ}
 use lib.ListN.{length}
-use Rattle.integer.specs.BigEndian.{length_signed_bytes}
+use Rattle.integer.proofs.BigEndian.{length_signed_bytes}
 use Rattle.integer.specs.Linear.{back_small}
 use Rattle.model.specs.Task.{need, add, delete, condition, effect, Block}
 use Rattle.model.specs.Layer.{Layer, holds_in}
@@ -96,12 +96,12 @@ returns-then-not-condition_reached c =
 pub loop-prop-smaller : goal.loop-prop-smaller
 loop-prop-smaller c =
     let same : c.next-item.result ≡ c.match-item.item = elim c.match-item.branch [
-      in-Need+else-not-has-prop w ↦ w.in-Need.is ∙ sym w.item-is
+      | in-Need+else-not-has-prop w ↦ w.in-Need.is ∙ sym w.item-is
       | in-Condition+else-not-condition_reached w ↦ w.in-Condition.is ∙ sym w.item-is
       | in_default w ↦ sym w.item-is
     ] in
     let inside : c.loop-prop.at < length c.args.part.now = elim c.match-item.branch [
-      in-Need+else-not-has-prop w ↦ omega (arith, (next_is c.next-item.ensures w.in-Need.is).moves)
+      | in-Need+else-not-has-prop w ↦ omega (arith, (next_is c.next-item.ensures w.in-Need.is).moves)
       | in-Condition+else-not-condition_reached w ↦ omega (arith, (next_is c.next-item.ensures w.in-Condition.is).moves)
       | in_default w ↦ before_end c.next-item.result w.in_default.not-End c.next-item.ensures.moves
     ] in
@@ -112,27 +112,27 @@ pub loop-prop-preserved : goal.loop-prop-preserved
 unfolding holds_in
 loop-prop-preserved c =
     let same : c.next-item.result ≡ c.match-item.item = elim c.match-item.branch [
-      in-Need+else-not-has-prop w ↦ w.in-Need.is ∙ sym w.item-is
+      | in-Need+else-not-has-prop w ↦ w.in-Need.is ∙ sym w.item-is
       | in-Condition+else-not-condition_reached w ↦ w.in-Condition.is ∙ sym w.item-is
       | in_default w ↦ sym w.item-is
     ] in
     let inside : c.loop-prop.at < length c.args.part.now = elim c.match-item.branch [
-      in-Need+else-not-has-prop w ↦ omega (arith, (next_is c.next-item.ensures w.in-Need.is).moves)
+      | in-Need+else-not-has-prop w ↦ omega (arith, (next_is c.next-item.ensures w.in-Need.is).moves)
       | in-Condition+else-not-condition_reached w ↦ omega (arith, (next_is c.next-item.ensures w.in-Condition.is).moves)
       | in_default w ↦ before_end c.next-item.result w.in_default.not-End c.next-item.ensures.moves
     ] in
     let passes : Passing c.args.part.now (Over c.args.has.now c.args.layer.now) unmet_size c.match-item.item =
     elim c.match-item.branch [
-      in-Need+else-not-has-prop w ↦ subst (Passing c.args.part.now (Over c.args.has.now c.args.layer.now) unmet_size) (sym w.item-is)
-        (λ k s v h. unmet_met s (need _) (sym (v.has _ h) ∙ w.if-not-has-prop.false))
+      | in-Need+else-not-has-prop w ↦ subst (Passing c.args.part.now (Over c.args.has.now c.args.layer.now) unmet_size) (sym w.item-is)
+          (λ k s v h. unmet_met s (need _) (sym (v.has _ h) ∙ w.if-not-has-prop.false))
       | in-Condition+else-not-condition_reached w ↦ subst (Passing c.args.part.now (Over c.args.has.now c.args.layer.now) unmet_size) (sym w.item-is)
-        (λ k s q v h.
-        unmet_met s (condition q)
-        (layer_condition_test s v.row h (rw (back_small w.in-Condition.bound (omega (arith, condition_bound h))) at w.condition_reached.ensures)
-        ∙ w.if-not-condition_reached.false))
+          (λ k s q v h.
+          unmet_met s (condition q)
+          (layer_condition_test s v.row h (rw (back_small w.in-Condition.bound (omega (arith, condition_bound h))) at w.condition_reached.ensures)
+          ∙ w.if-not-condition_reached.false))
       | in_default w ↦ subst (Passing c.args.part.now (Over c.args.has.now c.args.layer.now) unmet_size) (sym w.item-is)
-        (no_condition c.args.part.now (Over _ _) unmet_size (λ s p. unmet_met s (add p) refl) (λ s p. unmet_met s (delete p) refl) (λ s e. unmet_met s (effect e) refl)
-        c.next-item.result w.in_default.not-Need w.in_default.not-Condition w.in_default.not-End)
+          (no_condition c.args.part.now (Over _ _) unmet_size (λ s p. unmet_met s (add p) refl) (λ s p. unmet_met s (delete p) refl) (λ s e. unmet_met s (effect e) refl)
+          c.next-item.result w.in_default.not-Need w.in_default.not-Condition w.in_default.not-End)
     ] in
     subst (Walk _ (Over _ _) unmet_size) (sym c.behind-at.ensures)
     (walk_next (Over _ _) unmet_size c.loop-prop.invariant inside (next_is c.next-item.ensures same) passes)

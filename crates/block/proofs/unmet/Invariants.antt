@@ -11,7 +11,7 @@ use borrow.Author.Rules.{rules}
 use borrow.Author.Tests.{not-true, not-false}
 use lib.IntN.{ℤ}
 use lib.ListN.{length}
-use Rattle.integer.specs.BigEndian.{length_signed_bytes}
+use Rattle.integer.proofs.BigEndian.{length_signed_bytes}
 use Rattle.integer.specs.Linear.{back_small}
 use Rattle.model.specs.Task.{need, add, delete, condition, effect, Block}
 use Rattle.model.specs.Layer.{Layer, holds_in}

@@ -7,7 +7,7 @@ use lib.Seq.{length-take-le}
 use Rattle.model.specs.declared.WriteAnswer.TheVariants as write
 use Rattle.model.specs.Limits.{paper}
 use Rattle.model.specs.Calls.{normalise_answer}
-use Rattle.model.specs.Theorems.Campaigns.Demand2.{written_hands}
+use Rattle.model.proofs.Theorems.Campaigns.Demand2.{written_hands}
 use Rattle.campaign.specs.Campaign.{done_written, done_refused}
 use borrow.Author.Rules.{rules}
 use Rattle.campaign.proofs.campaign.Statement.{statement}

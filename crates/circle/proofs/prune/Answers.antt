@@ -15,12 +15,11 @@ returns c = (c.loop-var.invariant.1.size, λ v h. c.loop-var.invariant.1.same v 
 
 pub loop-var-preserved : goal.loop-var-preserved
 unfolding alive_at
-loop-var-preserved c =
-    (
+loop-var-preserved c = (
   omega arith,
   filled_more c.loop-var.invariant.1 (omega arith)
       (elim c.if-alive-var.branch [
-        then-alive-var w ↦ kept_alive _ _ _ _ w.if-alive-var.true (w.next-is ∙ w.has_live_predecessor.ensures)
+        | then-alive-var w ↦ kept_alive _ _ _ _ w.if-alive-var.true (w.next-is ∙ w.has_live_predecessor.ensures)
         | else-alive-var w ↦ kept_dead _ _ _ _ w.if-alive-var.false w.next-is
       ]),
 )

@@ -4,9 +4,10 @@ use Prim.Native.Nat.{◌-◌, ◌*◌}
 use native.Mathlib.Omega.{arith}
 use mathlib.Core.Path.{sym, ◌∙◌}
 use lib.ListN.{length}
-use Rattle.model.specs.Theorems.Laws.Searching.{Searched, searched_start, searched_next, searched_found, searched_all}
+use Rattle.model.specs.Theorems.Laws.Searching.{Searched}
+use Rattle.model.proofs.Theorems.Laws.Searching.{searched_start, searched_next, searched_found, searched_all}
 use Rattle.placement.specs.Day.{paper_day, window_at, pieces, wrong_window, first_window}
-use Rattle.placement.specs.Theorems.Checks.{begins_piece, pieces_end, pieces_most}
+use Rattle.placement.proofs.Theorems.Checks.{begins_piece, pieces_end, pieces_most}
 use Rattle.closure.specs.Checking.{fault_of, ShutBefore, shut_first, shut_next, window_passed}
 use Rattle.closure.proofs.first_window.Goals as goal
 

@@ -6,7 +6,8 @@ use borrow.Author.Rules.{rules}
 use Rattle.model.specs.Theorems.Reading.Places.{Small}
 use Rattle.model.specs.Theorems.Sizes.Answers.{place_limit}
 use Rattle.schedule.specs.Exports.{check_code, check_index}
-use Rattle.schedule.specs.Theorems.Codes.{CheckSmall, fault_most}
+use Rattle.schedule.specs.Theorems.Codes.{CheckSmall}
+use Rattle.schedule.proofs.Theorems.Codes.{fault_most}
 use Rattle.codes.proofs.check_code.Goals as goal
 
 pub overflow_add-result : goal.overflow_add-result

@@ -12,8 +12,9 @@ use Rattle.model.specs.Command.{width}
 use Rattle.cursor.specs.declared.Check.TheVariants.{Refused}
 use Rattle.command.specs.Names.{place_of, command_is, wanted_of}
 use Rattle.command.specs.Checks.{misplaced, miscounted, closes_idle}
-use Rattle.cursor.specs.State.{wrong_at, cursor_refusal, order_3, order_2, order_6, order_16, order_4, order_5, order_passes}
-use Rattle.cursor.specs.Passing.{wrong_near}
+use Rattle.cursor.specs.State.{wrong_at, cursor_refusal}
+use Rattle.cursor.proofs.State.{order_3, order_2, order_6, order_16, order_4, order_5, order_passes}
+use Rattle.cursor.proofs.Passing.{wrong_near}
 use Rattle.cursor.proofs.checked.Goals as goal
 
 pub returns-then-misplaced : goal.returns-then-misplaced

@@ -11,7 +11,7 @@ use Rattle.model.specs.Limits.{paper}
 use Rattle.model.specs.Command.{width, need_prop, add_prop, delete_prop, close_effect}
 use Rattle.command.specs.Names.{command_is}
 use Rattle.cursor.specs.State.{wrong_at, repeated}
-use Rattle.cursor.specs.Passing.{need_range, add_range, delete_range, effect_range}
+use Rattle.cursor.proofs.Passing.{need_range, add_range, delete_range, effect_range}
 use Rattle.cursor.proofs.named_again.Goals as goal
 
 pub named-requires : goal.named-requires

@@ -1,6 +1,6 @@
 -- `lapyndo_block` meets its contract. Assumes nothing.
 use mathlib.Core.Path.{◌∙◌}
-use Rattle.model.specs.Theorems.Sizes.Answers.{block_refused}
+use Rattle.model.proofs.Theorems.Sizes.Answers.{block_refused}
 use Rattle.codes.specs.Parts.{block_fits, block_answer_lem, block_copied}
 use borrow.Author.Rules.{rules}
 use Rattle.engine.proofs.lapyndo_block.Statement.{statement}

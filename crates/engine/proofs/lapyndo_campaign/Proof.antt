@@ -2,8 +2,8 @@
 use mathlib.Core.Path.{ap, ◌∙◌}
 use Rattle.model.specs.declared.PlanAnswer.{PlanAnswer}
 use Rattle.model.specs.Exports.{decide_code, plan_code, plan_record_count, plan_first_moves}
-use Rattle.model.specs.Theorems.Campaigns.OneCall.{campaign_promise}
-use Rattle.model.specs.Theorems.Sizes.Answers.{campaign_decision_small, campaign_plan_small}
+use Rattle.model.proofs.Theorems.Campaigns.OneCall.{campaign_promise}
+use Rattle.model.proofs.Theorems.Sizes.Answers.{campaign_decision_small, campaign_plan_small}
 use borrow.Author.Rules.{rules}
 use Rattle.engine.proofs.lapyndo_campaign.Statement.{statement}
 use Rattle.engine.proofs.lapyndo_campaign.Tie as tie

@@ -2,7 +2,7 @@
 use mathlib.Core.Path.{ap, ◌∙◌}
 use Rattle.model.specs.declared.PlanAnswer.{PlanAnswer}
 use Rattle.model.specs.Exports.{plan_code, plan_record_count, plan_first_moves}
-use Rattle.model.specs.Theorems.Sizes.Answers.{plan_small}
+use Rattle.model.proofs.Theorems.Sizes.Answers.{plan_small}
 use borrow.Author.Rules.{rules}
 use Rattle.engine.proofs.lapyndo_plan.Statement.{statement}
 use Rattle.engine.proofs.lapyndo_plan.Tie as tie

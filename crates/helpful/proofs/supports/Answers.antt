@@ -128,12 +128,12 @@ no-support part over End h k l = absurd (l refl)
 pub loop-prop-smaller : goal.loop-prop-smaller
 loop-prop-smaller c =
     let inside : c.loop-prop.at < length c.args.part.now = elim c.match-item.branch [
-      in-Add+else-lacking w ↦ omega (arith, (next_is c.next-item.ensures w.in-Add.is).moves)
+      | in-Add+else-lacking w ↦ omega (arith, (next_is c.next-item.ensures w.in-Add.is).moves)
       | in-Effect+else-reaches_new w ↦ omega (arith, (next_is c.next-item.ensures w.in-Effect.is).moves)
       | in_default w ↦ before_end c.next-item.result w.in_default.not-End c.next-item.ensures.moves
     ] in
     let same : c.next-item.result ≡ c.match-item.item = elim c.match-item.branch [
-      in-Add+else-lacking w ↦ w.in-Add.is ∙ sym w.item-is
+      | in-Add+else-lacking w ↦ w.in-Add.is ∙ sym w.item-is
       | in-Effect+else-reaches_new w ↦ w.in-Effect.is ∙ sym w.item-is
       | in_default w ↦ sym w.item-is
     ] in
@@ -142,32 +142,32 @@ loop-prop-smaller c =
 pub loop-prop-preserved : goal.loop-prop-preserved
 loop-prop-preserved c =
     let inside : c.loop-prop.at < length c.args.part.now = elim c.match-item.branch [
-      in-Add+else-lacking w ↦ omega (arith, (next_is c.next-item.ensures w.in-Add.is).moves)
+      | in-Add+else-lacking w ↦ omega (arith, (next_is c.next-item.ensures w.in-Add.is).moves)
       | in-Effect+else-reaches_new w ↦ omega (arith, (next_is c.next-item.ensures w.in-Effect.is).moves)
       | in_default w ↦ before_end c.next-item.result w.in_default.not-End c.next-item.ensures.moves
     ] in
     let same : c.next-item.result ≡ c.match-item.item = elim c.match-item.branch [
-      in-Add+else-lacking w ↦ w.in-Add.is ∙ sym w.item-is
+      | in-Add+else-lacking w ↦ w.in-Add.is ∙ sym w.item-is
       | in-Effect+else-reaches_new w ↦ w.in-Effect.is ∙ sym w.item-is
       | in_default w ↦ sym w.item-is
     ] in
     let Passes : ItemAt → Type 0 = λ (i : ItemAt). Passing c.args.part.now (Over c.args.wanted.now c.args.targets.now c.args.layers.now c.args.row.now) supporting i in
     let passes : Passes c.match-item.item = elim c.match-item.branch [
-      in-Add+else-lacking w ↦
-        subst Passes (sym w.item-is)
-        (λ k s x h.
-        any_false (supports s.0 s.1)
-        (prop_supports x h (w.held.ensures ∙ ap (λ (e : ℤ). held_by e 0) (back _ w.held-arg-1.given)) ∙ sym w.lacking.ensures ∙ w.if-lacking.false))
+      | in-Add+else-lacking w ↦
+          subst Passes (sym w.item-is)
+          (λ k s x h.
+          any_false (supports s.0 s.1)
+          (prop_supports x h (w.held.ensures ∙ ap (λ (e : ℤ). held_by e 0) (back _ w.held-arg-1.given)) ∙ sym w.lacking.ensures ∙ w.if-lacking.false))
       | in-Effect+else-reaches_new w ↦
-        subst Passes (sym w.item-is)
-        (λ k s e x at-v h.
-        any_false (supports s.0 s.1)
-        (effect_supports x at-v h
-        (rw (back_small w.in-Effect.base (omega (arith, effect_base h)), back _ w.reaches_new-arg-1.given, back _ w.reaches_new-arg-in-Effect-1.given) at w.reaches_new.ensures)
-        ∙ w.if-reaches_new.false))
+          subst Passes (sym w.item-is)
+          (λ k s e x at-v h.
+          any_false (supports s.0 s.1)
+          (effect_supports x at-v h
+          (rw (back_small w.in-Effect.base (omega (arith, effect_base h)), back _ w.reaches_new-arg-1.given, back _ w.reaches_new-arg-in-Effect-1.given) at w.reaches_new.ensures)
+          ∙ w.if-reaches_new.false))
       | in_default w ↦
-        subst Passes (sym w.item-is)
-        (no-support c.args.part.now (Over _ _ _ _) c.next-item.result w.in_default.not-Add w.in_default.not-Effect w.in_default.not-End)
+          subst Passes (sym w.item-is)
+          (no-support c.args.part.now (Over _ _ _ _) c.next-item.result w.in_default.not-Add w.in_default.not-Effect w.in_default.not-End)
     ] in
     subst (Walk _ (Over _ _ _ _) supporting) (sym c.behind-at.ensures)
     (walk_next (Over _ _ _ _) supporting c.loop-prop.invariant inside (next_is c.next-item.ensures same) passes)

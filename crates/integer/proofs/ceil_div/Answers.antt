@@ -7,7 +7,8 @@ use lib.IntN.{ℤ, pos, nat_abs, ◌+ℤ◌}
 use lib.Signed.{quot_z}
 use mir.Syntax.{w64}
 use mir.Val.{SFits, to_z, of_z}
-use Rattle.integer.specs.Ceiling.{ceiling, ceiling_neg, ceiling_nonneg, ceiling_size}
+use Rattle.integer.specs.Ceiling.{ceiling}
+use Rattle.integer.proofs.Ceiling.{ceiling_neg, ceiling_nonneg, ceiling_size}
 use Rattle.integer.specs.Linear.{lt_true, lt_false, abs_sum, small_fits, back, back_small}
 use Rattle.integer.proofs.ceil_div.Goals as goal
 
@@ -42,8 +43,8 @@ returns-else-a-lt0 c =
     let raised : SFits w64 (c.args.a +ℤ pos (c.args.d - 1)) =
     small_fits (c.args.a +ℤ pos (c.args.d - 1)) (omega (arith, abs_sum c.args.a (pos (c.args.d - 1)))) in
     let above :
-        quot_z (to_z w64 (of_z w64 (to_z w64 (of_z w64 c.args.a) +ℤ to_z w64 (c.args.d - 1)))) (to_z w64 c.args.d)
-        ≡ ceiling c.args.a c.args.d =
+    quot_z (to_z w64 (of_z w64 (to_z w64 (of_z w64 c.args.a) +ℤ to_z w64 (c.args.d - 1)))) (to_z w64 c.args.d)
+    ≡ ceiling c.args.a c.args.d =
     rw (value, added, back (c.args.a +ℤ pos (c.args.d - 1)) raised.sfits, divisor)
     (ceiling_nonneg c.args.a c.args.d (lt_false c.args.a (pos 0) (rw value at c.if-a-lt0.false))) in
     result a d _ c.requires.0 c.requires.1 above

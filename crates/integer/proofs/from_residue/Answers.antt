@@ -7,7 +7,8 @@ use borrow.Author.Tests.{lt-ltb, le-ltb}
 use lib.IntN.{ℤ, pos, ◌-ℤ◌}
 use mir.Syntax.{w64}
 use mir.Val.{SFits, to_z}
-use Rattle.integer.specs.BigEndian.{twos, twos_size}
+use Rattle.integer.specs.BigEndian.{twos}
+use Rattle.integer.proofs.BigEndian.{twos_size}
 use Rattle.integer.specs.Linear.{small_fits, back, back_small}
 use Rattle.integer.proofs.from_residue.Goals as goal
 

@@ -2,7 +2,8 @@
 -- The measure is what is left of the width. Assumes nothing.
 use Prim.Native.Nat.{◌-◌}
 use native.Mathlib.Omega.{arith}
-use Rattle.integer.specs.Store.{Stored, stored_none, stored_length, stored_next, stored_all}
+use Rattle.integer.specs.Store.{Stored}
+use Rattle.integer.proofs.Store.{stored_none, stored_length, stored_next, stored_all}
 use Rattle.integer.proofs.put_unsigned.Given as goal
 
 abbrev pub invariant-loop-done : goal.invariant-loop-done

@@ -2,7 +2,8 @@
 -- Assumes nothing.
 use mathlib.Core.Path.{◌∙◌, ap₂}
 use native.Mathlib.Omega.{arith}
-use Rattle.integer.specs.BigEndian.{twos, half_twice, signed_part}
+use Rattle.integer.specs.BigEndian.{twos}
+use Rattle.integer.proofs.BigEndian.{half_twice, signed_part}
 use Rattle.integer.specs.Linear.{back}
 use Rattle.integer.proofs.signed_at.Goals as goal
 

@@ -5,7 +5,8 @@ use Prim.Native.Nat.{ℕ, ◌+◌, ◌*◌, ◌-◌, ◌^◌, ◌<◌, ◌≤◌
 use native.Mathlib.Numerals.{add-one}
 use native.Mathlib.Omega.{arith}
 use lib.ListN.{take, drop}
-use Rattle.integer.specs.BigEndian.{unsigned, unsigned_next, next_small, eight_small}
+use Rattle.integer.specs.BigEndian.{unsigned}
+use Rattle.integer.proofs.BigEndian.{unsigned_next, next_small, eight_small}
 use Rattle.integer.proofs.unsigned_at.Given as goal
 
 abbrev pub invariant-loop-i : goal.invariant-loop-i

@@ -53,12 +53,12 @@ raise-requires c =
 pub loop-prop-smaller : goal.loop-prop-smaller
 loop-prop-smaller c =
     let inside : c.loop-prop.at < length c.args.part.now = elim c.match-item.branch [
-      in-Add w ↦ omega (arith, (next_is c.next-item.ensures w.in-Add.is).moves)
+      | in-Add w ↦ omega (arith, (next_is c.next-item.ensures w.in-Add.is).moves)
       | in-Effect w ↦ omega (arith, (next_is c.next-item.ensures w.in-Effect.is).moves)
       | in_default w ↦ before_end c.next-item.result w.in_default.not-End c.next-item.ensures.moves
     ] in
     let same : c.next-item.result ≡ c.match-item.item = elim c.match-item.branch [
-      in-Add w ↦ w.in-Add.is ∙ sym w.item-is
+      | in-Add w ↦ w.in-Add.is ∙ sym w.item-is
       | in-Effect w ↦ w.in-Effect.is ∙ sym w.item-is
       | in_default w ↦ sym w.item-is
     ] in
@@ -82,12 +82,12 @@ passed_over part row End h k l e = absurd (l refl)
 pub loop-prop-preserved : goal.loop-prop-preserved
 loop-prop-preserved c =
     let inside : c.loop-prop.at < length c.args.part.now = elim c.match-item.branch [
-      in-Add w ↦ omega (arith, (next_is c.next-item.ensures w.in-Add.is).moves)
+      | in-Add w ↦ omega (arith, (next_is c.next-item.ensures w.in-Add.is).moves)
       | in-Effect w ↦ omega (arith, (next_is c.next-item.ensures w.in-Effect.is).moves)
       | in_default w ↦ before_end c.next-item.result w.in_default.not-End c.next-item.ensures.moves
     ] in
     let same : c.next-item.result ≡ c.match-item.item = elim c.match-item.branch [
-      in-Add w ↦ w.in-Add.is ∙ sym w.item-is
+      | in-Add w ↦ w.in-Add.is ∙ sym w.item-is
       | in-Effect w ↦ w.in-Effect.is ∙ sym w.item-is
       | in_default w ↦ sym w.item-is
     ] in
@@ -97,18 +97,18 @@ loop-prop-preserved c =
     let o = own in
     let there : ItemAt → Type 0 = λ (x : ItemAt). AppliesItem a.part.now a.row.now c.loop-prop.flags c.loop-prop.next c.match-item.flags c.match-item.next x in
     elim c.match-item.branch [
-      in-Add w ↦ subst there (sym w.item-is) (w.flags-is, w.next-is)
+      | in-Add w ↦ subst there (sym w.item-is) (w.flags-is, w.next-is)
       | in-Effect w ↦
-        let e = w.in-Effect in
-        let f = (next_is c.next-item.ensures e.is).found p.ranges o.rest o.left in
-        subst there (sym w.item-is) (
-          w.flags-is,
-          subst (λ (next' : List ℤ). IsRaised a.part.now e.kind e.var e.base e.from e.terms a.row.now c.loop-prop.next next') (sym w.next-is)
-              (rw (back_small e.base (omega (arith, effect_base f.is))) at w.raise.ensures),
-        )
+          let e = w.in-Effect in
+          let f = (next_is c.next-item.ensures e.is).found p.ranges o.rest o.left in
+          subst there (sym w.item-is) (
+            w.flags-is,
+            subst (λ (next' : List ℤ). IsRaised a.part.now e.kind e.var e.base e.from e.terms a.row.now c.loop-prop.next next') (sym w.next-is)
+                (rw (back_small e.base (omega (arith, effect_base f.is))) at w.raise.ensures),
+          )
       | in_default w ↦
-        subst there (sym w.item-is)
-        (passed_over a.part.now a.row.now c.next-item.result w.in_default.not-Add w.in_default.not-Effect w.in_default.not-End (w.flags-is, w.next-is))
+          subst there (sym w.item-is)
+          (passed_over a.part.now a.row.now c.next-item.result w.in_default.not-Add w.in_default.not-Effect w.in_default.not-End (w.flags-is, w.next-is))
     ] in
     let m = c.match-item in
     let a = c.args in

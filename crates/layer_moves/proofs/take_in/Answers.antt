@@ -12,7 +12,7 @@ apply-requires c = takeable_appliable c.requires
 pub returns-then-usable : goal.returns-then-usable
 returns-then-usable c =
     let told : IsUsableAgain c.args.part.now c.args.before c.args.has.now c.args.row.now c.if-before.usable = elim c.if-before.branch [
-      then-before w ↦ usable_before w.if-before.true w.usable-is
+      | then-before w ↦ usable_before w.if-before.true w.usable-is
       | else-before w ↦ usable_tested w.usable-usable.ensures w.usable-is
     ] in
     taken_usable (told) c.if-usable.true c.apply.ensures
@@ -20,7 +20,7 @@ returns-then-usable c =
 pub returns : goal.returns
 returns c =
     let told : IsUsableAgain c.args.part.now c.args.before c.args.has.now c.args.row.now c.if-before.usable = elim c.if-before.branch [
-      then-before w ↦ usable_before w.if-before.true w.usable-is
+      | then-before w ↦ usable_before w.if-before.true w.usable-is
       | else-before w ↦ usable_tested w.usable-usable.ensures w.usable-is
     ] in
     taken_unusable (told) c.if-usable.false

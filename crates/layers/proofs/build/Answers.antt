@@ -47,12 +47,11 @@ slice_bounds-note-end c = sym c.load_truths.auto.has
 
 pub note-requires : goal.note-requires
 note-requires c =
-    let row_long : length (put_mid (c.args.props + c.args.moves) (length c.args.layers.now - (c.args.props + c.args.moves)) c.args.layers.now c.copy_row.new.into) ≡ length c.args.layers.now = let a = c.args in same_len_mid (a.props + a.moves) (length a.layers.now - (a.props + a.moves)) a.layers.now c.copy_row.new.into c.copy_row.auto.into in
-    (
-  omega (arith, c.clear.auto.entries, row_long, c.if-layers-front.false),
-  omega (arith, c.load_truths.auto.has, props_small c.requires),
-  omega arith,
-)
+    let row_long : length (put_mid (c.args.props + c.args.moves) (length c.args.layers.now - (c.args.props + c.args.moves)) c.args.layers.now c.copy_row.new.into) ≡ length c.args.layers.now = let a = c.args in same_len_mid (a.props + a.moves) (length a.layers.now - (a.props + a.moves)) a.layers.now c.copy_row.new.into c.copy_row.auto.into in (
+      omega (arith, c.clear.auto.entries, row_long, c.if-layers-front.false),
+      omega (arith, c.load_truths.auto.has, props_small c.requires),
+      omega arith,
+    )
 
 pub grow-requires : goal.grow-requires
 grow-requires c =

@@ -175,12 +175,11 @@ note-requires c =
     let noted-long : length c.note_moves-in-New.new.layers ≡ length c.loop-n.layers = c.note_moves-in-New.auto.layers ∙ after-long in
     let props_small : c.args.n.props ≤ 120 = let p = c.requires in omega (arith, has_room p.outlined p.counts (current).layered, c.loop-n.invariant.0) in
     let flags_long : length c.step.new.flags ≡ 120 = c.step.ensures.same_flags ∙ c.loop-n.invariant.0 in
-    let t-small : c.loop-n.t ≤ 3201 = let p = c.requires in layer_small p.outlined p.counts (current).layered in
-    (
-  omega (arith, within, noted-long),
-  omega (arith, props_small, flags_long),
-  omega (arith, t-small),
-)
+    let t-small : c.loop-n.t ≤ 3201 = let p = c.requires in layer_small p.outlined p.counts (current).layered in (
+      omega (arith, within, noted-long),
+      omega (arith, props_small, flags_long),
+      omega (arith, t-small),
+    )
 
 pub offset_bounds-layers-end-in-New : goal.offset_bounds-layers-end-in-New
 offset_bounds-layers-end-in-New c =

@@ -2,7 +2,7 @@
 use Rattle.std.proofs.Common.{[], sym, ap, ◌∙◌, take}
 use Rattle.std.proofs.Math.Seq.{length-take-le}
 use Rattle.model.specs.declared.PlanAnswer.{PlanAnswer}
-use Rattle.model.specs.Theorems.Campaigns.Demand2.{written_hands}
+use Rattle.model.proofs.Theorems.Campaigns.Demand2.{written_hands}
 use Rattle.model.specs.Limits.{paper}
 use Rattle.model.specs.Calls.{prepared}
 use Rattle.model.specs.Listing.{answer_text}

@@ -5,6 +5,4 @@ pub mod Wanting
 pub mod Conditions
 pub mod Supporting
 pub mod Taking
-pub mod Descending
-pub mod Solving
 pub mod Records

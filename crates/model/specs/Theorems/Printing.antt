@@ -3,12 +3,8 @@
 pub mod SeenBytes
 pub mod Printed
 pub mod Passing
-pub mod Operands
 pub mod Items
 pub mod Blocks
 pub mod Moves
 pub mod Tables
-pub mod Bytes
 pub mod Decimals
-pub mod ReadBack
-pub mod Outputs

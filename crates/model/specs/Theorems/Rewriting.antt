@@ -3,15 +3,8 @@
 -- does nothing; twice is once; rewriting and normalising change places; layers, answers, records and helpful moves are the old ones,
 -- renumbered; from bytes to decide's answer; small cases by computation.
 pub mod Solving
-pub mod Refusals
 pub mod Accepted
-pub mod Following
-pub mod Refused
-pub mod Sizes
-pub mod Twice
 pub mod Normal
-pub mod Layers
-pub mod Numbers
 pub mod Plans
 pub mod Helpful
 pub mod EndToEnd

@@ -3,7 +3,6 @@ pub mod Bounds
 pub mod States
 pub mod Layers
 pub mod Targets
-pub mod Counts
 pub mod Descents
 pub mod Plans
 pub mod Stored

@@ -10,7 +10,7 @@ use Rattle.integer.specs.Linear.{back}
 use Rattle.model.specs.Command.{items_bytes}
 use Rattle.model.specs.Seen.{comparison_of}
 use Rattle.model.specs.NormalForm.{normal_condition}
-use Rattle.model.specs.Theorems.Reading.Ranges.{one_of_five}
+use Rattle.model.proofs.Theorems.Reading.Ranges.{one_of_five}
 use Rattle.output.specs.Writing.{written_same}
 use Rattle.block.specs.Terms.{terms_at}
 use Rattle.normal_condition.proofs.put_comparison.Goals as goal

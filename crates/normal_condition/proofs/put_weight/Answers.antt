@@ -1,7 +1,7 @@
 -- `put_weight` meets its contract: three stores side by side, if they fit. Assumes nothing.
 use native.Mathlib.Omega.{arith}
 use lib.ListN.{length-set}
-use Rattle.integer.specs.BigEndian.{length_signed_bytes}
+use Rattle.integer.proofs.BigEndian.{length_signed_bytes}
 use Rattle.integer.specs.Linear.{back}
 use Rattle.model.specs.Command.{code_of}
 use Rattle.block.specs.Items.{first_term, first_term_length}

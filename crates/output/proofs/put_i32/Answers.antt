@@ -1,7 +1,7 @@
 -- `put_i32` meets its contract. Assumes nothing.
 use native.Mathlib.Omega.{arith}
 use borrow.Author.Rules.{rules}
-use Rattle.integer.specs.BigEndian.{length_signed_bytes}
+use Rattle.integer.proofs.BigEndian.{length_signed_bytes}
 use Rattle.integer.specs.Linear.{back}
 use Rattle.output.specs.Writing.{written_whole, written_not}
 use Rattle.output.proofs.put_i32.Goals as goal

@@ -13,8 +13,7 @@ use Rattle.passes.proofs.survey.Goals as goal
 use Rattle.passes.proofs.survey.Goals.{then-t-eq1, else-t-eq1}
 
 pub loop-t-init : goal.loop-t-init
-loop-t-init c =
-    (
+loop-t-init c = (
   omega arith,
   ap length c.no_counts-counts.ensures ∙ length-replicate {A = ℕ} 64 0,
   c.requires.1,
@@ -95,13 +94,12 @@ loop-t-preserved c =
     walk_long x.stored x.row (below) (so_far x).walked (descended x) in
     let gathered : (x : Begun c.args.table.now c.args.marks.now c.args.layers.now c.args.start.now c.args.props c.args.vars c.args.moves c.args.m c.args.wants) → Gathered x.stored (c.loop-t.t - 1) c.if-t-eq1.helpful =
     λ x. elim c.if-t-eq1.branch [
-      then-t-eq1 w ↦
-        let one = (c.loop-t.invariant.3 x).0.walked in
-        subst (Gathered x.stored (c.loop-t.t - 1)) (sym w.helpful-is)
-        (gather_one x.stored w.if-t-eq1.true c.loop-t.invariant.0 one (w.helpful_moves-helpful.ensures (walk_one x.stored w.if-t-eq1.true c.loop-t.invariant.0 one)))
+      | then-t-eq1 w ↦
+          let one = (c.loop-t.invariant.3 x).0.walked in
+          subst (Gathered x.stored (c.loop-t.t - 1)) (sym w.helpful-is)
+          (gather_one x.stored w.if-t-eq1.true c.loop-t.invariant.0 one (w.helpful_moves-helpful.ensures (walk_one x.stored w.if-t-eq1.true c.loop-t.invariant.0 one)))
       | else-t-eq1 w ↦ gather_later x.stored c.loop-t-test.true w.if-t-eq1.false
-    ] in
-    (
+    ] in (
       omega (arith, below),
       counts-long,
       omega (arith, c.keep_records.auto.kept, c.loop-t.invariant.2),

@@ -67,8 +67,7 @@ write_records-requires c =
     )
 
 pub loop-t-preserved : goal.loop-t-preserved
-loop-t-preserved c =
-    (
+loop-t-preserved c = (
   omega arith,
   λ x.
       let s = backwards_down c.loop-t-test.true (c.loop-t.invariant.1 x) in

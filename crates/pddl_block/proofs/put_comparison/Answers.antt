@@ -7,7 +7,7 @@ use borrow.Author.Rules.{rules}
 use Rattle.model.specs.Ascii.{ascii}
 use Rattle.model.specs.Seen.{comparison_of}
 use Rattle.model.specs.Pddl.{comparison_text}
-use Rattle.model.specs.Theorems.Reading.Ranges.{one_of_five}
+use Rattle.model.proofs.Theorems.Reading.Ranges.{one_of_five}
 use Rattle.output.specs.Writing.{written_same}
 use Rattle.pddl_block.proofs.put_comparison.Goals as goal
 

@@ -18,8 +18,7 @@ overflow_add-i c = omega (arith, c.loop-i-test.true, length_closes c.args.n, c.r
 
 pub loop-i-preserved : goal.loop-i-preserved
 unfolding ascii
-loop-i-preserved c =
-    (
+loop-i-preserved c = (
   omega arith,
   writing_step (writing_rest c.loop-i.invariant.1 (closes_next c.args.n c.loop-i.i c.loop-i-test.true)) c.put_byte-to.ensures,
 )

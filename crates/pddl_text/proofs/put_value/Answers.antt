@@ -56,11 +56,10 @@ put_byte-number-requires c = omega (arith, (room_next (ascii " ") c.put_name-spa
 pub put_number-close-requires : goal.put_number-close-requires
 unfolding ascii state_value value_offset value_row value_text state_of
 put_number-close-requires c =
-    let a = c.args in
-    (
+    let a = c.args in (
       rw (back c.i32_at-z.result c.i32_at-z.type_inv) (omega (arith, c.i32_at-z.ensures.1)),
       rw (back c.i32_at-z.result c.i32_at-z.type_inv ∙ c.i32_at-z.ensures.0)
-      (room_next (number_text (state_value a.props a.state.now a.v)) (written_join c.put_name-space.ensures c.put_byte-number.ensures) (numbered_room _ (state_value c.args.props c.args.state.now c.args.v) c.requires.2)),
+          (room_next (number_text (state_value a.props a.state.now a.v)) (written_join c.put_name-space.ensures c.put_byte-number.ensures) (numbered_room _ (state_value c.args.props c.args.state.now c.args.v) c.requires.2)),
     )
 
 pub put_byte-requires : goal.put_byte-requires

@@ -1,13 +1,10 @@
 -- Cases of a closure day, computed. Assumes nothing.
-use Rattle.std.specs.Prelude.{ℕ, zero, suc, ◌+◌, ◌≡◌, refl, List, [], ◌∷◌, ◌++◌}
-use Rattle.integer.specs.BigEndian.{unsigned, bytes}
-use Rattle.model.specs.Lists.{first_from, tabulate}
-use Rattle.model.specs.Memory.{overwrite}
-use Rattle.model.specs.Calls.{fitted, output_after}
+use Rattle.std.specs.Prelude.{ℕ, zero, suc, ◌≡◌, List, [], ◌∷◌, ◌++◌}
+use Rattle.integer.specs.BigEndian.{bytes}
 use Rattle.placement.specs.declared.PlaceAnswer.{PlaceAnswer}
 use Rattle.placement.specs.declared.PlaceAnswer.TheVariants as place
-use Rattle.placement.specs.Day.{paper_day, minute_at, window_at, duration_at, pieces, overlaps, wrong_window, wrong_duration, first_window, first_duration, windows_of, durations_of}
-use Rattle.placement.specs.Placing.{start_in, earliest, behind_entry, place_next, place_from, start_bytes, starts_of, end_minute, checked, day_placed, placing, answered, place_answer, place_out}
+use Rattle.placement.specs.Day.{paper_day}
+use Rattle.placement.specs.Placing.{place_answer, place_out}
 
 -- a small minute as 4 bytes, before the others
 abbrev minute : ℕ → List ℕ → List ℕ
@@ -61,28 +58,3 @@ pub record DayCases : Type 0 where
   -- 64 windows pass, and the 65th does not
   pub windows64 : answer (minutes 0 64) (minute 1 []) 4 ≡ place.Placed 1 4
   pub windows65 : answer (minutes 0 65) (minute 1 []) 4 ≡ refuse 18 64
-
-pub day_cases : DayCases
-unfolding paper_day unsigned bytes first_from tabulate overwrite fitted output_after minute_at window_at duration_at pieces overlaps wrong_window wrong_duration first_window first_duration windows_of durations_of start_in earliest behind_entry place_next place_from start_bytes starts_of end_minute checked day_placed placing answered place_answer place_out room minutes
-day_cases =
-    record {
-      shutting = refl;
-      starts = refl;
-      across = refl;
-      no_way_back = refl;
-      second = refl;
-      empty = refl;
-      checked_first = refl;
-      no_windows = refl;
-      windows_first = refl;
-      before_19 = refl;
-      before_13 = refl;
-      last = refl;
-      cut_window = refl;
-      cut_duration = refl;
-      longest = refl;
-      too_long = refl;
-      too_late = refl;
-      windows64 = refl;
-      windows65 = refl;
-    }

@@ -11,7 +11,7 @@ use Rattle.integer.specs.Linear.{back}
 use Rattle.model.specs.Limits.{paper}
 use Rattle.model.specs.Lists.{all_below}
 use Rattle.model.specs.StateTable.{value_in_range}
-use Rattle.model.specs.Theorems.Laws.Booleans.{clash}
+use Rattle.model.proofs.Theorems.Laws.Booleans.{clash}
 use Rattle.real_move.specs.Values.{all_in_range, all_next, all_fails, Copying, copying_start, copying_step}
 use Rattle.real_move.proofs.keep_values.Goals as goal
 
@@ -39,8 +39,7 @@ offset_bounds-values-v c = omega (arith, bounds-values-v c)
 
 pub loop-v-preserved : goal.loop-v-preserved
 unfolding all_in_range
-loop-v-preserved c =
-    (
+loop-v-preserved c = (
   rw (back _ c.x-1.given) (copying_step (pos 0) _ _ c.loop-v.invariant.0 c.loop-v-test.true (bounds-values-v c)),
   all_next (λ v. value_in_range paper (get_or c.args.next.now v (pos 0))) c.loop-v.v c.loop-v.invariant.1
       (sym (rw (back _ c.x-1.given) at c.in_range.ensures) ∙ c.if-not-in_range.false),

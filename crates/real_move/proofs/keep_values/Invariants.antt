@@ -11,7 +11,7 @@ use Rattle.integer.specs.Linear.{back}
 use Rattle.model.specs.Limits.{paper}
 use Rattle.model.specs.Lists.{all_below}
 use Rattle.model.specs.StateTable.{value_in_range}
-use Rattle.model.specs.Theorems.Laws.Booleans.{clash}
+use Rattle.model.proofs.Theorems.Laws.Booleans.{clash}
 use Rattle.real_move.specs.Values.{all_in_range, all_next, all_fails, Copying, copying_start, copying_step}
 use Rattle.real_move.proofs.keep_values.Given as goal
 

@@ -12,7 +12,7 @@ use mir.Val.{to_z, of_z}
 use Rattle.integer.specs.Linear.{back_small}
 use Rattle.model.specs.Lists.{all}
 use Rattle.model.specs.Move.{applicable}
-use Rattle.model.specs.Theorems.Laws.Booleans.{clash}
+use Rattle.model.proofs.Theorems.Laws.Booleans.{clash}
 use Rattle.block.specs.Items.{Next, next_ahead}
 use Rattle.block.specs.Blocks.{Walk, walk_start, walk_next, walk_stop, walk_done}
 use Rattle.block.specs.Streams.{Addable, item_by, sum_item, Over, Asked, Judged, Verdict}
@@ -45,13 +45,13 @@ fails-requires c =
     let p = c.requires in
     let total = c.sum_at-sum.result.total in
     let judged : Judged c.args.part.now c.loop-from.from c.sum_at-sum.result.terms total c.args.had.now =
-        record {
-          values = c.args.values.now;
-          addable = left_here c.loop-from.invariant.1 p.runnable c.loop-from-test.true;
-          sum = c.sum_at-sum.ensures;
-          over = p.runnable.over;
-          row = p.row;
-        } in
+    record {
+      values = c.args.values.now;
+      addable = left_here c.loop-from.invariant.1 p.runnable c.loop-from-test.true;
+      sum = c.sum_at-sum.ensures;
+      over = p.runnable.over;
+      row = p.row;
+    } in
     rw (back_small total (omega (arith, c.sum_at-sum.ensures.sum.small))) judged
 
 pub returns-then-fails : goal.returns-then-fails

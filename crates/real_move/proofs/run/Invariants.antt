@@ -9,7 +9,7 @@ use mir.Val.{to_z, of_z}
 use Rattle.integer.specs.Linear.{back_small}
 use Rattle.model.specs.Lists.{all}
 use Rattle.model.specs.Move.{applicable}
-use Rattle.model.specs.Theorems.Laws.Booleans.{clash}
+use Rattle.model.proofs.Theorems.Laws.Booleans.{clash}
 use Rattle.block.specs.Items.{Next, next_ahead}
 use Rattle.block.specs.Blocks.{Walk, walk_start, walk_next, walk_stop, walk_done}
 use Rattle.block.specs.Streams.{Addable, item_by, sum_item, Over, Asked, Judged, Verdict}

@@ -2,7 +2,7 @@
 use native.Mathlib.Omega.{arith}
 use mathlib.Core.Path.{refl}
 use borrow.Author.Rules.{rules}
-use Rattle.model.specs.Theorems.Sizes.Plans.{records_most}
+use Rattle.model.proofs.Theorems.Sizes.Plans.{records_most}
 use Rattle.stored_layer.specs.Stored.{stored_vars, stored_room, stored_entries, stored_start}
 use Rattle.relaxed_plan.specs.Answer.{extracted_short, extracted_written}
 use Rattle.passes.specs.Passes.{walk_goal, walk_begun}

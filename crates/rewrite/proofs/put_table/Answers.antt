@@ -3,7 +3,7 @@ use Prim.Native.Nat.{◌≤◌}
 use native.Mathlib.Omega.{arith}
 use borrow.Author.Rules.{rules}
 use Rattle.model.specs.Command.{code_of}
-use Rattle.model.specs.Theorems.Rewriting.Accepted.{kept_bytes}
+use Rattle.model.proofs.Theorems.Rewriting.Accepted.{kept_bytes}
 use Rattle.rewrite.specs.Stored.{stored_task, whole_written, few_moves, kept_most, short, part_short, table_size, block_in}
 use Rattle.rewrite.proofs.put_table.Goals as goal
 

@@ -4,8 +4,8 @@ use mathlib.Core.Path.{sym, ◌∙◌}
 use borrow.Author.Rules.{rules}
 use lib.ListN.{length}
 use Rattle.model.specs.Limits.{paper}
-use Rattle.model.specs.Theorems.Printing.Passing.{paper_small}
-use Rattle.model.specs.Theorems.Rewriting.Accepted.{rewrite_right}
+use Rattle.model.proofs.Theorems.Printing.Passing.{paper_small}
+use Rattle.model.proofs.Theorems.Rewriting.Accepted.{rewrite_right}
 use Rattle.table.specs.Names.{wanted_of}
 use Rattle.table.specs.Answer.{answer_refused}
 use Rattle.table.specs.Outlines.{stored_read}

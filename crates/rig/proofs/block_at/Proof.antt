@@ -2,7 +2,7 @@
 use native.Mathlib.Omega.{arith}
 use mathlib.Core.Path.{refl}
 use Rattle.model.specs.Limits.{paper}
-use Rattle.ceiling.specs.Theorems.Calls.{same_reading, turned_reading}
+use Rattle.ceiling.proofs.Theorems.Calls.{same_reading, turned_reading}
 use Rattle.table.specs.Names.{wanted_of}
 use Rattle.ceiling.specs.Heads.{ceiling_of}
 use Rattle.rig.specs.Admission.{admitted, turned}

@@ -2,11 +2,11 @@
 use mathlib.Core.Path.{sym}
 use lib.Seq.{length-take-le}
 use Rattle.model.specs.Limits.{paper}
-use Rattle.ceiling.specs.Theorems.Calls.{turned_planning}
+use Rattle.ceiling.proofs.Theorems.Calls.{turned_planning}
 use Rattle.model.specs.Theorems.Campaigns.Demand3.{decide_layers}
 use Rattle.table.specs.Names.{wanted_of}
 use Rattle.ceiling.specs.Heads.{ceiling_of}
-use Rattle.ceiling.specs.Numbers.{split}
+use Rattle.ceiling.proofs.Numbers.{split}
 use Rattle.rig.specs.Admission.{admitted, turned}
 use Rattle.rig.specs.Planning.{decide_answers, decide_leaves}
 use borrow.Author.Rules.{rules}

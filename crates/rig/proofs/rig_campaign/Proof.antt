@@ -2,7 +2,7 @@
 use mathlib.Core.Path.{sym}
 use lib.Seq.{length-take-le}
 use Rattle.table.specs.Names.{wanted_of}
-use Rattle.ceiling.specs.Numbers.{split}
+use Rattle.ceiling.proofs.Numbers.{split}
 use Rattle.rig.specs.Admission.{admitted, turned}
 use Rattle.rig.specs.Campaign.{done_admitted, done_turned}
 use borrow.Author.Rules.{rules}

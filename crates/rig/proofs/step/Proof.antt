@@ -1,7 +1,7 @@
 -- `step` meets its contract. Assumes nothing.
 use mathlib.Core.Path.{sym, ◌∙◌}
 use Rattle.model.specs.Limits.{paper}
-use Rattle.ceiling.specs.Theorems.Calls.{same_writing, turned_writing}
+use Rattle.ceiling.proofs.Theorems.Calls.{same_writing, turned_writing}
 use Rattle.table.specs.Names.{wanted_of}
 use Rattle.ceiling.specs.Heads.{ceiling_of}
 use Rattle.rig.specs.Admission.{admitted, turned}

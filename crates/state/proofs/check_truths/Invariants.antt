@@ -3,7 +3,8 @@
 use Prim.Native.Nat.{◌-◌}
 use native.Mathlib.Omega.{arith}
 use mathlib.Core.Option.{none}
-use Rattle.model.specs.Theorems.Laws.Searching.{Searched, searched_start, searched_next, searched_found, searched_all}
+use Rattle.model.specs.Theorems.Laws.Searching.{Searched}
+use Rattle.model.proofs.Theorems.Laws.Searching.{searched_start, searched_next, searched_found, searched_all}
 use Rattle.state.specs.Checking.{check_of, wrong_truth, truth_wrong, truth_right, truths_found, truths_none}
 use Rattle.state.proofs.check_truths.Given as goal
 

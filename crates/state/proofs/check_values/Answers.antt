@@ -7,7 +7,8 @@ use mathlib.Core.Bool.{not}
 use Rattle.integer.specs.Linear.{back}
 use Rattle.model.specs.Limits.{paper}
 use Rattle.model.specs.StateTable.{value_in_range}
-use Rattle.model.specs.Theorems.Laws.Searching.{Searched, searched_start, searched_next, searched_found, searched_all}
+use Rattle.model.specs.Theorems.Laws.Searching.{Searched}
+use Rattle.model.proofs.Theorems.Laws.Searching.{searched_start, searched_next, searched_found, searched_all}
 use Rattle.state.specs.Checking.{check_of, wrong_value, value_flag, values_found, values_none}
 use Rattle.state.specs.Loading.{value_read}
 use Rattle.state.proofs.check_values.Goals as goal

@@ -10,7 +10,8 @@ use Rattle.model.specs.Command.{command_of}
 use Rattle.model.specs.Reading.{length_limit}
 use Rattle.cursor.specs.declared.Check.TheVariants.{Passes}
 use Rattle.command.specs.Names.{command_is, wanted_of}
-use Rattle.cursor.specs.State.{passed, check_of, cursor_refusal}
+use Rattle.cursor.specs.State.{check_of, cursor_refusal}
+use Rattle.cursor.proofs.State.{passed}
 use Rattle.table.specs.Answer.{Reach, reach_begin, reach_next, reach_refused, reach_finish, outlined_long}
 use Rattle.table.proofs.outline.Goals as goal
 

@@ -30,13 +30,13 @@ find_adder-requires c = c.requires.scene.search
 
 pub loop-done-preserved-in_default : goal.loop-done-preserved-in_default
 loop-done-preserved-in_default c = (
-      omega arith,
-      λ x.
-          let d = c.loop-done.invariant.1 x in
-          let k = x.scene.search in
-          prop_take x c.loop-done-test.true d c.if-not-wanted-p.false c.if-has-p.false
-          (no_adder (takeable x.scene d.is) (subst (IsAdder k.task k.over _ _) c.in_default.is (c.find_adder.ensures k))),
-    )
+  omega arith,
+  λ x.
+      let d = c.loop-done.invariant.1 x in
+      let k = x.scene.search in
+      prop_take x c.loop-done-test.true d c.if-not-wanted-p.false c.if-has-p.false
+      (no_adder (takeable x.scene d.is) (subst (IsAdder k.task k.over _ _) c.in_default.is (c.find_adder.ensures k))),
+)
 
 pub recount-requires : goal.recount-requires
 recount-requires c =
@@ -62,8 +62,7 @@ want_block-wants-requires c =
 pub loop-done-preserved : goal.loop-done-preserved
 loop-done-preserved c =
     let found : (x : PropsTakeable c.args.table.now c.args.marks.now c.args.has.now c.args.used.now c.args.row.now c.args.lows.now c.args.moves c.args.props c.args.wanted.now c.args.wants) → AdderIs x.scene.search.task x.scene.search.over c.loop-done.done c.args.moves c.in-Move.b =
-    λ x. let k = x.scene.search in subst (IsAdder k.task k.over _ _) c.in-Move.is (c.find_adder.ensures k) in
-    (
+    λ x. let k = x.scene.search in subst (IsAdder k.task k.over _ _) c.in-Move.is (c.find_adder.ensures k) in (
       omega arith,
       λ x.
           let d = c.loop-done.invariant.1 x in

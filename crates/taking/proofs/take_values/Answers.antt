@@ -62,8 +62,7 @@ loop-done-preserved-in_default c =
     let missed : (x : ValuesTakeable c.args.table.now c.args.marks.now c.args.used.now c.args.row.now c.args.lows.now c.args.start.now c.args.moves c.args.vars c.args.wanted.now c.args.wants c.args.counts.now) → reaches (x.scene.search.over.val c.loop-done.done) (get_or c.args.wanted.now c.loop-done.done (pos 0)) ≡ false =
     λ x. reached x ∙ c.if-reaches.false in
     let so_far : ValuesTakeable c.args.table.now c.args.marks.now c.args.used.now c.args.row.now c.args.lows.now c.args.start.now c.args.moves c.args.vars c.args.wanted.now c.args.wants c.args.counts.now → Takeable c.args.table.now c.args.marks.now c.args.used.now c.args.row.now c.args.lows.now c.args.moves c.loop-done.wants c.loop-done.counts =
-    λ x. takeable x.scene (c.loop-done.invariant.1 x).is in
-    (
+    λ x. takeable x.scene (c.loop-done.invariant.1 x).is in (
       omega arith,
       λ x.
           let k = x.scene.search in
@@ -80,9 +79,9 @@ runs-requires c =
     λ x. takeable x.scene (c.loop-done.invariant.1 x).is in
     let found : (x : ValuesTakeable c.args.table.now c.args.marks.now c.args.used.now c.args.row.now c.args.lows.now c.args.start.now c.args.moves c.args.vars c.args.wanted.now c.args.wants c.args.counts.now) → AchieverIs c.args.table.now c.args.marks.now x.scene.search.task x.scene.search.over c.loop-done.done (get_or c.args.wanted.now c.loop-done.done (pos 0)) c.args.moves c.in-Effect.index c.in-Effect.kind c.in-Effect.base c.in-Effect.from c.in-Effect.terms c.in-Effect.value =
     λ x.
-        let k = x.scene.search in
-        rw (back (get_or c.args.wanted.now c.loop-done.done (pos 0)) c.target-1.given) at
-        (subst (IsAchiever _ _ k.task k.over _ _ _) c.in-Effect.is (c.find_achiever.ensures (record { search = k; values = x.scene.values }))) in
+    let k = x.scene.search in
+    rw (back (get_or c.args.wanted.now c.loop-done.done (pos 0)) c.target-1.given) at
+    (subst (IsAchiever _ _ k.task k.over _ _ _) c.in-Effect.is (c.find_achiever.ensures (record { search = k; values = x.scene.values }))) in
     let x = c.requires in
     let h = found x in
     let value = c.in-Effect.value in
@@ -95,18 +94,18 @@ recount-requires c =
     λ x. takeable x.scene (c.loop-done.invariant.1 x).is in
     let found : (x : ValuesTakeable c.args.table.now c.args.marks.now c.args.used.now c.args.row.now c.args.lows.now c.args.start.now c.args.moves c.args.vars c.args.wanted.now c.args.wants c.args.counts.now) → AchieverIs c.args.table.now c.args.marks.now x.scene.search.task x.scene.search.over c.loop-done.done (get_or c.args.wanted.now c.loop-done.done (pos 0)) c.args.moves c.in-Effect.index c.in-Effect.kind c.in-Effect.base c.in-Effect.from c.in-Effect.terms c.in-Effect.value =
     λ x.
-        let k = x.scene.search in
-        rw (back (get_or c.args.wanted.now c.loop-done.done (pos 0)) c.target-1.given) at
-        (subst (IsAchiever _ _ k.task k.over _ _ _) c.in-Effect.is (c.find_achiever.ensures (record { search = k; values = x.scene.values }))) in
+    let k = x.scene.search in
+    rw (back (get_or c.args.wanted.now c.loop-done.done (pos 0)) c.target-1.given) at
+    (subst (IsAchiever _ _ k.task k.over _ _ _) c.in-Effect.is (c.find_achiever.ensures (record { search = k; values = x.scene.values }))) in
     move_small (so_far c.requires) (found c.requires).lt
 
 pub part-part-requires : goal.part-part-requires
 part-part-requires c =
     let found : (x : ValuesTakeable c.args.table.now c.args.marks.now c.args.used.now c.args.row.now c.args.lows.now c.args.start.now c.args.moves c.args.vars c.args.wanted.now c.args.wants c.args.counts.now) → AchieverIs c.args.table.now c.args.marks.now x.scene.search.task x.scene.search.over c.loop-done.done (get_or c.args.wanted.now c.loop-done.done (pos 0)) c.args.moves c.in-Effect.index c.in-Effect.kind c.in-Effect.base c.in-Effect.from c.in-Effect.terms c.in-Effect.value =
     λ x.
-        let k = x.scene.search in
-        rw (back (get_or c.args.wanted.now c.loop-done.done (pos 0)) c.target-1.given) at
-        (subst (IsAchiever _ _ k.task k.over _ _ _) c.in-Effect.is (c.find_achiever.ensures (record { search = k; values = x.scene.values }))) in
+    let k = x.scene.search in
+    rw (back (get_or c.args.wanted.now c.loop-done.done (pos 0)) c.target-1.given) at
+    (subst (IsAchiever _ _ k.task k.over _ _ _) c.in-Effect.is (c.find_achiever.ensures (record { search = k; values = x.scene.values }))) in
     part_in c.requires.scene.search (found c.requires).lt
 
 pub sub-c-requires : goal.sub-c-requires
@@ -115,9 +114,9 @@ sub-c-requires c =
     let aimed : is_free (get_or c.args.wanted.now c.loop-done.done (pos 0)) ≡ false = sym freed ∙ c.if-is_free.false in
     let found : (x : ValuesTakeable c.args.table.now c.args.marks.now c.args.used.now c.args.row.now c.args.lows.now c.args.start.now c.args.moves c.args.vars c.args.wanted.now c.args.wants c.args.counts.now) → AchieverIs c.args.table.now c.args.marks.now x.scene.search.task x.scene.search.over c.loop-done.done (get_or c.args.wanted.now c.loop-done.done (pos 0)) c.args.moves c.in-Effect.index c.in-Effect.kind c.in-Effect.base c.in-Effect.from c.in-Effect.terms c.in-Effect.value =
     λ x.
-        let k = x.scene.search in
-        rw (back (get_or c.args.wanted.now c.loop-done.done (pos 0)) c.target-1.given) at
-        (subst (IsAchiever _ _ k.task k.over _ _ _) c.in-Effect.is (c.find_achiever.ensures (record { search = k; values = x.scene.values }))) in
+    let k = x.scene.search in
+    rw (back (get_or c.args.wanted.now c.loop-done.done (pos 0)) c.target-1.given) at
+    (subst (IsAchiever _ _ k.task k.over _ _ _) c.in-Effect.is (c.find_achiever.ensures (record { search = k; values = x.scene.values }))) in
     let told : c.demand.result ≡ demand_by c.in-Effect.kind (get_or c.args.wanted.now c.loop-done.done (pos 0)) = rw (back (get_or c.args.wanted.now c.loop-done.done (pos 0)) c.target-1.given) at c.demand.ensures in
     let base = c.in-Effect.base in
     let base_small = effect_base (found c.requires).effect in
@@ -130,9 +129,9 @@ want_block-wants-requires c =
     λ x. takeable x.scene (c.loop-done.invariant.1 x).is in
     let found : (x : ValuesTakeable c.args.table.now c.args.marks.now c.args.used.now c.args.row.now c.args.lows.now c.args.start.now c.args.moves c.args.vars c.args.wanted.now c.args.wants c.args.counts.now) → AchieverIs c.args.table.now c.args.marks.now x.scene.search.task x.scene.search.over c.loop-done.done (get_or c.args.wanted.now c.loop-done.done (pos 0)) c.args.moves c.in-Effect.index c.in-Effect.kind c.in-Effect.base c.in-Effect.from c.in-Effect.terms c.in-Effect.value =
     λ x.
-        let k = x.scene.search in
-        rw (back (get_or c.args.wanted.now c.loop-done.done (pos 0)) c.target-1.given) at
-        (subst (IsAchiever _ _ k.task k.over _ _ _) c.in-Effect.is (c.find_achiever.ensures (record { search = k; values = x.scene.values }))) in
+    let k = x.scene.search in
+    rw (back (get_or c.args.wanted.now c.loop-done.done (pos 0)) c.target-1.given) at
+    (subst (IsAchiever _ _ k.task k.over _ _ _) c.in-Effect.is (c.find_achiever.ensures (record { search = k; values = x.scene.values }))) in
     move_wantable (so_far c.requires) (found c.requires).lt c.part-part.ensures.0
 
 pub want_sum-wants-requires : goal.want_sum-wants-requires
@@ -143,9 +142,9 @@ want_sum-wants-requires c =
     λ x. takeable x.scene (c.loop-done.invariant.1 x).is in
     let found : (x : ValuesTakeable c.args.table.now c.args.marks.now c.args.used.now c.args.row.now c.args.lows.now c.args.start.now c.args.moves c.args.vars c.args.wanted.now c.args.wants c.args.counts.now) → AchieverIs c.args.table.now c.args.marks.now x.scene.search.task x.scene.search.over c.loop-done.done (get_or c.args.wanted.now c.loop-done.done (pos 0)) c.args.moves c.in-Effect.index c.in-Effect.kind c.in-Effect.base c.in-Effect.from c.in-Effect.terms c.in-Effect.value =
     λ x.
-        let k = x.scene.search in
-        rw (back (get_or c.args.wanted.now c.loop-done.done (pos 0)) c.target-1.given) at
-        (subst (IsAchiever _ _ k.task k.over _ _ _) c.in-Effect.is (c.find_achiever.ensures (record { search = k; values = x.scene.values }))) in
+    let k = x.scene.search in
+    rw (back (get_or c.args.wanted.now c.loop-done.done (pos 0)) c.target-1.given) at
+    (subst (IsAchiever _ _ k.task k.over _ _ _) c.in-Effect.is (c.find_achiever.ensures (record { search = k; values = x.scene.values }))) in
     let told : c.demand.result ≡ demand_by c.in-Effect.kind (get_or c.args.wanted.now c.loop-done.done (pos 0)) = rw (back (get_or c.args.wanted.now c.loop-done.done (pos 0)) c.target-1.given) at c.demand.ensures in
     let base = c.in-Effect.base in
     let base_small = effect_base (found c.requires).effect in
@@ -169,9 +168,9 @@ loop-done-preserved c =
     λ x. takeable x.scene (c.loop-done.invariant.1 x).is in
     let found : (x : ValuesTakeable c.args.table.now c.args.marks.now c.args.used.now c.args.row.now c.args.lows.now c.args.start.now c.args.moves c.args.vars c.args.wanted.now c.args.wants c.args.counts.now) → AchieverIs c.args.table.now c.args.marks.now x.scene.search.task x.scene.search.over c.loop-done.done (get_or c.args.wanted.now c.loop-done.done (pos 0)) c.args.moves c.in-Effect.index c.in-Effect.kind c.in-Effect.base c.in-Effect.from c.in-Effect.terms c.in-Effect.value =
     λ x.
-        let k = x.scene.search in
-        rw (back (get_or c.args.wanted.now c.loop-done.done (pos 0)) c.target-1.given) at
-        (subst (IsAchiever _ _ k.task k.over _ _ _) c.in-Effect.is (c.find_achiever.ensures (record { search = k; values = x.scene.values }))) in
+    let k = x.scene.search in
+    rw (back (get_or c.args.wanted.now c.loop-done.done (pos 0)) c.target-1.given) at
+    (subst (IsAchiever _ _ k.task k.over _ _ _) c.in-Effect.is (c.find_achiever.ensures (record { search = k; values = x.scene.values }))) in
     let told : c.demand.result ≡ demand_by c.in-Effect.kind (get_or c.args.wanted.now c.loop-done.done (pos 0)) = rw (back (get_or c.args.wanted.now c.loop-done.done (pos 0)) c.target-1.given) at c.demand.ensures in
     let base = c.in-Effect.base in
     let base_small = effect_base (found c.requires).effect in

@@ -41,8 +41,7 @@ raise_target-requires c =
 
 pub loop-i-preserved-then-is_unbounded : goal.loop-i-preserved-then-is_unbounded
 loop-i-preserved-then-is_unbounded c =
-    let mark : c.is_unbounded.result ≡ is_mark (get_or c.args.row.now c.variable-v.result (pos 0)) = c.is_unbounded.ensures ∙ ap is_mark (back _ c.x-1.given) in
-    (
+    let mark : c.is_unbounded.result ≡ is_mark (get_or c.args.row.now c.variable-v.result (pos 0)) = c.is_unbounded.ensures ∙ ap is_mark (back _ c.x-1.given) in (
       omega arith,
       omega arith,
       λ ps x. finitely_skip x (c.loop-i.invariant.2 ps x) c.loop-i-test.true c.variable-v.ensures (sym (mark) ∙ c.if-is_unbounded.true),
@@ -50,8 +49,7 @@ loop-i-preserved-then-is_unbounded c =
 
 pub loop-i-preserved : goal.loop-i-preserved
 loop-i-preserved c =
-    let mark : c.is_unbounded.result ≡ is_mark (get_or c.args.row.now c.variable-v.result (pos 0)) = c.is_unbounded.ensures ∙ ap is_mark (back _ c.x-1.given) in
-    (
+    let mark : c.is_unbounded.result ≡ is_mark (get_or c.args.row.now c.variable-v.result (pos 0)) = c.is_unbounded.ensures ∙ ap is_mark (back _ c.x-1.given) in (
       omega arith,
       omega arith,
       λ ps x.

@@ -1,7 +1,7 @@
 -- `load` meets its contract. Assumes nothing.
 use native.Mathlib.Omega.{arith}
 use Rattle.model.specs.Limits.{paper}
-use Rattle.model.specs.Theorems.Reading.States.{accepted_state}
+use Rattle.model.proofs.Theorems.Reading.States.{accepted_state}
 use Rattle.transition.specs.Steps.{loaded_holds}
 use Rattle.transition.proofs.load.Goals as goal
 

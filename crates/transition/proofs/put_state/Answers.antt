@@ -5,7 +5,7 @@ use mathlib.Core.Path.{◌≡◌, sym}
 use borrow.Author.Rules.{rules}
 use lib.ListN.{length}
 use Rattle.model.specs.StateTable.{state_bytes}
-use Rattle.model.specs.Theorems.Reading.States.{length_state_bytes}
+use Rattle.model.proofs.Theorems.Reading.States.{length_state_bytes}
 use Rattle.state.specs.Storing.{state_in}
 use Rattle.output.specs.Answers.{answered_short, answered_whole}
 use Rattle.real_move.specs.Moving.{holds_small}

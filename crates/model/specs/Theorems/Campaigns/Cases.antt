@@ -1,12 +1,11 @@
 -- Small cases for errors that documents 01 and 02 exclude and that no trial campaign shows, from bytes, computed.
 -- Assumes nothing.
-use Rattle.std.specs.Prelude.{◌≡◌, refl, List, [], ◌∷◌, ◌++◌, ℕ, zero, suc, pos, replicate}
+use Rattle.std.specs.Prelude.{◌≡◌, List, [], ◌∷◌, ◌++◌, ℕ, zero, suc, pos, replicate}
 use Rattle.model.specs.Limits.{paper}
 use Rattle.model.specs.Calls.{read_answer, normalise_out, step_out, decide_answer}
 use Rattle.model.specs.declared.ReadAnswer.TheVariants as read
 use Rattle.model.specs.declared.DecideAnswer.TheVariants as decide
 use Rattle.model.specs.Theorems.Campaigns.Tables.{zeros, doubling}
-use Rattle.model.specs.Theorems.Campaigns.Computing.{computing}
 
 -- v1 += 1; v0 += v1; goal v0 ≥ 1
 unfoldable pub relay : List ℕ
@@ -78,22 +77,3 @@ pub record Cases : Type 0 where
   -- "normal tables still begin at weight 1"
   pub weight_0_not_normal :
       read_answer paper (0x4E ∷ 2 ∷ 2 ∷ 1 ∷ 0x41 ∷ 0x57 ∷ 1 ∷ 0 ∷ 0 ∷ []) ≡ read.Refused (record { number = 4; place = 7 })
-
-pub cases : Cases
-unfolding computing relay swap exchange doubling grid grid_normal blanks
-cases =
-    record {
-      increase_in_layer = refl;
-      effects_read_before = refl;
-      deletes_do_not_count = refl;
-      equal_layer_needs_none = refl;
-      weight_0_no_edge = refl;
-      weight_0_dropped = refl;
-      weight_0_passed_over = refl;
-      weight_0_alone = refl;
-      weight_0_rises = refl;
-      rises_above_weight_0 = refl;
-      weight_0_counts = refl;
-      eight_of_weight_0 = refl;
-      weight_0_not_normal = refl;
-    }

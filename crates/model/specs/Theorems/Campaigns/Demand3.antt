@@ -1,28 +1,24 @@
 -- Demand 3, as one theorem from the bytes of a written table and of a state to the answers of normalise, decide and plan.
 -- Assumes nothing.
-use Rattle.std.specs.Prelude.{ℕ, ◌*◌, ◌/◌, ◌≤◌, ◌≡◌, ◌↔◌, false, List, map, ℤ, length}
-use Rattle.std.proofs.Math.Path.{refl, ap}
-use Rattle.std.proofs.Common.{◌∙◌, arith}
+use Rattle.std.specs.Prelude.{ℕ, ◌*◌, ◌≤◌, ◌≡◌, ◌↔◌, false, List, map, ℤ, length}
 use Rattle.std.proofs.Math.Option.{Option, none, some}
 use Rattle.model.specs.Limits.{paper}
-use Rattle.model.specs.Task.{written, normal, Task}
+use Rattle.model.specs.Task.{written, Task}
 use Rattle.model.specs.Move.{State, Solves, real, relaxed}
 use Rattle.model.specs.NormalForm.{normal_task, normal_state}
 use Rattle.model.specs.Layer.{Reached, Exhausted, Outcome, reported, outcome}
 use Rattle.model.specs.Reading.{Table, accepted, only, reading}
 use Rattle.model.specs.StateTable.{state_of, state_refusal}
-use Rattle.model.specs.Memory.{Built, room, wrong15, answered, build, overwrite}
+use Rattle.model.specs.Memory.{room, wrong15, answered, overwrite}
 use Rattle.model.specs.Plan.{Record, records, helpful_moves, move_and_count, plan_list}
 use Rattle.integer.specs.BigEndian.{AllBytes}
-use Rattle.model.specs.Calls.{Ready, Output, writes, fitted, output_after, ready, ready_with, ready_of, prepared, normal_bytes, decide_answer, plan_answer, plan_out, plan_records, record_bytes, records_read, decided, decide_of, planned, plan_of, plan_fitted, plan_out_of}
+use Rattle.model.specs.Calls.{normal_bytes, plan_records, record_bytes, records_read}
 use Rattle.model.specs.declared.WriteAnswer.{WriteAnswer}
 use Rattle.model.specs.declared.WriteAnswer.TheVariants as write
 use Rattle.model.specs.declared.DecideAnswer.{DecideAnswer}
 use Rattle.model.specs.declared.DecideAnswer.TheVariants as decide
 use Rattle.model.specs.declared.PlanAnswer.{PlanAnswer}
 use Rattle.model.specs.declared.PlanAnswer.TheVariants as plan
-use Rattle.model.specs.Theorems.Plans.Records.{length_record_bytes}
-use Rattle.model.specs.Theorems.Printing.Outputs.{fitted_whole, plan_whole}
 
 -- "The relaxed task is the normal table run with relaxed moves from layer 0."
 abbrev pub relaxed_task : Table → Task
@@ -122,44 +118,3 @@ pub record Answers
   pub not_found : DecideNoPlan d → NotFound w bs d p before after
   -- otherwise the answer layer and the records, whose list solves the relaxed task
   pub found : (DecideNoPlan d → ⊥) → Found w bs d p before after
-
--- ---- the steps from the bytes to the answers
-
--- "one 4-byte value a written variable (V, or N/2)"
-half_double : (n : ℕ) → 2 * n / 2 ≡ n
-half_double n = omega arith
-
-pub ready_normal :
-    (w n : Table) (bs : List ℕ) → reading paper (only normal) (normal_bytes w.task) ≡ accepted n
-    → n.task ≡ relaxed_task w
-    → state_refusal paper w.task.props w.task.vars bs ≡ none
-    → prepared paper (normal_bytes w.task) bs ≡ ready (relaxed_task w) (layer_zero w bs)
-unfolding prepared ready_of ready_with normal_task
-ready_normal w n bs e same state = rw (e, ready_of, same, half_double w.task.vars, state) refl
-
--- decide's and plan's answers where the layers are built to the end
-module _ (w n : Table) (bs : List ℕ) (layers : List ℤ) (out : List ℕ) (ready_is : prepared paper (normal_bytes w.task) bs ≡ ready (relaxed_task w) (layer_zero w bs)) (built : build paper (relaxed_task w) (layer_zero w bs) (length layers) ≡ answered (end_of w bs)) where
-  pub decide_answers : decide_answer paper (normal_bytes w.task) bs layers ≡ decided (answered (end_of w bs))
-  unfolding decide_answer decide_of
-  decide_answers = rw (ready_is, built) refl
-
-  abbrev planned_records : List Record
-  planned_records = plan_records (relaxed_task w) (layer_zero w bs) (answered (end_of w bs))
-
-  module _ (fits : 10 * length planned_records ≤ length out) where
-    records_fit : length (record_bytes planned_records) ≤ length out
-    records_fit = omega (arith, length_record_bytes planned_records)
-
-    pub plan_answers : plan_answer paper (normal_bytes w.task) bs layers out ≡ planned (relaxed_task w) (layer_zero w bs) (answered (end_of w bs))
-    unfolding plan_answer plan_of
-    plan_answers =
-        ap (λ (r : Ready). plan_of paper (length layers) (length out) r) ready_is
-        ∙ ap (λ (b : Built). plan_fitted (length out) (relaxed_task w) (layer_zero w bs) b) built
-        ∙ plan_whole (length out) (relaxed_task w) (layer_zero w bs) (answered (end_of w bs)) records_fit
-
-    pub plan_writes : plan_out paper (normal_bytes w.task) bs layers out ≡ overwrite (record_bytes planned_records) out
-    unfolding plan_out plan_out_of output_after
-    plan_writes =
-        ap (λ (r : Ready). plan_out_of paper (length layers) r out) ready_is
-        ∙ ap (λ (b : Built). output_after (fitted (length out) (writes (record_bytes (plan_records (relaxed_task w) (layer_zero w bs) b)))) out) built
-        ∙ ap (λ (o : Output). output_after o out) (fitted_whole (length out) (record_bytes planned_records) records_fit)

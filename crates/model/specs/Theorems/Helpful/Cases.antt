@@ -1,10 +1,9 @@
 -- The set of helpful moves from bytes, computed: a case for each part of the sentence (document 02, request 6). Assumes nothing.
-use Rattle.std.specs.Prelude.{◌≡◌, refl, List, [], ◌∷◌, ◌++◌, ℕ, ◌*◌, pos, replicate}
+use Rattle.std.specs.Prelude.{◌≡◌, List, [], ◌∷◌, ◌++◌, ℕ, ◌*◌, pos, replicate}
 use Rattle.model.specs.declared.PlanAnswer.TheVariants as plan
 use Rattle.model.specs.Limits.{paper}
 use Rattle.model.specs.Calls.{normalise_out, plan_answer}
 use Rattle.model.specs.Theorems.Campaigns.Tables.{zeros}
-use Rattle.model.specs.Theorems.Campaigns.Computing.{computing}
 
 -- with room for n numbers and r records plan gives answer layer m, r records and the set x
 abbrev plans : List ℕ → List ℕ → ℕ → ℕ → ℕ → ℕ → Type 0
@@ -70,18 +69,3 @@ pub record Cases : Type 0 where
   -- "With answer layer 0 or "no plan" it is empty."
   pub layer_0 : plans stuck (1 ∷ []) 2 0 0 0
   pub no_plan : plan_answer paper stuck (0 ∷ []) (replicate 2 (pos 7)) [] ≡ plan.NoPlan 0 0 0
-
-pub cases : Cases
-unfolding computing
-cases =
-    record {
-      not_taken = refl;
-      not_usable = refl;
-      above_zero = refl;
-      in_layer_0 = refl;
-      carried_prop = refl;
-      carried_target = refl;
-      wants_of_layer_1 = refl;
-      layer_0 = refl;
-      no_plan = refl;
-    }

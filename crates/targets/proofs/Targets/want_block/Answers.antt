@@ -55,12 +55,12 @@ returns-in-End c x = block_end x (c.loop-prop.invariant.1 x) (next_is c.next-ite
 pub loop-prop-smaller : goal.loop-prop-smaller
 loop-prop-smaller c =
     let inside : c.loop-prop.at < length c.args.part.now = elim c.match-item.branch [
-      in-Need w ↦ omega (arith, (next_is c.next-item.ensures w.in-Need.is).moves)
+      | in-Need w ↦ omega (arith, (next_is c.next-item.ensures w.in-Need.is).moves)
       | in-Condition w ↦ omega (arith, (next_is c.next-item.ensures w.in-Condition.is).moves)
       | in_default w ↦ before_end c.next-item.result w.in_default.not-End c.next-item.ensures.moves
     ] in
     let same : c.next-item.result ≡ c.match-item.item = elim c.match-item.branch [
-      in-Need w ↦ w.in-Need.is ∙ sym w.item-is
+      | in-Need w ↦ w.in-Need.is ∙ sym w.item-is
       | in-Condition w ↦ w.in-Condition.is ∙ sym w.item-is
       | in_default w ↦ sym w.item-is
     ] in
@@ -70,27 +70,26 @@ pub loop-prop-preserved : goal.loop-prop-preserved
 unfolding behind
 loop-prop-preserved c =
     let inside : c.loop-prop.at < length c.args.part.now = elim c.match-item.branch [
-      in-Need w ↦ omega (arith, (next_is c.next-item.ensures w.in-Need.is).moves)
+      | in-Need w ↦ omega (arith, (next_is c.next-item.ensures w.in-Need.is).moves)
       | in-Condition w ↦ omega (arith, (next_is c.next-item.ensures w.in-Condition.is).moves)
       | in_default w ↦ before_end c.next-item.result w.in_default.not-End c.next-item.ensures.moves
     ] in
     let same : c.next-item.result ≡ c.match-item.item = elim c.match-item.branch [
-      in-Need w ↦ w.in-Need.is ∙ sym w.item-is
+      | in-Need w ↦ w.in-Need.is ∙ sym w.item-is
       | in-Condition w ↦ w.in-Condition.is ∙ sym w.item-is
       | in_default w ↦ sym w.item-is
     ] in
     let passed : (x : BlockWantable c.args.part.now c.args.row.now c.args.lows.now c.args.self) → BlockDone x (behind c.match-item.item) c.match-item.self =
     λ x. let d = c.loop-prop.invariant.1 x in
     elim c.match-item.branch [
-      in-Need w ↦ rw (w.self-is, w.item-is) (block_need x d ((next_is c.next-item.ensures w.in-Need.is).found x.ranges d.reading.rest d.reading.left) w.want_prop-self.ensures)
+      | in-Need w ↦ rw (w.self-is, w.item-is) (block_need x d ((next_is c.next-item.ensures w.in-Need.is).found x.ranges d.reading.rest d.reading.left) w.want_prop-self.ensures)
       | in-Condition w ↦
-        let f = (next_is c.next-item.ensures w.in-Condition.is).found x.ranges d.reading.rest d.reading.left in
-        let z = w.in-Condition.bound in
-        rw (w.self-is, w.item-is)
-        (block_condition x d f (rw (back_small z (omega (arith, condition_size x d f))) at (w.want_sum-self.ensures (condition_wantable x d f))))
+          let f = (next_is c.next-item.ensures w.in-Condition.is).found x.ranges d.reading.rest d.reading.left in
+          let z = w.in-Condition.bound in
+          rw (w.self-is, w.item-is)
+          (block_condition x d f (rw (back_small z (omega (arith, condition_size x d f))) at (w.want_sum-self.ensures (condition_wantable x d f))))
       | in_default w ↦ rw (w.self-is, w.item-is) (block_other x d inside c.next-item.ensures (no_condition c.next-item.result w.in_default.not-Need w.in_default.not-Condition w.in_default.not-End))
-    ] in
-    (
+    ] in (
       omega (arith, next_ahead inside (next_is c.next-item.ensures same), c.behind-at.ensures),
       λ x. rw c.behind-at.ensures (passed x),
     )
