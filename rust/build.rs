@@ -17,7 +17,7 @@ fn main() {
             "the engine's static library is missing: {}",
             library.display()
         );
-        eprintln!("build it with 'rt staticlib engine', or set {FOLDER} to its folder");
+        eprintln!("build it with './build engine', or set {FOLDER} to its folder");
         exit(1);
     }
     println!("cargo:rustc-link-search=native={}", folder.display());

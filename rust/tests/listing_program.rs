@@ -10,7 +10,7 @@ use std::path::Path;
 /// What the program prints in a folder.
 fn listing(folder: &Path) -> String {
     let program = repository().join("target/bin/listing");
-    assert!(program.exists(), "`rt check listing` builds the program");
+    assert!(program.exists(), "`./build listing` builds the program");
     let printed = run(&program, folder, &[]);
     assert_eq!((printed.status, &*printed.error), (0, ""));
     printed.out

@@ -11,16 +11,22 @@ const NOTED: &str = "noted";
 /// A repository with the script, its program, and tools that say what they are asked for.
 fn copy() -> Folder {
     let copy = Folder::new();
-    for folder in ["tools", "rust/target/release", "target", "a library"] {
+    for folder in [
+        "tools",
+        "rust/target/release",
+        "crates/engine",
+        "target",
+        "a library",
+    ] {
         fs::create_dir_all(copy.0.join(folder)).expect("a folder");
     }
-    let script = fs::read_to_string(repository().join("lapyndo")).expect("the script");
-    put_program(&copy.0.join("lapyndo"), &script);
+    for name in ["lapyndo", "build"] {
+        let script = fs::read_to_string(repository().join(name)).expect("the script");
+        put_program(&copy.0.join(name), &script);
+    }
     let noted = copy.0.join(NOTED);
     let noted = noted.display();
-    let rt = format!(
-        "echo \"rt $*\" >>'{noted}'; mkdir -p target/staticlib; >target/staticlib/libengine.a"
-    );
+    let rt = format!("echo \"rt $*\" >>'{noted}'; mkdir -p out; >out/libengine.a");
     let cargo = format!("echo \"cargo $1 ${{LAPYNDO_LIB_DIR-none}}\" >>'{noted}'");
     let program = "echo \"lapyndo $*\"".into();
     for (name, line) in [
@@ -106,7 +112,7 @@ fn a_named_folder_without_the_library_is_wrong_use() {
 
 #[test]
 fn a_library_is_built_where_none_is_named() {
-    let built = "rt staticlib engine\ncargo build none\n";
+    let built = "rt lib\ncargo build none\n";
     for library in [None, Some("")] {
         let copy = copy();
         let (printed, noted) = script(&copy, library);

@@ -1,0 +1,33 @@
+-- `decide` meets its contract. Assumes nothing.
+use mathlib.Core.Path.{sym}
+use lib.Seq.{length-take-le}
+use Rattle.model.specs.Limits.{paper}
+use Rattle.ceiling.proofs.Theorems.Calls.{turned_planning}
+use Rattle.model.specs.Theorems.Campaigns.Demand3.{decide_layers}
+use Rattle.table.specs.Names.{wanted_of}
+use Rattle.ceiling.specs.Heads.{ceiling_of}
+use Rattle.ceiling.proofs.Numbers.{split}
+use Rattle.rig.specs.Admission.{admitted, turned}
+use Rattle.rig.specs.Planning.{decide_answers, decide_leaves}
+use borrow.Author.Rules.{rules}
+use Rattle.rig.proofs.decide.Goals as goal
+
+pub slice_bounds-decide-end : goal.slice_bounds-decide-end
+slice_bounds-decide-end c = let a = c.args in (split a.c a.layers.now c.used-n.ensures).inside
+
+pub slice_bounds-decide-end-in-Admitted : goal.slice_bounds-decide-end-in-Admitted
+slice_bounds-decide-end-in-Admitted c = let a = c.args in sym (length-take-le _ _ (split a.c a.layers.now c.used-n.ensures).inside)
+
+pub returns-in-Admitted : goal.returns-in-Admitted
+unfolding wanted_of
+returns-in-Admitted c =
+    let a = c.args in
+    let s = split a.c a.layers.now c.used-n.ensures in
+    let h = admitted _ _ _ c.admit.ensures c.in-Admitted.is in
+    (decide_answers a.c _ _ _ s h c.decide.ensures.0, decide_leaves a.c _ _ _ s h c.decide.ensures.1, c.decide.ensures.2)
+
+pub returns-in-Refused : goal.returns-in-Refused
+unfolding wanted_of decide_layers
+returns-in-Refused c =
+    let back = turned_planning (ceiling_of c.args.c) paper _ _ (turned _ _ _ c.admit.ensures c.in-Refused.is) _ _ in
+    (sym back.decides, sym back.leaves, tt)
