@@ -1,7 +1,7 @@
 -- `lapyndo_blocking` meets its contract. Assumes nothing.
 use mathlib.Core.Path.{ap, ◌∙◌}
 use Rattle.model.specs.Exports.{blocking_code}
-use Rattle.model.specs.Theorems.Sizes.Answers.{blocking_small}
+use Rattle.model.proofs.Theorems.Sizes.Answers.{blocking_small}
 use borrow.Author.Rules.{rules}
 use Rattle.engine.proofs.lapyndo_blocking.Goals as goal
 

@@ -2,8 +2,8 @@
 use mathlib.Core.Path.{ap, ◌∙◌}
 use Rattle.model.specs.declared.PlanAnswer.{PlanAnswer}
 use Rattle.model.specs.Exports.{decide_code, plan_code, plan_record_count, plan_first_moves}
-use Rattle.model.specs.Theorems.Campaigns.OneCall.{campaign_promise}
-use Rattle.model.specs.Theorems.Sizes.Answers.{campaign_decision_small, campaign_plan_small}
+use Rattle.model.proofs.Theorems.Campaigns.OneCall.{campaign_promise}
+use Rattle.model.proofs.Theorems.Sizes.Answers.{campaign_decision_small, campaign_plan_small}
 use borrow.Author.Rules.{rules}
 use Rattle.engine.proofs.lapyndo_campaign.Goals as goal
 
@@ -14,8 +14,7 @@ pub plan_code-requires : goal.plan_code-requires
 plan_code-requires c = rw c.campaign-answers.ensures.plan (campaign_plan_small _ _ _ _ _)
 
 pub returns : goal.returns
-returns c =
-    (
+returns c = (
   c.plan_code.ensures.0 ∙ ap plan_code c.campaign-answers.ensures.plan,
   c.decide_code.ensures ∙ ap decide_code c.campaign-answers.ensures.decision,
   c.plan_code.ensures.1 ∙ ap (λ (a : PlanAnswer). plan_record_count a c.args.records.now) c.campaign-answers.ensures.plan,

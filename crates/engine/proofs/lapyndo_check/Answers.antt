@@ -3,7 +3,7 @@ use mathlib.Core.Path.{ap, ◌∙◌}
 use borrow.Author.Rules.{rules}
 use Rattle.schedule.specs.declared.CheckAnswer.{CheckAnswer}
 use Rattle.schedule.specs.Exports.{check_code, check_index}
-use Rattle.schedule.specs.Theorems.Codes.{check_small}
+use Rattle.schedule.proofs.Theorems.Codes.{check_small}
 use Rattle.engine.proofs.lapyndo_check.Goals as goal
 
 pub check_code-requires : goal.check_code-requires

@@ -1,7 +1,7 @@
 -- `lapyndo_decide` meets its contract. Assumes nothing.
 use mathlib.Core.Path.{ap, ◌∙◌}
 use Rattle.model.specs.Exports.{decide_code}
-use Rattle.model.specs.Theorems.Sizes.Answers.{decide_small}
+use Rattle.model.proofs.Theorems.Sizes.Answers.{decide_small}
 use borrow.Author.Rules.{rules}
 use Rattle.engine.proofs.lapyndo_decide.Goals as goal
 

@@ -4,7 +4,7 @@ use mathlib.Core.Path.{ap, ◌∙◌}
 use Rattle.model.specs.Limits.{paper}
 use Rattle.model.specs.Calls.{normalise_answer}
 use Rattle.model.specs.Exports.{write_code}
-use Rattle.model.specs.Theorems.Sizes.Answers.{write_wider, normalise_small}
+use Rattle.model.proofs.Theorems.Sizes.Answers.{write_wider, normalise_small}
 use borrow.Author.Rules.{rules}
 use Rattle.engine.proofs.lapyndo_normalise.Goals as goal
 

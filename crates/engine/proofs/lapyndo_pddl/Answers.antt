@@ -6,8 +6,9 @@ use native.Mathlib.Omega.{arith}
 use Rattle.model.specs.Exports.{write_code}
 use Rattle.model.specs.Limits.{paper}
 use Rattle.model.specs.Pddl.{pddl_answer}
-use Rattle.model.specs.Theorems.Sizes.Answers.{result_limit, WriteSmall, write_wider}
-use Rattle.model.specs.Theorems.Pddl.Sizes.{pddl_small}
+use Rattle.model.specs.Theorems.Sizes.Answers.{result_limit, WriteSmall}
+use Rattle.model.proofs.Theorems.Sizes.Answers.{write_wider}
+use Rattle.model.proofs.Theorems.Pddl.Sizes.{pddl_small}
 use borrow.Author.Rules.{rules}
 use Rattle.engine.proofs.lapyndo_pddl.Goals as goal
 

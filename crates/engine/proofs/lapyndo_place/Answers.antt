@@ -3,7 +3,7 @@ use mathlib.Core.Path.{ap, ◌∙◌}
 use borrow.Author.Rules.{rules}
 use Rattle.placement.specs.declared.PlaceAnswer.{PlaceAnswer}
 use Rattle.placement.specs.Exports.{place_code, place_length, place_place}
-use Rattle.placement.specs.Theorems.Codes.{place_small}
+use Rattle.placement.proofs.Theorems.Codes.{place_small}
 use Rattle.engine.proofs.lapyndo_place.Goals as goal
 
 pub place_code-requires : goal.place_code-requires

@@ -2,7 +2,7 @@
 use mathlib.Core.Path.{ap, ◌∙◌}
 use Rattle.model.specs.declared.PlanAnswer.{PlanAnswer}
 use Rattle.model.specs.Exports.{plan_code, plan_record_count, plan_first_moves}
-use Rattle.model.specs.Theorems.Sizes.Answers.{plan_small}
+use Rattle.model.proofs.Theorems.Sizes.Answers.{plan_small}
 use borrow.Author.Rules.{rules}
 use Rattle.engine.proofs.lapyndo_plan.Goals as goal
 
@@ -10,8 +10,7 @@ pub plan_code-requires : goal.plan_code-requires
 plan_code-requires c = rw c.plan.ensures.0 (plan_small _ _ _ _)
 
 pub returns : goal.returns
-returns c =
-    (
+returns c = (
   c.plan_code.ensures.0 ∙ ap plan_code c.plan.ensures.0,
   c.plan.ensures.1,
   c.plan.ensures.2,

@@ -1,7 +1,7 @@
 -- `lapyndo_read` meets its contract. Assumes nothing.
 use mathlib.Core.Path.{ap, ◌∙◌}
 use Rattle.model.specs.Exports.{read_code}
-use Rattle.model.specs.Theorems.Sizes.Answers.{read_small}
+use Rattle.model.proofs.Theorems.Sizes.Answers.{read_small}
 use borrow.Author.Rules.{rules}
 use Rattle.engine.proofs.lapyndo_read.Goals as goal
 

@@ -4,8 +4,8 @@ use mathlib.Core.Path.{ap, ◌∙◌}
 use Rattle.model.specs.Limits.{paper}
 use Rattle.model.specs.Rewrite.{rewrite_answer}
 use Rattle.model.specs.Exports.{write_code}
-use Rattle.model.specs.Theorems.Sizes.Answers.{write_wider}
-use Rattle.model.specs.Theorems.Rewriting.Sizes.{rewrite_small}
+use Rattle.model.proofs.Theorems.Sizes.Answers.{write_wider}
+use Rattle.model.proofs.Theorems.Rewriting.Sizes.{rewrite_small}
 use borrow.Author.Rules.{rules}
 use Rattle.engine.proofs.lapyndo_rewrite.Goals as goal
 

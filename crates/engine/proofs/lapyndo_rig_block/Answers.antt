@@ -1,6 +1,6 @@
 -- `lapyndo_rig_block` meets its contract. Assumes nothing.
 use mathlib.Core.Path.{◌∙◌}
-use Rattle.ceiling.specs.Theorems.Sizes.{block_refused_under}
+use Rattle.ceiling.proofs.Theorems.Sizes.{block_refused_under}
 use Rattle.codes.specs.Parts.{block_fits, block_answer_lem, block_copied}
 use borrow.Author.Rules.{rules}
 use Rattle.engine.proofs.lapyndo_rig_block.Goals as goal

@@ -2,8 +2,8 @@
 use mathlib.Core.Path.{ap, ◌∙◌}
 use Rattle.model.specs.declared.PlanAnswer.{PlanAnswer}
 use Rattle.model.specs.Exports.{decide_code, plan_code, plan_record_count, plan_first_moves}
-use Rattle.ceiling.specs.Theorems.Sizes.{campaign_decision_small_under, campaign_plan_small_under}
-use Rattle.ceiling.specs.Theorems.EndToEnd.{promise_under}
+use Rattle.ceiling.proofs.Theorems.Sizes.{campaign_decision_small_under, campaign_plan_small_under}
+use Rattle.ceiling.proofs.Theorems.EndToEnd.{promise_under}
 use borrow.Author.Rules.{rules}
 use Rattle.engine.proofs.lapyndo_rig_campaign.Goals as goal
 

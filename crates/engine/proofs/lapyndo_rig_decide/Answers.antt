@@ -1,7 +1,7 @@
 -- `lapyndo_rig_decide` meets its contract. Assumes nothing.
 use mathlib.Core.Path.{ap, ◌∙◌}
 use Rattle.model.specs.Exports.{decide_code}
-use Rattle.ceiling.specs.Theorems.Sizes.{decide_small_under}
+use Rattle.ceiling.proofs.Theorems.Sizes.{decide_small_under}
 use borrow.Author.Rules.{rules}
 use Rattle.engine.proofs.lapyndo_rig_decide.Goals as goal
 

@@ -2,7 +2,7 @@
 use mathlib.Core.Path.{ap, ◌∙◌}
 use Rattle.model.specs.declared.PlanAnswer.{PlanAnswer}
 use Rattle.model.specs.Exports.{plan_code, plan_record_count, plan_first_moves}
-use Rattle.ceiling.specs.Theorems.Sizes.{plan_small_under}
+use Rattle.ceiling.proofs.Theorems.Sizes.{plan_small_under}
 use borrow.Author.Rules.{rules}
 use Rattle.engine.proofs.lapyndo_rig_plan.Goals as goal
 

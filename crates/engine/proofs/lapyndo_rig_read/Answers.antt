@@ -1,7 +1,7 @@
 -- `lapyndo_rig_read` meets its contract. Assumes nothing.
 use mathlib.Core.Path.{ap, ◌∙◌}
 use Rattle.model.specs.Exports.{read_code}
-use Rattle.ceiling.specs.Theorems.Sizes.{read_small_under}
+use Rattle.ceiling.proofs.Theorems.Sizes.{read_small_under}
 use borrow.Author.Rules.{rules}
 use Rattle.engine.proofs.lapyndo_rig_read.Goals as goal
 

@@ -4,8 +4,8 @@ use native.Mathlib.Omega.{arith}
 use Rattle.model.specs.Limits.{paper}
 use Rattle.ceiling.specs.Ceiling.{step_answer_under}
 use Rattle.model.specs.Exports.{write_code}
-use Rattle.model.specs.Theorems.Sizes.Answers.{write_wider}
-use Rattle.ceiling.specs.Theorems.Sizes.{step_small_under}
+use Rattle.model.proofs.Theorems.Sizes.Answers.{write_wider}
+use Rattle.ceiling.proofs.Theorems.Sizes.{step_small_under}
 use borrow.Author.Rules.{rules}
 use Rattle.engine.proofs.lapyndo_rig_step.Goals as goal
 

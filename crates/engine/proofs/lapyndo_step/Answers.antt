@@ -6,7 +6,8 @@ use native.Mathlib.Omega.{arith}
 use Rattle.model.specs.Exports.{write_code}
 use Rattle.model.specs.Limits.{paper}
 use Rattle.model.specs.Calls.{step_answer}
-use Rattle.model.specs.Theorems.Sizes.Answers.{result_limit, WriteSmall, write_wider, step_small}
+use Rattle.model.specs.Theorems.Sizes.Answers.{result_limit, WriteSmall}
+use Rattle.model.proofs.Theorems.Sizes.Answers.{write_wider, step_small}
 use borrow.Author.Rules.{rules}
 use Rattle.engine.proofs.lapyndo_step.Goals as goal
 
