@@ -19,9 +19,11 @@ use Rattle.schedule.specs.declared.CheckAnswer.{CheckAnswer}
 use Rattle.schedule.specs.declared.CheckAnswer.TheVariants as check
 use Rattle.schedule.specs.Run.{state_after}
 use Rattle.schedule.specs.Check.{Checked, passes, unmet, goal_tested, check_from, Reply, yes_with, other, reply_of, check_state, check_table, fitted_reply, checking, reply_answer, reply_out, check_answer, check_out}
-use Rattle.schedule.proofs.Theorems.Lists.{Made, FirstFault, made_checked}
+use Rattle.schedule.specs.Theorems.Lists.{Made, FirstFault}
+use Rattle.schedule.proofs.Theorems.Lists.{made_checked}
 use Rattle.schedule.proofs.Theorems.Exactly.{fails_exactly}
-use Rattle.schedule.proofs.Theorems.Answers.{CheckRight, answer_right}
+use Rattle.schedule.specs.Theorems.Answers.{CheckRight}
+use Rattle.schedule.proofs.Theorems.Answers.{answer_right}
 use Rattle.state.specs.Storing.{state_in}
 use Rattle.table.specs.Outlines.{part_at}
 use Rattle.block.specs.Items.{Left}

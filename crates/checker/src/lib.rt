@@ -9,7 +9,7 @@ ghost use Rattle.model.specs.Task.{written};
 ghost use Rattle.model.specs.Reading.{only, reading};
 ghost use Rattle.model.specs.StateTable.{state_refusal};
 ghost use Rattle.schedule.specs.Check.{check_table, check_answer, check_out};
-ghost use Rattle.schedule.proofs.Theorems.Answers.{CheckRight};
+ghost use Rattle.schedule.specs.Theorems.Answers.{CheckRight};
 ghost use Rattle.transition.specs.Turns.{Read};
 ghost use Rattle.checker.specs.Replies.{Replied, Testable, Tested};
 

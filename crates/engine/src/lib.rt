@@ -15,7 +15,7 @@ ghost use Rattle.schedule.specs.Check.{check_answer, check_out};
 ghost use Rattle.schedule.specs.Exports.{check_code, check_index};
 ghost use Rattle.placement.specs.Exports.{place_code, place_length, place_place};
 ghost use Rattle.ceiling.specs.Ceiling.{rig, read_answer_under, block_part_under, block_refusal_under, normalise_answer_under, normalise_out_under, step_answer_under, step_out_under, decide_answer_under, decide_memory_under, plan_answer_under, plan_memory_under, plan_out_under, campaign_decision_under, campaign_plan_under, campaign_memory_under, campaign_out_under};
-ghost use Rattle.ceiling.proofs.Theorems.EndToEnd.{PromiseUnder};
+ghost use Rattle.ceiling.specs.Theorems.EndToEnd.{PromiseUnder};
 
 #[unsafe(no_mangle)]
 pub extern "C" fn lapyndo_read(table: &[u8]) -> u64

@@ -13,7 +13,8 @@ use Rattle.model.specs.Calls.{campaign_decision, campaign_plan, campaign_memory,
 use Rattle.ceiling.specs.Ceiling.{reading_under, normalise_out_under, campaign_decision_under, campaign_plan_under, campaign_memory_under, campaign_out_under}
 use Rattle.ceiling.proofs.Theorems.Calls.{Beneath, same_writing, turned_writing}
 use Rattle.ceiling.proofs.Theorems.Campaign.{same_campaign, turned_campaign}
-use Rattle.ceiling.proofs.Theorems.EndToEnd.{PromiseUnder, promise_under}
+use Rattle.ceiling.specs.Theorems.EndToEnd.{PromiseUnder}
+use Rattle.ceiling.proofs.Theorems.EndToEnd.{promise_under}
 use Rattle.campaign.specs.Campaign as full
 use Rattle.ceiling.specs.declared.Ceiling.{Ceiling}
 use Rattle.ceiling.specs.Heads.{ceiling_of}

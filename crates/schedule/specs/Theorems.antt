@@ -10,6 +10,7 @@
 --   Codes.check-apart: the answer's numbers can be taken apart; Cases.
 -- Assumes nothing.
 pub mod Moves
+pub mod Lists
 pub mod Answers
 pub mod Codes
 pub mod Agreeing

@@ -11,7 +11,7 @@ use Rattle.model.proofs.Theorems.Laws.Searching.{below_suc}
 use Rattle.schedule.specs.declared.Fault.{Fault}
 use Rattle.schedule.specs.Run.{state_after}
 use Rattle.schedule.specs.Check.{fault_of}
-use Rattle.schedule.proofs.Theorems.Lists.{fault_at, Made, FirstFault}
+use Rattle.schedule.specs.Theorems.Lists.{fault_at, Made, FirstFault}
 use Rattle.schedule.proofs.Theorems.Steps.{state_next}
 use Rattle.real_move.specs.declared.Turn.{Turn}
 use Rattle.real_move.specs.declared.Turn.TheVariants as turn

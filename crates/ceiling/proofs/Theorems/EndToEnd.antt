@@ -24,7 +24,7 @@ use Rattle.ceiling.specs.Theorems.Used.{AtMost}
 use Rattle.ceiling.proofs.Theorems.Used.{first_room}
 use Rattle.ceiling.proofs.Theorems.Calls.{Beneath, under_cases, same_writing, same_planning}
 use Rattle.ceiling.proofs.Theorems.Campaign.{normal_beneath, same_campaign}
-use Rattle.ceiling.specs.Theorems.EndToEnd.{GivenUnder, normal_part_under}
+use Rattle.ceiling.specs.Theorems.EndToEnd.{GivenUnder, normal_part_under, PromiseUnder}
 
 -- they hold where the layers fit into what is lent and into the ceiling's numbers
 pub given_under :
@@ -104,15 +104,6 @@ module _ (C : Ceiling) (t bs : List ℕ) (layers : List ℤ) where
 
 -- ---- in one call
 module _ (C : Ceiling) (t bs normalOut : List ℕ) (layers : List ℤ) (out : List ℕ) where
-  -- From the written table t and the state bs to both answers, d and p, and the plan's list in `after`: under the premises every clause of
-  -- demand 3 holds of what was answered; and, apart from it, the bound.
-  pub record PromiseUnder (d : DecideAnswer) (p : PlanAnswer) (after : List ℕ) : Type 0 where
-    pub claim :
-        (g : GivenUnder C t bs normalOut layers out)
-        → Answers g.given.table bs (normalise_answer_under C paper t normalOut)
-        (normal_part_under C t normalOut (length (normal_bytes g.given.table.task))) d p out after
-    pub bounded : Bounded (normalised_under C paper t (length normalOut)) d p
-
   -- what the call answers keeps the promise
   keeps_claim :
       (g : GivenUnder C t bs normalOut layers out)
@@ -136,7 +127,7 @@ module _ (C : Ceiling) (t bs normalOut : List ℕ) (layers : List ℤ) (out : Li
   keeps_bound (turns r) = tt
 
   pub promise_under :
-      PromiseUnder (campaign_decision_under C paper t bs normalOut layers) (campaign_plan_under C paper t bs normalOut layers out)
+      PromiseUnder C t bs normalOut layers out (campaign_decision_under C paper t bs normalOut layers) (campaign_plan_under C paper t bs normalOut layers out)
       (campaign_out_under C paper t bs normalOut layers out)
   unfolding campaign_decision_under campaign_plan_under
   promise_under = record { claim = keeps_claim; bounded = keeps_bound (normalised_under C paper t (length normalOut)) }

@@ -22,56 +22,15 @@ use Rattle.schedule.specs.declared.CheckAnswer.{CheckAnswer}
 use Rattle.schedule.specs.declared.CheckAnswer.TheVariants as check
 use Rattle.schedule.specs.Run.{state_after, ValuesInRange, SolvesInRange}
 use Rattle.schedule.specs.Check.{Checked, passes, fails, unmet, check_from, Reply, yes_with, other, reply_of, check_state, check_table, fitted_reply, checking, reply_answer, reply_out, check_answer, check_out}
-use Rattle.schedule.proofs.Theorems.Lists.{FirstFault, Unmet, ListRight, check_right, passed_solves}
+use Rattle.schedule.specs.Theorems.Lists.{FirstFault, Unmet, ListRight}
+use Rattle.schedule.proofs.Theorems.Lists.{check_right, passed_solves}
 use Rattle.schedule.proofs.Theorems.Exactly.{fails_first}
-use Rattle.schedule.specs.Theorems.Answers.{Given, start_of}
+use Rattle.schedule.specs.Theorems.Answers.{Given, start_of, of_table, of_state, short, CheckRight}
 
 -- an accepted state has its values in range
 pub given_range : {L : Limits} {t bs : List ℕ} {w : Table} → Given L t bs w → ValuesInRange L w.task (start_of w bs)
 unfolding state_of
 given_range {L} {t} {bs} {w} g = (accepted_state L w.task.props w.task.vars bs g.state).values
-
--- ---- what an answer says of the lent table, state and list, and of an output that held `old` and holds `new`
-module _ (L : Limits) (t bs ms old new : List ℕ) where
-  -- "Yes holds exactly when the list solves the table and all its values stay within ±1,000,000", "with the end state"
-  pub record YesRight (n : ℕ) : Type 0 where
-    pub table : Table
-    pub given : Given L t bs table
-    pub solves : SolvesInRange L table.task (start_of table bs) ms
-    pub end : new ≡ overwrite (state_bytes table.task.props table.task.vars (state_after table.task (start_of table bs) ms)) old
-    pub size : n ≡ table.task.props + 4 * table.task.vars
-    pub fits : n ≤ length old
-
-  -- "the first index whose move is missing, not allowed or out of range"
-  pub record FailsRight (i : ℕ) (f : Fault) : Type 0 where
-    pub table : Table
-    pub given : Given L t bs table
-    pub first : FirstFault L table.task (start_of table bs) ms i f
-    pub kept : new ≡ old
-
-  -- "or "goal not met""
-  pub record UnmetRight : Type 0 where
-    pub table : Table
-    pub given : Given L t bs table
-    pub unmet : Unmet L table.task (start_of table bs) ms
-    pub kept : new ≡ old
-
-  -- why the call turns back: the table's refusal, the state's, or "too short a buffer for it is 13, last"
-  pub data Back : Refusal → Type 0 where
-    of_table : {r : Refusal} → reading L (only written) t ≡ refused r → Back r
-    of_state : {r : Refusal} {w : Table} → reading L (only written) t ≡ accepted w → state_refusal L w.task.props w.task.vars bs ≡ some r → Back r
-    short :
-        {w : Table}
-        → Given L t bs w
-        → SolvesInRange L w.task (start_of w bs) ms
-        → length old < w.task.props + 4 * w.task.vars
-        → Back (record { number = 13; place = 0 })
-
-  abbrev pub CheckRight : CheckAnswer → Type 0
-  CheckRight (check.Yes n) = YesRight n
-  CheckRight (check.Fails i f) = FailsRight i f
-  CheckRight check.GoalNotMet = UnmetRight
-  CheckRight (check.Refused r) = Back r × (new ≡ old)
 
 -- ---- every answer is right
 module _ (L : Limits) (t bs ms old : List ℕ) where

@@ -19,10 +19,11 @@ use Rattle.schedule.specs.declared.CheckAnswer.{CheckAnswer}
 use Rattle.schedule.specs.declared.CheckAnswer.TheVariants as check
 use Rattle.schedule.specs.Run.{state_after, SolvesInRange}
 use Rattle.schedule.specs.Check.{Checked, passes, unmet, check_from, reply_of, check_state, check_table, fitted_reply, checking, reply_answer, check_answer, check_out}
-use Rattle.schedule.proofs.Theorems.Lists.{FirstFault, Unmet}
+use Rattle.schedule.specs.Theorems.Lists.{FirstFault, Unmet}
 use Rattle.schedule.proofs.Theorems.Exactly.{fails_exactly, unmet_exactly, yes_exactly}
 use Rattle.schedule.specs.Theorems.Answers.{Given, start_of}
-use Rattle.schedule.proofs.Theorems.Answers.{given_range, Back, of_table, of_state, short, CheckRight, answer_right}
+use Rattle.schedule.specs.Theorems.Answers.{Back, of_table, of_state, short, CheckRight}
+use Rattle.schedule.proofs.Theorems.Answers.{given_range, answer_right}
 
 -- the table of a verdict
 unfoldable table_in : Table → Verdict → Table

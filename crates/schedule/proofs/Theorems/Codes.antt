@@ -22,7 +22,8 @@ use Rattle.schedule.specs.declared.CheckAnswer.{CheckAnswer}
 use Rattle.schedule.specs.declared.CheckAnswer.TheVariants as check
 use Rattle.schedule.specs.Check.{fault_number, check_answer, check_out}
 use Rattle.schedule.specs.Exports.{check_code, check_index, fault_apart, no_apart, check_apart}
-use Rattle.schedule.proofs.Theorems.Answers.{Back, of_table, of_state, short, CheckRight, answer_right}
+use Rattle.schedule.specs.Theorems.Answers.{Back, of_table, of_state, short, CheckRight}
+use Rattle.schedule.proofs.Theorems.Answers.{answer_right}
 use Rattle.schedule.specs.Theorems.Codes.{CheckSmall}
 
 module _ (t bs ms old new : List ℕ) where

@@ -9,7 +9,8 @@ use Rattle.model.specs.Move.{State}
 use Rattle.schedule.specs.declared.Fault.{Fault}
 use Rattle.schedule.specs.Run.{state_after, ValuesInRange, SolvesInRange}
 use Rattle.schedule.specs.Check.{Checked, passes, fails, unmet, check_from}
-use Rattle.schedule.proofs.Theorems.Lists.{fault_at, Made, FirstFault, Unmet, Passed, FailsFrom, ListRight, check_right, passed_solves, solves_passed}
+use Rattle.schedule.specs.Theorems.Lists.{fault_at, Made, FirstFault, Unmet, Passed, FailsFrom, ListRight}
+use Rattle.schedule.proofs.Theorems.Lists.{check_right, passed_solves, solves_passed}
 
 not_less : (i j : ℕ) → (i < j → ⊥) → j ≤ i
 not_less i j h = nltb→le i j (not_T (ltb i j) (λ t. h (ltb→lt i j t)))

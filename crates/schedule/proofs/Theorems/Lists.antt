@@ -1,9 +1,9 @@
 -- What checking a list says of it: that every entry can be made and the goal holds in the state after them; the first entry that cannot be
 -- made, with its fault; or that the goal fails at the end. A list of the first kind is one that solves the task and whose values all stay in
 -- range. Assumes nothing.
-use Prim.Native.Nat.{ℕ, zero, suc, ◌+◌, ◌<◌}
+use Prim.Native.Nat.{ℕ, zero, suc}
 use Rattle.std.proofs.Common.{not-suc-le-zero, arith, ◌∙◌, subst}
-use Rattle.std.specs.Prelude.{◌≡◌, Bool, length, get_or, take}
+use Rattle.std.specs.Prelude.{◌≡◌, Bool, length}
 use Rattle.std.proofs.Math.Path.{refl, ap}
 use Rattle.std.proofs.Math.Bool.{true, false}
 use mathlib.Core.List.{List, [], ◌∷◌}
@@ -17,87 +17,51 @@ use Rattle.schedule.specs.declared.Fault.{Fault}
 use Rattle.schedule.specs.Run.{state_after, ValuesInRange, InRange, SolvesInRange, CanMove}
 use Rattle.schedule.specs.Check.{fault_of, Checked, passes, fails, unmet, goal_tested, check_move, check_from}
 use Rattle.schedule.proofs.Theorems.Moves.{MoveRight, fault_right, fault_is}
+use Rattle.schedule.specs.Theorems.Lists.{fault_at, Made, FirstFault, Unmet, Passed, FailsFrom, ListRight}
 
 module _ (L : Limits) (k : Task) where
-  -- the fault of entry i of the list, in the state before it
-  unfoldable pub fault_at : State → List ℕ → ℕ → Option Fault
-  fault_at s bs i = fault_of L k (state_after k s (take i bs)) (get_or bs i 0)
-
-  -- the first n entries can be made
-  abbrev pub Made : State → List ℕ → ℕ → Type 0
-  Made s bs n = (i : ℕ) → i < n → fault_at s bs i ≡ none
-
-  -- "the first index whose move is missing, not allowed or out of range"
-  pub record FirstFault (s : State) (bs : List ℕ) (i : ℕ) (f : Fault) : Type 0 where
-    pub inside : i < length bs
-    pub fault : fault_at s bs i ≡ some f
-    pub before : Made s bs i
-
-  -- "goal not met": every entry can be made, and the goal fails after the last
-  pub record Unmet (s : State) (bs : List ℕ) : Type 0 where
-    pub made : Made s bs (length bs)
-    pub unmet : T (applicable (state_after k s bs) k.goal) → ⊥
-
-  -- every entry can be made, the goal holds after the last, in state e
-  pub record Passed (s : State) (bs : List ℕ) (e : State) : Type 0 where
-    pub made : Made s bs (length bs)
-    pub end : e ≡ state_after k s bs
-    pub goal : T (applicable (state_after k s bs) k.goal)
-
   -- ---- one entry more in front
 
   module _ (s : State) (b : ℕ) (bs : List ℕ) (can : fault_of L k s b ≡ none) where
     abbrev to : State
     to = real (move_at k b) s
 
-    made_more : (n : ℕ) → Made to bs n → Made s (b ∷ bs) (suc n)
+    made_more : (n : ℕ) → Made L k to bs n → Made L k s (b ∷ bs) (suc n)
     unfolding fault_at state_after
     made_more n h zero l = can
     made_more n h (suc i) l = h i (omega arith)
 
-    made_less : (n : ℕ) → Made s (b ∷ bs) (suc n) → Made to bs n
+    made_less : (n : ℕ) → Made L k s (b ∷ bs) (suc n) → Made L k to bs n
     unfolding fault_at state_after
     made_less n h i l = h (suc i) (omega arith)
 
-    first_more : {i : ℕ} {f : Fault} → FirstFault to bs i f → FirstFault s (b ∷ bs) (suc i) f
+    first_more : {i : ℕ} {f : Fault} → FirstFault L k to bs i f → FirstFault L k s (b ∷ bs) (suc i) f
     unfolding fault_at state_after
     first_more {i} w = record { inside = omega (arith, w.inside); fault = w.fault; before = made_more i w.before }
 
-    unmet_more : Unmet to bs → Unmet s (b ∷ bs)
+    unmet_more : Unmet L k to bs → Unmet L k s (b ∷ bs)
     unfolding state_after
     unmet_more u = record { made = made_more (length bs) u.made; unmet = u.unmet }
 
-    passed_more : {e : State} → Passed to bs e → Passed s (b ∷ bs) e
+    passed_more : {e : State} → Passed L k to bs e → Passed L k s (b ∷ bs) e
     unfolding state_after
     passed_more p = record { made = made_more (length bs) p.made; end = p.end; goal = p.goal }
-
-  -- ---- what an answer says of the entries from index i on
-
-  pub record FailsFrom (i : ℕ) (s : State) (bs : List ℕ) (j : ℕ) (f : Fault) : Type 0 where
-    pub entry : ℕ
-    pub is : j ≡ i + entry
-    pub first : FirstFault s bs entry f
-
-  abbrev pub ListRight : ℕ → State → List ℕ → Checked → Type 0
-  ListRight i s bs (passes e) = Passed s bs e
-  ListRight i s bs (fails j f) = FailsFrom i s bs j f
-  ListRight i s bs unmet = Unmet s bs
 
   later_right :
       (i : ℕ) (s : State) (b : ℕ) (bs : List ℕ)
       → fault_of L k s b ≡ none
       → (c : Checked)
-      → ListRight (suc i) (real (move_at k b) s) bs c
-      → ListRight i s (b ∷ bs) c
+      → ListRight L k (suc i) (real (move_at k b) s) bs c
+      → ListRight L k i s (b ∷ bs) c
   later_right i s b bs can (passes e) h = passed_more s b bs can h
   later_right i s b bs can (fails j f) h =
       record { entry = suc h.entry; is = omega (arith, h.is); first = first_more s b bs can h.first }
   later_right i s b bs can unmet h = unmet_more s b bs can h
 
-  none_made : (s : State) (bs : List ℕ) → Made s bs 0
+  none_made : (s : State) (bs : List ℕ) → Made L k s bs 0
   none_made s bs i l = absurd (not-suc-le-zero l)
 
-  pub check_right : (i : ℕ) (s : State) (bs : List ℕ) → ListRight i s bs (check_from L k i s bs)
+  pub check_right : (i : ℕ) (s : State) (bs : List ℕ) → ListRight L k i s bs (check_from L k i s bs)
   unfolding check_from goal_tested check_move state_after fault_at
   check_right i s [] = by_goal (applicable s k.goal) (λ t. t) (λ f. f)
     where
@@ -105,7 +69,7 @@ module _ (L : Limits) (k : Task) where
           (t : Bool)
           → (T t → T (applicable s k.goal))
           → ((T t → ⊥) → T (applicable s k.goal) → ⊥)
-          → ListRight i s [] (elim t [ true ↦ passes s | false ↦ unmet ])
+          → ListRight L k i s [] (elim t [ true ↦ passes s | false ↦ unmet ])
       by_goal true met missed = record { made = none_made s []; end = refl; goal = met tt }
       by_goal false met missed = record { made = none_made s []; unmet = missed (λ x. x) }
   check_right i s (b ∷ bs) = by_fault (fault_of L k s b) refl (check_right (suc i) (real (move_at k b) s) bs)
@@ -113,20 +77,20 @@ module _ (L : Limits) (k : Task) where
       by_fault :
           (o : Option Fault)
           → fault_of L k s b ≡ o
-          → ListRight (suc i) (real (move_at k b) s) bs (check_from L k (suc i) (real (move_at k b) s) bs)
-          → ListRight i s (b ∷ bs) (check_move i o (check_from L k (suc i) (real (move_at k b) s) bs))
+          → ListRight L k (suc i) (real (move_at k b) s) bs (check_from L k (suc i) (real (move_at k b) s) bs)
+          → ListRight L k i s (b ∷ bs) (check_move i o (check_from L k (suc i) (real (move_at k b) s) bs))
       by_fault none e h = later_right i s b bs e (check_from L k (suc i) (real (move_at k b) s) bs) h
       by_fault (some f) e h =
           record { entry = 0; is = omega arith; first = record { inside = omega arith; fault = e; before = none_made s (b ∷ bs) } }
 
   -- ---- "Yes holds exactly when the list solves the table and all its values stay within ±1,000,000."
 
-  made_first : (s : State) (b : ℕ) (bs : List ℕ) → Made s (b ∷ bs) (suc (length bs)) → fault_of L k s b ≡ none
+  made_first : (s : State) (b : ℕ) (bs : List ℕ) → Made L k s (b ∷ bs) (suc (length bs)) → fault_of L k s b ≡ none
   unfolding fault_at state_after
   made_first s b bs m = m 0 (omega arith)
 
   -- where every entry can be made, the goal is tested after the last
-  pub made_checked : (i : ℕ) (s : State) (bs : List ℕ) → Made s bs (length bs) → check_from L k i s bs ≡ goal_tested k (state_after k s bs)
+  pub made_checked : (i : ℕ) (s : State) (bs : List ℕ) → Made L k s bs (length bs) → check_from L k i s bs ≡ goal_tested k (state_after k s bs)
   unfolding check_from check_move state_after
   made_checked i s [] made = refl
   made_checked i s (b ∷ bs) made =
@@ -142,7 +106,7 @@ module _ (L : Limits) (k : Task) where
   pub passed_solves :
       (s : State) (bs : List ℕ)
       → ValuesInRange L k s
-      → Made s bs (length bs)
+      → Made L k s bs (length bs)
       → T (applicable (state_after k s bs) k.goal)
       → SolvesInRange L k s bs
   unfolding state_after
@@ -160,7 +124,7 @@ module _ (L : Limits) (k : Task) where
       ranges r zero l = start
       ranges r (suc i) l = r i (omega arith)
 
-  pub solves_passed : (s : State) (bs : List ℕ) → SolvesInRange L k s bs → Passed s bs (state_after k s bs)
+  pub solves_passed : (s : State) (bs : List ℕ) → SolvesInRange L k s bs → Passed L k s bs (state_after k s bs)
   unfolding state_after
   solves_passed s [] h = record { made = none_made s []; end = refl; goal = h.solves }
   solves_passed s (b ∷ bs) h =

@@ -22,7 +22,8 @@ use Rattle.schedule.specs.Run.{state_after, ValuesInRange}
 use Rattle.schedule.specs.Check.{fault_number}
 use Rattle.schedule.specs.Theorems.Moves.{step_output}
 use Rattle.schedule.proofs.Theorems.Moves.{step_fault}
-use Rattle.schedule.proofs.Theorems.Lists.{fault_at, Made, FirstFault, can}
+use Rattle.schedule.specs.Theorems.Lists.{fault_at, Made, FirstFault}
+use Rattle.schedule.proofs.Theorems.Lists.{can}
 use Rattle.schedule.specs.Theorems.Answers.{Given, start_of}
 use Rattle.schedule.proofs.Theorems.Answers.{given_range}
 use Rattle.schedule.proofs.Theorems.Agreeing.{agree_fault, agree_moved, bytes_agree, bytes_right}
