@@ -14,7 +14,7 @@ use Rattle.model.specs.Blocking.{unmet_answer, blocked, blocking_of, blocking_an
 use Rattle.model.proofs.Theorems.Layers.Answer.{outcome_exhausted}
 use Rattle.model.proofs.Theorems.Layers.Building.{built_outcome}
 use Rattle.model.specs.Theorems.Sizes.Stored.{steps_of}
-use Rattle.model.proofs.Theorems.Sizes.Stored.{StoredLayers}
+use Rattle.model.specs.Theorems.Sizes.Stored.{StoredLayers}
 use Rattle.model.proofs.Theorems.Blocking.Parts.{unmet_some}
 use Rattle.model.specs.Theorems.Blocking.EndToEnd.{Reasoned}
 use Rattle.model.proofs.Theorems.Blocking.EndToEnd.{answer_reasoned}

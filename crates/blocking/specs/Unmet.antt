@@ -10,7 +10,7 @@ use Rattle.model.specs.Command.{head, open_goal, end_table, code_of, items_bytes
 use Rattle.model.specs.Move.{State}
 use Rattle.model.specs.Layer.{layer_at}
 use Rattle.model.specs.Blocking.{first_unmet, part_offset}
-use Rattle.model.proofs.Theorems.Sizes.Stored.{StoredLayers}
+use Rattle.model.specs.Theorems.Sizes.Stored.{StoredLayers}
 use Rattle.model.specs.Theorems.Blocking.Parts.{unmet_size}
 use Rattle.model.proofs.Theorems.Blocking.Parts.{unmet_offset}
 use Rattle.table.specs.Outlines.{Outline, part_at}

@@ -2,10 +2,10 @@
 -- allows, and wherever these are enough what they do on the whole memory; beyond it they answer 17, exactly there, and keep every memory; the
 -- full ceiling is none; demand 3 for every table that 17 does not refuse, in one call too, and the bound; the sizes and the codes of answers; how
 -- many layers fit, and what that makes of the rig's board (this last for the rig's ceiling alone).
---   Calls.same-reading, same-writing, same-planning, memory-kept, turned-reading, turned-writing, turned-planning, seventeen-exactly;
---   Full.full-refuses-none, full-is-none; Campaign.same-campaign, turned-campaign; EndToEnd.demand3-under, given-under, promise-under,
---   decide-within-under, plan-within-under; Codes.codes-apart; Fitting.fits-exactly, first-unfitting; Board.holds-118, rig-decide-layers,
---   rig-plan-layers, rig-campaign-layers, rig-decide-14, rig-plan-14, rig-plan-13; Longer.same-but-14, campaign-but-14; Cases
+--   Calls.same_reading, same_writing, same_planning, memory_kept, turned_reading, turned_writing, turned_planning, seventeen_exactly;
+--   Full.full_refuses_none, full_is_none; Campaign.same_campaign, turned_campaign; EndToEnd.demand3_under, given_under, promise_under,
+--   decide_within_under, plan_within_under; Codes.codes_apart; Fitting.fits_exactly, first_unfitting; Board.holds_118, rig_decide_layers,
+--   rig_plan_layers, rig_campaign_layers, rig_decide_14, rig_plan_14, rig_plan_13; Longer.same_but_14, campaign_but_14; Cases
 -- Assumes nothing.
 pub mod Used
 pub mod Calls

@@ -19,7 +19,7 @@ use Rattle.achievers.specs.Search.{Parts}
 use Rattle.taking.specs.Taking.{EncodesTaken}
 use Rattle.targets.specs.Carrying.{Carriable, Carried}
 use Rattle.taking.specs.Descending.{Descendable, PropsTakeable, props_below, PropsTaken, SmallTargets, ValuesTakeable, ValuesTaken}
-use Rattle.model.proofs.Theorems.Sizes.Stored.{StoredLayers}
+use Rattle.model.specs.Theorems.Sizes.Stored.{StoredLayers}
 use Rattle.stored_layer.specs.Stored.{stored_props, stored_vars, stored_moves, stored_has, stored_row, stored_low}
 use Rattle.stored_layer.specs.View.{Filled, held_at, number_at, low_at, view_used}
 

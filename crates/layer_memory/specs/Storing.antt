@@ -17,7 +17,8 @@ use Rattle.model.proofs.Theorems.Laws.Booleans.{T-cases}
 use Rattle.model.proofs.Theorems.Laws.Searching.{below_suc}
 use Rattle.model.specs.Theorems.Layers.Entries.{noted}
 use Rattle.model.proofs.Theorems.Layers.Entries.{entry_next}
-use Rattle.model.proofs.Theorems.Layers.Memories.{Holds, size, place_below}
+use Rattle.model.specs.Theorems.Layers.Memories.{Holds, size}
+use Rattle.model.proofs.Theorems.Layers.Memories.{place_below}
 use Rattle.layer_memory.specs.Filling.{Filled, cleared, noted_at, row_at}
 use Rattle.layer_memory.specs.Arrays.{Truths, Values}
 

@@ -23,7 +23,8 @@ use Rattle.model.proofs.Theorems.Layers.NextLayer.{layer_rises, move_ok}
 use Rattle.model.proofs.Theorems.Layers.Settled.{settled_equal}
 use Rattle.model.proofs.Theorems.Layers.Answer.{passed_next, passed_bound, unsettled_unequal}
 use Rattle.model.specs.Theorems.Layers.Building.{Stored, BuildsFrom}
-use Rattle.model.proofs.Theorems.Layers.Memories.{Holds, size, holds_memory}
+use Rattle.model.specs.Theorems.Layers.Memories.{Holds, size}
+use Rattle.model.proofs.Theorems.Layers.Memories.{holds_memory}
 use Rattle.table.specs.Outlines.{Outline}
 use Rattle.block.specs.Parts.{ranges_of}
 use Rattle.block.specs.Blocks.{LayerState}

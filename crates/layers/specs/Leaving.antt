@@ -12,7 +12,8 @@ use Rattle.model.specs.Theorems.Reading.WellFormed.{TaskOk}
 use Rattle.model.specs.Theorems.Sizes.States.{SmallState}
 use Rattle.model.proofs.Theorems.Sizes.States.{accepted_small, normal_state_small}
 use Rattle.model.specs.Theorems.Sizes.Stored.{steps_of}
-use Rattle.model.proofs.Theorems.Sizes.Stored.{StoredLayers, answered_layers}
+use Rattle.model.specs.Theorems.Sizes.Stored.{StoredLayers}
+use Rattle.model.proofs.Theorems.Sizes.Stored.{answered_layers}
 use Rattle.layers.specs.Building.{IsBuilt, built_of}
 use Rattle.layers.specs.Starting.{start_of}
 use Rattle.layers.specs.Preparing.{ReadyIn}

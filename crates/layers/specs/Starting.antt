@@ -26,7 +26,7 @@ use Rattle.model.proofs.Theorems.Laws.Searching.{any_below_cases}
 use Rattle.model.proofs.Theorems.Layers.Answer.{passed_none}
 use Rattle.model.specs.Theorems.Layers.Building.{BuildsFrom}
 use Rattle.model.proofs.Theorems.Layers.Building.{build_unrolled}
-use Rattle.model.proofs.Theorems.Layers.Memories.{size}
+use Rattle.model.specs.Theorems.Layers.Memories.{size}
 use Rattle.table.specs.Outlines.{Outline}
 use Rattle.block.specs.Parts.{ranges_of}
 use Rattle.block.specs.Sums.{Encoded}

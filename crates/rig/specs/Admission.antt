@@ -8,7 +8,8 @@ use Rattle.model.specs.declared.ReadAnswer.TheVariants as read
 use Rattle.model.specs.Limits.{paper}
 use Rattle.model.specs.Reading.{Verdict, accepted, refused, Wanted, reading}
 use Rattle.ceiling.specs.Ceiling as ceilings
-use Rattle.ceiling.proofs.Theorems.Calls.{Beneath, seventeen_exactly}
+use Rattle.ceiling.specs.Theorems.Calls.{Beneath}
+use Rattle.ceiling.proofs.Theorems.Calls.{seventeen_exactly}
 use Rattle.table.specs.Answer.{Outlined, answer_accepted, answer_refused}
 use Rattle.ceiling.specs.declared.Ceiling.{Ceiling}
 use Rattle.rig.specs.declared.Admission.{Admission}

@@ -11,7 +11,8 @@ use Rattle.model.specs.Task.{written}
 use Rattle.model.specs.Reading.{only, refused, reading}
 use Rattle.model.specs.Calls.{campaign_decision, campaign_plan, campaign_memory, campaign_out}
 use Rattle.ceiling.specs.Ceiling.{reading_under, normalise_out_under, campaign_decision_under, campaign_plan_under, campaign_memory_under, campaign_out_under}
-use Rattle.ceiling.proofs.Theorems.Calls.{Beneath, same_writing, turned_writing}
+use Rattle.ceiling.specs.Theorems.Calls.{Beneath}
+use Rattle.ceiling.proofs.Theorems.Calls.{same_writing, turned_writing}
 use Rattle.ceiling.proofs.Theorems.Campaign.{same_campaign, turned_campaign}
 use Rattle.ceiling.specs.Theorems.EndToEnd.{PromiseUnder}
 use Rattle.ceiling.proofs.Theorems.EndToEnd.{promise_under}

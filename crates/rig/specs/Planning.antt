@@ -8,7 +8,8 @@ use Rattle.model.specs.Task.{normal}
 use Rattle.model.specs.Reading.{only, reading}
 use Rattle.model.specs.Calls.{decide_answer, decide_memory, plan_answer, plan_memory, plan_out}
 use Rattle.ceiling.specs.Ceiling.{decide_answer_under, decide_memory_under, plan_answer_under, plan_memory_under, plan_out_under}
-use Rattle.ceiling.proofs.Theorems.Calls.{Beneath, SamePlanning, same_planning}
+use Rattle.ceiling.specs.Theorems.Calls.{Beneath}
+use Rattle.ceiling.proofs.Theorems.Calls.{SamePlanning, same_planning}
 use Rattle.ceiling.specs.declared.Ceiling.{Ceiling}
 use Rattle.ceiling.specs.Heads.{ceiling_of}
 use Rattle.ceiling.specs.Numbers.{Split}

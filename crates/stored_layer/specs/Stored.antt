@@ -9,7 +9,7 @@ use Rattle.model.specs.Move.{State}
 use Rattle.model.specs.Layer.{layer, layer_at}
 use Rattle.model.specs.Plan.{low}
 use Rattle.model.proofs.Theorems.Sizes.Layers.{layer_small}
-use Rattle.model.proofs.Theorems.Sizes.Stored.{StoredLayers}
+use Rattle.model.specs.Theorems.Sizes.Stored.{StoredLayers}
 use Rattle.block.specs.Parts.{ranges_of}
 use Rattle.block.specs.Sums.{Row, LayerRow}
 use Rattle.block.specs.Blocks.{LayerState}

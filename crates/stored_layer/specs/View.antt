@@ -18,7 +18,7 @@ use Rattle.model.proofs.Theorems.Layers.Order.{usable_mono}
 use Rattle.model.specs.Theorems.Reading.WellFormed.{TaskOk}
 use Rattle.model.proofs.Theorems.Layers.NextLayer.{layer_mono, move_ok}
 use Rattle.model.proofs.Theorems.Layers.Entries.{entry_says}
-use Rattle.model.proofs.Theorems.Layers.Memories.{Holds, size}
+use Rattle.model.specs.Theorems.Layers.Memories.{Holds, size}
 use Rattle.model.proofs.Theorems.Sizes.Bounds.{between_size}
 use Rattle.model.specs.Theorems.Sizes.States.{SmallState}
 use Rattle.model.specs.Theorems.Sizes.Layers.{SmallLayer, FiniteBetween}

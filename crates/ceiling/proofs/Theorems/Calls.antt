@@ -22,16 +22,12 @@ use Rattle.model.proofs.Theorems.Laws.Booleans.{clash}
 use Rattle.model.specs.Theorems.Reading.Places.{Full, IfRefused}
 use Rattle.model.proofs.Theorems.Reading.Places.{reading_refused}
 use Rattle.model.proofs.Theorems.Layers.Rebuilding.{memory_length}
+use Rattle.ceiling.specs.Theorems.Calls.{Beneath}
 use Rattle.ceiling.specs.Theorems.Used.{AtMost}
 use Rattle.ceiling.proofs.Theorems.Used.{first_behind, first_whole, behind_none, replaced}
 
 module _ (C : Ceiling) where
-  -- 17 does not turn the table away: another check does, or its head is not beyond the ceiling
-  abbrev pub Beneath : Verdict → Type 0
-  Beneath (accepted w) = beyond C w.header ≡ false
-  Beneath (refused r) = Unit {0}
-
-  pub under_beneath : (v : Verdict) → Beneath v → under C v ≡ v
+  pub under_beneath : (v : Verdict) → Beneath C v → under C v ≡ v
   unfolding under
   under_beneath (accepted w) h = rw (under, h) refl
   under_beneath (refused r) h = refl
@@ -60,7 +56,7 @@ module _ (C : Ceiling) where
       pub start : (b : ℕ) → block_start_under C L t b ≡ block_start L t b
       pub refusal : (b : ℕ) → block_refusal_under C L t b ≡ block_refusal L t b
 
-    pub same_reading : Beneath (reading L both t) → SameReading
+    pub same_reading : Beneath C (reading L both t) → SameReading
     unfolding read_answer_under read_answer block_part_under block_part block_start_under block_start block_refusal_under block_refusal reading_under
     same_reading h =
         let e = under_beneath (reading L both t) h in
@@ -74,7 +70,7 @@ module _ (C : Ceiling) where
       pub step : (bs : List ℕ) (b : ℕ) (out : List ℕ) → step_answer_under C L t bs b out ≡ step_answer L t bs b out
       pub state : (bs : List ℕ) (b : ℕ) (out : List ℕ) → step_out_under C L t bs b out ≡ step_out L t bs b out
 
-    pub same_writing : Beneath (reading L (only written) t) → SameWriting
+    pub same_writing : Beneath C (reading L (only written) t) → SameWriting
     unfolding normalise_answer_under normalise_out_under normalised_under normalise_answer normalise_out normalised step_answer_under step_out_under stepped_under step_answer step_out stepped reading_under
     same_writing h =
         let e = under_beneath (reading L (only written) t) h in
@@ -94,7 +90,7 @@ module _ (C : Ceiling) where
       pub plan_leaves : plan_memory_under C L t bs mem ≡ plan_memory L t bs (first_of C.numbers mem) ++ behind_of C.numbers mem
       pub writes : (out : List ℕ) → plan_out_under C L t bs mem out ≡ plan_out L t bs (first_of C.numbers mem) out
 
-    pub same_planning : Beneath (reading L (only normal) t) → (bs : List ℕ) (mem : List ℤ) → SamePlanning bs mem
+    pub same_planning : Beneath C (reading L (only normal) t) → (bs : List ℕ) (mem : List ℤ) → SamePlanning bs mem
     unfolding decide_answer_under decide_memory_under plan_answer_under plan_memory_under plan_out_under prepared_under reading_under decide_answer decide_memory plan_answer plan_memory plan_out prepared
     same_planning h bs mem =
         let e = under_beneath (reading L (only normal) t) h in
@@ -117,7 +113,7 @@ module _ (C : Ceiling) where
       pub writes : (out : List ℕ) → plan_out_under C L t bs mem out ≡ plan_out L t bs mem out
 
     pub whole_planning :
-        Beneath (reading L (only normal) t) → (bs : List ℕ) (mem : List ℤ) → AtMost C.numbers (length mem) → WholePlanning bs mem
+        Beneath C (reading L (only normal) t) → (bs : List ℕ) (mem : List ℤ) → AtMost C.numbers (length mem) → WholePlanning bs mem
     whole_planning h bs mem few =
         let same = same_planning h bs mem in
         let all = first_whole C.numbers mem few in

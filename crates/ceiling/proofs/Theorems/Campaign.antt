@@ -21,7 +21,8 @@ use Rattle.model.specs.Theorems.NormalForm.Print.{normal_table}
 use Rattle.model.proofs.Theorems.NormalForm.Print.{normal_accepted}
 use Rattle.model.proofs.Theorems.Campaigns.OneCall.{decides_on, plans_on, fills_on, writes_on}
 use Rattle.ceiling.proofs.Theorems.Used.{first_behind}
-use Rattle.ceiling.proofs.Theorems.Calls.{Beneath, same_writing, same_planning}
+use Rattle.ceiling.specs.Theorems.Calls.{Beneath}
+use Rattle.ceiling.proofs.Theorems.Calls.{same_writing, same_planning}
 use Rattle.ceiling.proofs.Theorems.Full.{not_beyond, beneath_counts}
 
 module _ (C : Ceiling) (t : List ℕ) where

@@ -22,7 +22,8 @@ use Rattle.model.specs.Theorems.Campaigns.OneCall.{Bounded}
 use Rattle.model.proofs.Theorems.Campaigns.OneCall.{campaign_promise}
 use Rattle.ceiling.specs.Theorems.Used.{AtMost}
 use Rattle.ceiling.proofs.Theorems.Used.{first_room}
-use Rattle.ceiling.proofs.Theorems.Calls.{Beneath, under_cases, same_writing, same_planning}
+use Rattle.ceiling.specs.Theorems.Calls.{Beneath}
+use Rattle.ceiling.proofs.Theorems.Calls.{under_cases, same_writing, same_planning}
 use Rattle.ceiling.proofs.Theorems.Campaign.{normal_beneath, same_campaign}
 use Rattle.ceiling.specs.Theorems.EndToEnd.{GivenUnder, normal_part_under, PromiseUnder}
 

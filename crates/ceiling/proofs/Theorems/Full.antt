@@ -11,7 +11,8 @@ use Rattle.ceiling.specs.Ceiling.{Ceiling, full, most_vars, beyond}
 use Rattle.model.specs.Theorems.Reading.WellFormed.{TaskOk, VarsOk}
 use Rattle.model.proofs.Theorems.Laws.Booleans.{or_left, or_right, false_not}
 use Rattle.model.proofs.Theorems.Reading.Accepted.{reading_ok, reading_head}
-use Rattle.ceiling.proofs.Theorems.Calls.{Beneath, SameReading, same_reading, SameWriting, same_writing, WholePlanning, whole_planning}
+use Rattle.ceiling.specs.Theorems.Calls.{Beneath}
+use Rattle.ceiling.proofs.Theorems.Calls.{SameReading, same_reading, SameWriting, same_writing, WholePlanning, whole_planning}
 
 -- a head is not beyond a ceiling exactly if its counts are within
 pub not_beyond : (C : Ceiling) (h : Head) → h.moves ≤ C.moves → h.vars ≤ most_vars C h.form → beyond C h ≡ false

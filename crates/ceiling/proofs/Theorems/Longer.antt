@@ -22,7 +22,8 @@ use Rattle.model.proofs.Theorems.Laws.Searching.{first_from_cases}
 use Rattle.model.proofs.Theorems.Layers.Entries.{first_found, first_missing}
 use Rattle.model.proofs.Theorems.Layers.Rebuilding.{built_fits}
 use Rattle.ceiling.proofs.Theorems.Used.{first_behind}
-use Rattle.ceiling.proofs.Theorems.Calls.{Beneath, same_writing, same_planning, WholePlanning}
+use Rattle.ceiling.specs.Theorems.Calls.{Beneath}
+use Rattle.ceiling.proofs.Theorems.Calls.{same_writing, same_planning, WholePlanning}
 use Rattle.ceiling.proofs.Theorems.Campaign.{wrote_beneath}
 use Rattle.ceiling.specs.Theorems.Longer.{WholeCampaign}
 

@@ -1,4 +1,4 @@
--- The trial campaigns by computation; demand 2 and demand 3 from bytes to answers; the codes of answers.
+-- The definitions that the theorems of proofs/Theorems/Campaigns are stated with. Assumes nothing.
 pub mod Tables
 pub mod Computing
 pub mod Trials

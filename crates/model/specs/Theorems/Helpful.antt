@@ -1,3 +1,2 @@
--- The helpful moves: what makes a move helpful; what the set holds, in plain words; that the moves which the plan takes at layer 0 are in it;
--- when it is empty; plan's answer from bytes; small cases by computation.
+-- The definitions that the theorems of proofs/Theorems/Helpful are stated with. Assumes nothing.
 pub mod Cases

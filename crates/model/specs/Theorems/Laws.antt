@@ -1,3 +1,3 @@
--- Tests, searches, counts, lists and sets as facts.
+-- The definitions that the theorems of proofs/Theorems/Laws are stated with. Assumes nothing.
 pub mod Searching
 pub mod Counting

@@ -1,9 +1,9 @@
--- Layers rise; the outcome is the one layer that is `Reached` or `Exhausted`, within (A + N + 1) × (N + 1); "no plan" is right; what
--- building leaves in memory.
+-- The definitions that the theorems of proofs/Theorems/Layers are stated with. Assumes nothing.
 pub mod Order
 pub mod Settled
 pub mod Quiet
 pub mod Bound
 pub mod Answer
+pub mod Memories
 pub mod Building
 pub mod Entries

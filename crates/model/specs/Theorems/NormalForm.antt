@@ -1,6 +1,4 @@
--- The five comparisons, one law an operator. A task and its normal form run alike, and the print of the normal form is accepted; with and
--- without its terms of weight 0 a task has the same normal form, steps and solutions; the calls answer and write the same for tables that
--- differ only in such terms.
+-- The definitions that the theorems of proofs/Theorems/NormalForm are stated with. Assumes nothing.
 pub mod SignedSums
 pub mod Comparisons
 pub mod Print

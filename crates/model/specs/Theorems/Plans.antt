@@ -1,5 +1,4 @@
--- The list of a plan's records solves the relaxed task; each record is the only one of its move in its layer; the wants and the records of
--- each layer.
+-- The definitions that the theorems of proofs/Theorems/Plans are stated with. Assumes nothing.
 pub mod Targets
 pub mod Wanting
 pub mod Conditions

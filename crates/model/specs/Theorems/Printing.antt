@@ -1,5 +1,4 @@
--- What is written is read back: a task that meets every check is accepted as that task; records and decimal digits too. What a
--- lent output then holds.
+-- The definitions that the theorems of proofs/Theorems/Printing are stated with. Assumes nothing.
 pub mod SeenBytes
 pub mod Printed
 pub mod Passing

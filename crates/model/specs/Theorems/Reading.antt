@@ -1,6 +1,4 @@
--- What the checks of a table and of a state give: an accepted table is the print of its task, which is within every limit, and its
--- marks are where its blocks begin; an accepted state is the bytes of its state; a refusal's number and place; check 7 finds a closed
--- walk exactly where there is one; its edges are the terms of weight not 0; a task looks at its own propositions and variables alone.
+-- The definitions that the theorems of proofs/Theorems/Reading are stated with. Assumes nothing.
 pub mod WellFormed
 pub mod Commands
 pub mod Checks

@@ -1,4 +1,4 @@
--- Every number on the way, and every number of an answer, is small enough for the machine's.
+-- The definitions that the theorems of proofs/Theorems/Sizes are stated with. Assumes nothing.
 pub mod Bounds
 pub mod States
 pub mod Layers

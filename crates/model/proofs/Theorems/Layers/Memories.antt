@@ -13,6 +13,7 @@ use Rattle.model.specs.Task.{Task}
 use Rattle.model.specs.Move.{State}
 use Rattle.model.specs.Layer.{layer_at}
 use Rattle.model.specs.Memory.{encode, prop_entry, move_entry, rows, layer_memory, overwrite}
+use Rattle.model.specs.Theorems.Layers.Memories.{size, Holds}
 use Rattle.model.proofs.Theorems.Laws.Booleans.{T-cases}
 use Rattle.model.proofs.Theorems.Laws.Searching.{length_tabulate, get_d_tabulate, below_suc}
 
@@ -50,10 +51,6 @@ module _ (k : Task) (s : State) where
       ∙ get_d_tabulate (λ i. encode ((layer_at k s n).val i)) 0 k.vars v d hv
       ∙ ap (λ (i : ℕ). encode ((layer_at k s n).val i)) (omega arith)))
 
-  -- the numbers that n stored layers take
-  abbrev pub size : ℕ → ℕ
-  size n = k.props + length k.moves + k.vars * n
-
   module _ (n steps : ℕ) where
     entries : List ℤ
     entries = tabulate (prop_entry k s n) 0 k.props ++ tabulate (move_entry k s steps) 0 (length k.moves)
@@ -64,7 +61,7 @@ module _ (k : Task) (s : State) where
         length-append (tabulate (prop_entry k s n) 0 k.props) (tabulate (move_entry k s steps) 0 (length k.moves))
         ∙ omega (arith, length_tabulate (prop_entry k s n) 0 k.props, length_tabulate (move_entry k s steps) 0 (length k.moves))
 
-    pub length_memory : length (layer_memory k s n steps) ≡ size n
+    pub length_memory : length (layer_memory k s n steps) ≡ size k s n
     unfolding layer_memory entries
     length_memory = length-append entries (rows k s n) ∙ omega (arith, length_entries, length_rows n)
 
@@ -93,16 +90,6 @@ module _ (k : Task) (s : State) where
     get_d_value u v d h hv =
         get_d_after entries (rows k s n) (k.props + length k.moves + (k.vars * u + v)) (k.vars * u + v) d (omega (arith, length_entries))
         ∙ get_d_rows n u v d h hv
-
--- A memory that was `old` at entry and now holds n stored layers with the entries of so many steps.
-pub record Holds (k : Task) (s : State) (n steps : ℕ) (old mem : List ℤ) : Type 0 where
-  pub same_length : length mem ≡ length old
-  pub prop : (p : ℕ) → p < k.props → get_or mem p (pos 0) ≡ prop_entry k s n p
-  pub move : (b : ℕ) → b < length k.moves → get_or mem (k.props + b) (pos 0) ≡ move_entry k s steps b
-  pub value :
-      (u v : ℕ) → u < n → v < k.vars
-      → get_or mem (k.props + length k.moves + (k.vars * u + v)) (pos 0) ≡ encode ((layer_at k s u).val v)
-  pub kept : (i : ℕ) → size k s n ≤ i → get_or mem i (pos 0) ≡ get_or old i (pos 0)
 
 -- the place of a value, taken apart
 value_place : (N j n : ℕ) → j < N * n → (0 < N) × (j / N < n) × (N * (j / N) + j % N ≡ j) × (j % N < N)

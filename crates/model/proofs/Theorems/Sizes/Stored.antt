@@ -13,23 +13,11 @@ use Rattle.model.proofs.Theorems.Laws.Booleans.{not-false, or_right}
 use Rattle.model.proofs.Theorems.Laws.Searching.{first_from_cases}
 use Rattle.model.specs.Theorems.Reading.WellFormed.{TaskOk}
 use Rattle.model.proofs.Theorems.Layers.Building.{built_outcome}
-use Rattle.model.proofs.Theorems.Layers.Memories.{Holds, size, memory_holds}
+use Rattle.model.specs.Theorems.Layers.Memories.{size, Holds}
+use Rattle.model.proofs.Theorems.Layers.Memories.{memory_holds}
 use Rattle.model.specs.Theorems.Sizes.States.{SmallState}
 use Rattle.model.proofs.Theorems.Sizes.Plans.{answered_passes, reported_most}
-use Rattle.model.specs.Theorems.Sizes.Stored.{layer_limit, steps_of}
-
--- the memory holds the layers 0 to m of the task, with the entries of so many steps; the counts beside are the task's
-pub record StoredLayers (k : Task) (s : State) (props vars moves m steps : ℕ) (mem : List ℤ) : Type 0 where
-  pub ok : TaskOk paper normal k
-  pub small : SmallState k.vars s
-  pub props_is : k.props ≡ props
-  pub vars_is : k.vars ≡ vars
-  pub moves_is : length k.moves ≡ moves
-  pub old : List ℤ
-  pub held : Holds k s (suc m) steps old mem
-  pub room : size k s (suc m) ≤ length old
-  pub right : (t : ℕ) → t ≤ m → wrong15 paper k s t ≡ false
-  pub bounded : m ≤ layer_limit
+use Rattle.model.specs.Theorems.Sizes.Stored.{layer_limit, steps_of, StoredLayers}
 
 answered_memory : (k : Task) (s : State) (o : Outcome) → built_memory k s (answered o) ≡ layer_memory k s (suc (reported o)) (steps_of o)
 unfolding built_memory reported steps_of
