@@ -1,12 +1,12 @@
 -- "try the moves usable in t−1 in rising order and take the first": the search for a move, from its part of the table.
 -- Assumes nothing.
-use Rattle.std.specs.Prelude.{ℕ, zero, suc, ◌+◌, ◌-◌, ◌≤◌, ◌<◌, ◌≡◌, refl, Bool, true, false, ◌&&◌, ℤ, pos, nat_abs, length, get_or}
-use Rattle.std.proofs.Common.{arith, ◌∙◌, eq-eqb}
+use Rattle.std.specs.Prelude.{ℕ, zero, suc, ◌+◌, ◌≤◌, ◌<◌, ◌≡◌, refl, Bool, true, false, ◌&&◌, ℤ, pos, nat_abs, length, get_or, Option, Some, None}
+use Rattle.std.proofs.Common.{arith, ◌∙◌}
 use Rattle.std.proofs.Math.Path.{sym, ap, subst}
 use mathlib.Core.List.{List}
 use Rattle.std.proofs.Math.Option.{none, some}
-use Rattle.model.specs.Lists.{any, first_from}
-use Rattle.model.specs.Task.{normal, Kind, assign, increase, decrease, Effect, add, is_add, adds, effect_on, Block, Task}
+use Rattle.model.specs.Lists.{first_from}
+use Rattle.model.specs.Task.{normal, Kind, assign, increase, decrease, Effect, adds, effect_on, Block, Task}
 use Rattle.model.specs.Command.{kind_code}
 use Rattle.model.specs.Move.{move_at}
 use Rattle.model.specs.Layer.{Value, Layer, reaches, usable, layer_value}
@@ -17,15 +17,11 @@ use Rattle.model.proofs.Theorems.Laws.Searching.{searched_next, searched_found, 
 use Rattle.table.specs.Outlines.{part_at}
 use Rattle.reader.specs.Parts.{PartIn}
 use Rattle.block.specs.Parts.{ranges_of}
-use Rattle.block.specs.Items.{Ranges, Left, left_end, Followed, EffectFound, EffectIs, Found, behind, Moves, Next}
+use Rattle.block.specs.Items.{Ranges, Left, left_end, EffectFound, EffectIs}
 use Rattle.block.specs.Sums.{LayerRow, Encoded}
-use Rattle.block.specs.Blocks.{Reading, reading_start, reading_next, reading_stop, reading_end, Passing, any_true, effect_on_here}
+use Rattle.block.specs.Blocks.{Reading, reading_stop, reading_end, Walk, Passing, effect_on_here}
 use Rattle.block.specs.declared.ItemAt.{ItemAt}
-use Rattle.block.specs.declared.ItemAt.TheVariants.{Need, Add, Delete, Condition as ConditionAt, Effect as EffectAt, End}
-use Rattle.achievers.specs.declared.Adder.{Adder}
-use Rattle.achievers.specs.declared.Adder.TheVariants.{Move, None}
 use Rattle.achievers.specs.declared.Achiever.{Achiever}
-use Rattle.achievers.specs.declared.Achiever.TheVariants.{Effect as EffectOf, None as NoEffect}
 
 -- ---- the parts of the blocks
 
@@ -37,26 +33,13 @@ pub record Parts (table marks : List ℕ) (k : Task) : Type 0 where
 
 -- ---- the items of a move
 
+-- nothing beside the part
+abbrev pub Alone : Ranges → Unit {0} → Type 0
+Alone k s = Unit {0}
+
 -- the item does not change what g says
 abbrev pub Skipped : {X : Type 0} → (Block → X) → List ℕ → ItemAt → Type 0
-Skipped g part x = Passing part (λ (k : Ranges) (s : Unit {0}). Unit {0}) (λ (s : Unit {0}). g) x
-
-pub reading_skip :
-    {X : Type 0} {k : Ranges} {part : List ℕ} {whole : X} {g : Block → X} {at : ℕ} {i : ItemAt} (r : Reading k part whole g at)
-    → at < length part
-    → Next part at i
-    → Skipped g part i
-    → Reading k part whole g (behind i)
-unfolding behind
-reading_skip {k} {part} {whole} {g} {at} {i} r lt t skipped = go i t.moves skipped (t.found k r.rest r.left)
-  where
-    go : (y : ItemAt) → Moves at (length part) y → Skipped g part y → Found k part r.rest y → Reading k part whole g (behind y)
-    go (Need p after) m h f = reading_next r g f (h k tt tt f.ok)
-    go (Add p after) m h f = reading_next r g f (h k tt tt f.ok)
-    go (Delete p after) m h f = reading_next r g f (h k tt tt f.ok)
-    go (ConditionAt o z from n after) m h f = reading_next r g f.followed (h k tt f.it tt f.is)
-    go (EffectAt kd v z from n after) m h f = reading_next r g f.followed (h k tt f.it tt f.var f.is)
-    go End m h f = absurd (omega arith)
+Skipped g part x = Passing part Alone (λ (s : Unit {0}). g) x
 
 -- ---- which moves are usable
 
@@ -93,8 +76,8 @@ pub record AdderIs (k : Task) (l : Layer) (p moves b : ℕ) : Type 0 where
   pub lt : b < moves
   pub is : adder k l p ≡ some b
 
-abbrev pub IsAdder : Task → Layer → ℕ → ℕ → Adder → Type 0
-IsAdder k l p moves (Move b) = AdderIs k l p moves b
+abbrev pub IsAdder : Task → Layer → ℕ → ℕ → Option ℕ → Type 0
+IsAdder k l p moves (Some b) = AdderIs k l p moves b
 IsAdder k l p moves None = adder k l p ≡ none
 
 module _ {table marks : List ℕ} {used : List Bool} {moves : ℕ} (x : Searchable table marks used moves) (p : ℕ) where
@@ -107,39 +90,15 @@ module _ {table marks : List ℕ} {used : List Bool} {moves : ℕ} (x : Searchab
   unfolding adder
   adder_none h le = ap (first_from (adds_at x.task x.over p) 0) x.many ∙ searched_all h le
 
--- the items of move b before the offset do not add p, nor do the usable moves before b
-pub record AdderAt {table marks : List ℕ} {used : List Bool} {moves : ℕ} (x : Searchable table marks used moves) (p b : ℕ) (part : List ℕ) (at : ℕ) : Type 0 where
-  pub before : Searched (adds_at x.task x.over p) moves b
-  pub reading : Reading (ranges_of normal x.task) part (adds p (move_at x.task b)) (any (is_add p)) at
+module _ {table marks : List ℕ} {used : List Bool} {moves : ℕ} (x : Searchable table marks used moves) {b : ℕ} (lt : b < moves) where
+  -- the items of the move in its part
+  pub move_left : {part : List ℕ} → part ≡ part_at table marks b → Left (ranges_of normal x.task) part 1 (move_at x.task b)
+  move_left e = subst (λ (l : List ℕ). Left (ranges_of normal x.task) l 1 (move_at x.task b)) (sym e) (part_left x lt)
 
-module _ {table marks : List ℕ} {used : List Bool} {moves : ℕ} (x : Searchable table marks used moves) (p : ℕ) {b : ℕ} {part : List ℕ} (lt : b < moves) where
-  pub adder_start : Searched (adds_at x.task x.over p) moves b → part ≡ part_at table marks b → AdderAt x p b part 1
-  unfolding adds
-  adder_start h e =
-      record {
-        before = h;
-        reading = reading_start (any (is_add p)) (subst (λ (l : List ℕ). Left (ranges_of normal x.task) l 1 (move_at x.task b)) (sym e) (part_left x lt));
-      }
-
-  module _ {at : ℕ} (d : AdderAt x p b part at) where
-    pub adder_skip : {i : ItemAt} → at < length part → Next part at i → Skipped (any (is_add p)) part i → AdderAt x p b part (behind i)
-    adder_skip lt t h = record { before = d.before; reading = reading_skip d.reading lt t h }
-
-    pub adder_hit :
-        {after q : ℕ} → get_or used b false ≡ true
-        → Followed (ranges_of normal x.task) part after d.reading.rest (add q)
-        → q ≡ p
-        → AdderIs x.task x.over p moves b
-    unfolding is_add
-    adder_hit {q} u f e =
-        adder_found x p d.before lt
-        (passes x (adds p (move_at x.task b)) lt u ∙ sym (reading_stop d.reading f (any_true (is_add p) (eq-eqb q p e))))
-
-    pub adder_over : get_or used b false ≡ true → length part ≤ at → Searched (adds_at x.task x.over p) moves (b + 1)
-    unfolding any
-    adder_over u end =
-        searched_next d.before lt
-        (passes x (adds p (move_at x.task b)) lt u ∙ sym (reading_end d.reading (left_end end d.reading.left) refl))
+-- a move that is usable and does not add p is passed
+module _ {table marks : List ℕ} {used : List Bool} {moves : ℕ} (x : Searchable table marks used moves) (p : ℕ) {b : ℕ} (lt : b < moves) where
+  pub adder_passed : get_or used b false ≡ true → adds p (move_at x.task b) ≡ false → Searched (adds_at x.task x.over p) moves b → Searched (adds_at x.task x.over p) moves (b + 1)
+  adder_passed u e h = searched_next h lt (passes x (adds p (move_at x.task b)) lt u ∙ e)
 
 -- ---- "or whose effect on v has value ≥ target T (:=) or > 0 (+=)"
 
@@ -155,9 +114,9 @@ pub record AchieverIs (table marks : List ℕ) (k : Task) (l : Layer) (v : ℕ) 
   pub achieved : reaches (layer_value l it) (demand it.kind z) ≡ true
   pub encoded : Encoded 8_000_000_001_000_000 (layer_value l it) value
 
-abbrev pub IsAchiever : List ℕ → List ℕ → Task → Layer → ℕ → ℤ → ℕ → Achiever → Type 0
-IsAchiever table marks k l v z moves (EffectOf b kd base from n value) = AchieverIs table marks k l v z moves b kd base from n value
-IsAchiever table marks k l v z moves NoEffect = achiever k l v z ≡ none
+abbrev pub IsAchiever : List ℕ → List ℕ → Task → Layer → ℕ → ℤ → ℕ → Option Achiever → Type 0
+IsAchiever table marks k l v z moves (Some a) = AchieverIs table marks k l v z moves a.index a.kind a.base a.from a.terms a.value
+IsAchiever table marks k l v z moves None = achiever k l v z ≡ none
 
 -- the layer's values beside
 pub record Achievable (table marks : List ℕ) (used : List Bool) (row : List ℤ) (moves : ℕ) : Type 0 where
@@ -194,59 +153,79 @@ module _ {table marks : List ℕ} {used : List Bool} {moves : ℕ} (x : Searchab
   unfolding achiever
   achiever_none h le = ap (first_from (achieves_at x.task x.over v z) 0) x.many ∙ searched_all h le
 
--- the effects of move b before the offset are on other variables, and no usable move before b achieves
-pub record AchieverAt {table marks : List ℕ} {used : List Bool} {moves : ℕ} (x : Searchable table marks used moves) (v : ℕ) (z : ℤ) (b : ℕ) (part : List ℕ) (at : ℕ) : Type 0 where
-  pub before : Searched (achieves_at x.task x.over v z) moves b
-  pub reading : Reading (ranges_of normal x.task) part (effect_on v (move_at x.task b)) (effect_on v) at
+-- ---- the effect of one move
 
-module _ {table marks : List ℕ} {used : List Bool} {moves : ℕ} (x : Searchable table marks used moves) (v : ℕ) (z : ℤ) {b : ℕ} {part : List ℕ} (lt : b < moves) where
-  pub achiever_start : Searched (achieves_at x.task x.over v z) moves b → part ≡ part_at table marks b → AchieverAt x v z b part 1
-  achiever_start h e =
+-- some reading of a move's part, and the layer's values beside
+pub record MoveOver (part : List ℕ) (row : List ℤ) : Type 0 where
+  pub ranges : Ranges
+  pub block : Block
+  pub over : Layer
+  pub left : Left ranges part 1 block
+  pub values : LayerRow ranges.vars row over.val
+
+-- its effect on v reaches the target
+pub record EffectReaches {part : List ℕ} {row : List ℤ} (x : MoveOver part row) (v : ℕ) (z : ℤ) (kd : ℕ) (base : ℤ) (from n : ℕ) (value : ℤ) : Type 0 where
+  pub it : Effect
+  pub found_it : effect_on v x.block ≡ some it
+  pub effect : EffectIs x.ranges part kd base from n it
+  pub achieved : reaches (layer_value x.over it) (demand it.kind z) ≡ true
+  pub encoded : Encoded 8_000_000_001_000_000 (layer_value x.over it) value
+
+module _ {part : List ℕ} {row : List ℤ} (x : MoveOver part row) (v : ℕ) (z : ℤ) {at : ℕ} (w : Walk part Alone (λ (s : Unit {0}). effect_on v) at) where
+  pub reading : Reading x.ranges part (effect_on v x.block) (effect_on v) at
+  reading = w.reading x.ranges x.block tt x.left tt
+
+  pub no_effect : length part ≤ at → achieves x.over z (effect_on v x.block) ≡ false
+  unfolding achieves effect_on
+  no_effect end = ap (achieves x.over z) (sym (reading_end reading (left_end end reading.left) refl))
+
+  module _ {kd u : ℕ} {c : ℤ} {from n after : ℕ} (f : EffectFound x.ranges part kd u c from n after (w.reading x.ranges x.block tt x.left tt).rest) where
+    module _ (same : u ≡ v) {y : ℤ} {t : Bool} (e : Encoded 8_000_000_001_000_000 (layer_value x.over f.it) y) (q : (r : Value) → y ≡ encode r → t ≡ reaches r (demand_by kd z)) where
+      tested : t ≡ reaches (layer_value x.over f.it) (demand f.it.kind z)
+      tested = q (layer_value x.over f.it) e.is ∙ ap (reaches (layer_value x.over f.it)) (demand_code f.it.kind z f.is.kind)
+
+      effect_found : effect_on v x.block ≡ some f.it
+      effect_found = sym (reading_stop (w.reading x.ranges x.block tt x.left tt) f.followed (effect_on_here v f.it (f.var ∙ same)))
+
+      pub effect_hit : t ≡ true → EffectReaches x v z kd c from n y
+      effect_hit hit = record { it = f.it; found_it = effect_found; effect = f.is; achieved = sym tested ∙ hit; encoded = e }
+
+      pub effect_miss : t ≡ false → achieves x.over z (effect_on v x.block) ≡ false
+      unfolding achieves
+      effect_miss miss = ap (achieves x.over z) effect_found ∙ sym tested ∙ miss
+
+-- ---- the move among the others
+
+module _ {table marks : List ℕ} {used : List Bool} {row : List ℤ} {moves : ℕ} (x : Achievable table marks used row moves) {b : ℕ} (lt : b < moves) where
+  -- the part of a usable move
+  abbrev pub move_over : {part : List ℕ} → part ≡ part_at table marks b → MoveOver part row
+  move_over {part} e =
       record {
-        before = h;
-        reading = reading_start (effect_on v) (subst (λ (l : List ℕ). Left (ranges_of normal x.task) l 1 (move_at x.task b)) (sym e) (part_left x lt));
+        ranges = ranges_of normal x.search.task;
+        block = move_at x.search.task b;
+        over = x.search.over;
+        left = move_left x.search lt e;
+        values = x.values;
       }
 
-  module _ {at : ℕ} (d : AchieverAt x v z b part at) where
-    pub achiever_skip : {i : ItemAt} → at < length part → Next part at i → Skipped (effect_on v) part i → AchieverAt x v z b part (behind i)
-    achiever_skip lt t h = record { before = d.before; reading = reading_skip d.reading lt t h }
+  module _ (v : ℕ) (z : ℤ) (h : Searched (achieves_at x.search.task x.search.over v z) moves b) (u : get_or used b false ≡ true) {part : List ℕ} (e : part ≡ part_at table marks b) where
+    pub achiever_passed : achieves x.search.over z (effect_on v (move_at x.search.task b)) ≡ false → Searched (achieves_at x.search.task x.search.over v z) moves (b + 1)
+    achiever_passed miss = searched_next h lt (passes x.search (achieves x.search.over z (effect_on v (move_at x.search.task b))) lt u ∙ miss)
 
-    pub achiever_over : get_or used b false ≡ true → length part ≤ at → Searched (achieves_at x.task x.over v z) moves (b + 1)
-    unfolding achieves effect_on
-    achiever_over u end =
-        searched_next d.before lt
-        (passes x (achieves x.over z (effect_on v (move_at x.task b))) lt u
-        ∙ ap (achieves x.over z) (sym (reading_end d.reading (left_end end d.reading.left) refl)))
-
-    module _ {kd u : ℕ} {c : ℤ} {from n after : ℕ} (f : EffectFound (ranges_of normal x.task) part kd u c from n after d.reading.rest) where
-      module _ (same : u ≡ v) {y : ℤ} {t : Bool} (e : Encoded 8_000_000_001_000_000 (layer_value x.over f.it) y) (q : (w : Value) → y ≡ encode w → t ≡ reaches w (demand_by kd z)) where
-        tested : t ≡ reaches (layer_value x.over f.it) (demand f.it.kind z)
-        tested = q (layer_value x.over f.it) e.is ∙ ap (reaches (layer_value x.over f.it)) (demand_code f.it.kind z f.is.kind)
-
-        found_it : effect_on v (move_at x.task b) ≡ some f.it
-        found_it = sym (reading_stop d.reading f.followed (effect_on_here v f.it (f.var ∙ same)))
-
-        effect_tested : achieves x.over z (effect_on v (move_at x.task b)) ≡ t
-        unfolding achieves
-        effect_tested = ap (achieves x.over z) found_it ∙ sym tested
-
-        pub achiever_hit : part ≡ part_at table marks b → get_or used b false ≡ true → t ≡ true → AchieverIs table marks x.task x.over v z moves b kd c from n y
-        unfolding achiever
-        achiever_hit p used-b hit =
-            record {
-              lt = lt;
-              is =
-                  ap (first_from (achieves_at x.task x.over v z) 0) x.many
-                  ∙ searched_found d.before lt
-                  (passes x (achieves x.over z (effect_on v (move_at x.task b))) lt used-b ∙ effect_tested ∙ hit);
-              it = f.it;
-              found_it = found_it;
-              effect = subst (λ (l : List ℕ). EffectIs (ranges_of normal x.task) l kd c from n f.it) p f.is;
-              achieved = sym tested ∙ hit;
-              encoded = e;
-            }
-
-        pub achiever_miss : get_or used b false ≡ true → t ≡ false → Searched (achieves_at x.task x.over v z) moves (b + 1)
-        achiever_miss used-b miss =
-            searched_next d.before lt
-            (passes x (achieves x.over z (effect_on v (move_at x.task b))) lt used-b ∙ effect_tested ∙ miss)
+    pub achiever_found :
+        {kd from n : ℕ} {base value : ℤ} → EffectReaches (move_over e) v z kd base from n value
+        → AchieverIs table marks x.search.task x.search.over v z moves b kd base from n value
+    unfolding achiever achieves
+    achiever_found {kd} {from} {n} {base} {value} r =
+        record {
+          lt = lt;
+          is =
+              ap (first_from (achieves_at x.search.task x.search.over v z) 0) x.search.many
+              ∙ searched_found h lt
+              (passes x.search (achieves x.search.over z (effect_on v (move_at x.search.task b))) lt u ∙ ap (achieves x.search.over z) r.found_it ∙ r.achieved);
+          it = r.it;
+          found_it = r.found_it;
+          effect = subst (λ (l : List ℕ). EffectIs (ranges_of normal x.search.task) l kd base from n r.it) e r.effect;
+          achieved = r.achieved;
+          encoded = r.encoded;
+        }

@@ -4,12 +4,12 @@ use Rattle.std.proofs.Common.{arith, ◌∙◌, subst}
 use Rattle.std.specs.Prelude.{◌≡◌, Bool, ◌&&◌, ◌||◌, List, [], ◌∷◌, ◌++◌, eqb, ℤ, set}
 use Rattle.std.proofs.Math.Path.{refl, sym, ap, ap₂, subst₂}
 use Rattle.std.proofs.Math.Bool.{true, false}
-use Rattle.std.proofs.Math.Option.{none, some}
+use Rattle.std.proofs.Math.Option.{some}
 use Rattle.std.proofs.Math.ListN.{get_or}
 use Rattle.model.specs.Task.{Item, need, add, delete, condition, effect, Condition, Effect, clashes}
 use Rattle.model.specs.Task as task
 use Rattle.model.specs.Circle.{is_assign, item_edge}
-use Rattle.model.specs.Command.{Command, need_prop, add_prop, delete_prop, close_condition, close_effect, width, Place, in_move, in_place, start}
+use Rattle.model.specs.Command.{Command, need_prop, add_prop, delete_prop, close_condition, close_effect, width, in_move, in_place, start}
 use Rattle.model.specs.Seen.{Seen, byte_after, number_after, comparison_of, kind_of, item_at, closed, with_item, advance}
 use Rattle.model.proofs.Theorems.Reading.Commands.{width_positive}
 use Rattle.cursor.specs.declared.Cursor.{Cursor}

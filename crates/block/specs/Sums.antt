@@ -385,10 +385,3 @@ coded equal s c = refl
 
 pub compares_code : (o : Comparison) (n : ℕ) (s c : ℤ) → comparison_code o ≡ n → compares_by n s c ≡ compares o s c
 compares_code o n s c e = ap (λ (m : ℕ). compares_by m s c) (sym e) ∙ coded o s c
-
--- both of two tests, made one after the other
-pub both_second : {p q a b : Bool} → p ≡ a → p ≡ true → q ≡ b → q ≡ a && b
-both_second {q} {a} {b} e t f = f ∙ ap (λ (x : Bool). x && b) (sym t ∙ e)
-
-pub both_first : {p a : Bool} (b : Bool) → p ≡ a → p ≡ false → p ≡ a && b
-both_first b e t = t ∙ ap (λ (x : Bool). x && b) (sym t ∙ e)

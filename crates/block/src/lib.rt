@@ -17,6 +17,17 @@ ghost use Rattle.block.specs.Blocks.{Testable, IsApplicable, LayerTestable, IsLa
 ghost use Rattle.block.specs.Unmet.{IsUnmet};
 ghost use Rattle.block.specs.Streams.{Addable, SumAt, width_by, Judged, Judgement};
 
+// The mark for unbounded in a layer.
+pub const UNBOUNDED: i64 = i64::MAX;
+
+// The terms of one sum: `count` of them, which stand in the part of their block from offset `from` on.
+#[derive(Clone, Copy)]
+pub struct Terms<'a> {
+    pub part: &'a [u8],
+    pub from: usize,
+    pub count: usize,
+}
+
 // One item, with the offset behind it. The terms of a condition's or an effect's sum stand from `from` on.
 #[derive(Clone, Copy)]
 pub enum ItemAt {
@@ -50,12 +61,6 @@ pub enum ItemAt {
     End,
 }
 
-fn index(x: u8) -> usize
-    ensures { result ≡ x }
-{
-    x as usize
-}
-
 // The number of terms from `at` on, before the command that closes them or has none.
 fn terms_at(part: &[u8], at: usize) -> usize
     requires { (Readable part.now at) × (at < length part.now) }
@@ -77,15 +82,15 @@ fn item_at(part: &[u8], from: usize, terms: usize) -> ItemAt
     let at = from + 4 * terms;
     match part[at] {
         0x50 => ItemAt::Need {
-            prop: index(part[at + 1]),
+            prop: part[at + 1] as usize,
             after: at + 2,
         },
         0x2B => ItemAt::Add {
-            prop: index(part[at + 1]),
+            prop: part[at + 1] as usize,
             after: at + 2,
         },
         0x2D => ItemAt::Delete {
-            prop: index(part[at + 1]),
+            prop: part[at + 1] as usize,
             after: at + 2,
         },
         0x43 => ItemAt::Condition {
@@ -97,7 +102,7 @@ fn item_at(part: &[u8], from: usize, terms: usize) -> ItemAt
         },
         _ => ItemAt::Effect {
             kind: part[at + 1],
-            var: index(part[at + 2]),
+            var: part[at + 2] as usize,
             base: integer::i32_at(part, at + 3),
             from,
             terms,
@@ -118,28 +123,16 @@ pub fn next(part: &[u8], at: usize) -> ItemAt
 }
 
 // The offset behind an item; 0 behind the block's end.
+#[tactic(auto, unfolding(crate::specs::Items::behind))]
 pub fn behind(item: ItemAt) -> usize
     ensures { result ≡ behind item }
 {
     match item {
-        ItemAt::Need { prop: _, after } => after,
-        ItemAt::Add { prop: _, after } => after,
-        ItemAt::Delete { prop: _, after } => after,
-        ItemAt::Condition {
-            comparison: _,
-            bound: _,
-            from: _,
-            terms: _,
-            after,
-        } => after,
-        ItemAt::Effect {
-            kind: _,
-            var: _,
-            base: _,
-            from: _,
-            terms: _,
-            after,
-        } => after,
+        ItemAt::Need { after, .. }
+        | ItemAt::Add { after, .. }
+        | ItemAt::Delete { after, .. }
+        | ItemAt::Condition { after, .. }
+        | ItemAt::Effect { after, .. } => after,
         ItemAt::End => 0,
     }
 }
@@ -149,7 +142,7 @@ pub fn variable(part: &[u8], at: usize) -> usize
     requires { TermAt part.now at }
     ensures { IsVariable part.now at result }
 {
-    index(part[at + 1])
+    part[at + 1] as usize
 }
 
 // The weight of the term at `at`.
@@ -165,22 +158,20 @@ pub fn scaled(part: &[u8], at: usize, x: i64) -> i64
     requires { (TermAt part.now at) × (nat_abs x ≤ largest_value) }
     ensures { IsScaled part.now at x result }
 {
-    integer::mul(x, weight(part, at))
+    weight(part, at) * x
 }
 
-// The sum of the `n` terms from `from` on, over the values of a state.
-pub fn sum_real(part: &[u8], from: usize, n: usize, values: &[i64]) -> i64
-    requires { Summable part.now from n values.now }
-    ensures { IsSum part.now from n values.now result }
+// The sum of these terms over the values of a state.
+pub fn sum_real(terms: &Terms, values: &[i64]) -> i64
+    requires { Summable terms.now.part.now terms.now.from terms.now.count values.now }
+    ensures { IsSum terms.now.part.now terms.now.from terms.now.count values.now result }
 {
     let mut total: i64 = 0;
-    let mut i = 0;
-    while i < n {
-        let at = from + 4 * i;
-        let v = variable(part, at);
+    for i in 0..terms.count {
+        let at = terms.from + 4 * i;
+        let v = variable(terms.part, at);
         let x = values[v];
-        total = integer::add(total, scaled(part, at, x));
-        i += 1;
+        total += scaled(terms.part, at, x);
     }
     total
 }
@@ -189,46 +180,44 @@ pub fn sum_real(part: &[u8], from: usize, n: usize, values: &[i64]) -> i64
 pub fn is_unbounded(x: i64) -> bool
     ensures { result ≡ is_mark x }
 {
-    integer::at_most(9223372036854775807, x)
+    x == UNBOUNDED
 }
 
-// The sum of the `n` terms from `from` on, over the values of a layer.
-pub fn sum_layer(part: &[u8], from: usize, n: usize, layer: &[i64]) -> i64
-    requires { LayerSummable part.now from n layer.now }
-    ensures { IsLayerSum part.now from n layer.now result }
+// The sum of these terms over the values of a layer.
+pub fn sum_layer(terms: &Terms, layer: &[i64]) -> i64
+    requires { LayerSummable terms.now.part.now terms.now.from terms.now.count layer.now }
+    ensures { IsLayerSum terms.now.part.now terms.now.from terms.now.count layer.now result }
 {
     let mut total: i64 = 0;
-    let mut i = 0;
-    while i < n {
-        let at = from + 4 * i;
-        let v = variable(part, at);
+    for i in 0..terms.count {
+        let at = terms.from + 4 * i;
+        let v = variable(terms.part, at);
         let x = layer[v];
         if is_unbounded(x) {
-            return 9223372036854775807;
+            return UNBOUNDED;
         }
-        total = integer::add(total, scaled(part, at, x));
-        i += 1;
+        total += scaled(terms.part, at, x);
     }
     total
 }
 
-// An effect's value in a layer.
-pub fn layer_value(part: &[u8], from: usize, n: usize, base: i64, layer: &[i64]) -> i64
-    requires { (LayerSummable part.now from n layer.now) × (nat_abs base ≤ 1000000) }
-    ensures { IsLayerValue part.now from n base layer.now result }
+// The value in a layer of an effect with these terms and that constant.
+pub fn layer_value(terms: &Terms, base: i64, layer: &[i64]) -> i64
+    requires { (LayerSummable terms.now.part.now terms.now.from terms.now.count layer.now) × (nat_abs base ≤ 1000000) }
+    ensures { IsLayerValue terms.now.part.now terms.now.from terms.now.count base layer.now result }
 {
-    let s = sum_layer(part, from, n, layer);
+    let s = sum_layer(terms, layer);
     if is_unbounded(s) {
-        return 9223372036854775807;
+        return UNBOUNDED;
     }
-    integer::add(s, base)
+    s + base
 }
 
 // Is a layer's value at least `c`?
 pub fn reaches(value: i64, c: i64) -> bool
     ensures { (x : Value) → value ≡ encode x → result ≡ reaches x c }
 {
-    integer::at_most(c, value)
+    c <= value
 }
 
 // Does the sum `total` compare with `c` as the operator of that number says?
@@ -236,20 +225,20 @@ pub fn compare(comparison: u8, total: i64, c: i64) -> bool
     ensures { (o : Comparison) → comparison_code o ≡ comparison → result ≡ compares o total c }
 {
     match comparison {
-        0 => integer::at_most(c, total),
-        1 => integer::less(c, total),
-        2 => integer::at_most(total, c),
-        3 => integer::less(total, c),
-        _ => integer::at_most(c, total) && integer::at_most(total, c),
+        0 => c <= total,
+        1 => c < total,
+        2 => total <= c,
+        3 => total < c,
+        _ => total == c,
     }
 }
 
 // Does the condition, a sum of at least `bound`, hold in a layer?
-pub fn condition_reached(part: &[u8], bound: i64, from: usize, n: usize, layer: &[i64]) -> bool
-    requires { LayerSummable part.now from n layer.now }
-    ensures { IsLayerTest part.now bound from n layer.now result }
+pub fn condition_reached(terms: &Terms, bound: i64, layer: &[i64]) -> bool
+    requires { LayerSummable terms.now.part.now terms.now.from terms.now.count layer.now }
+    ensures { IsLayerTest terms.now.part.now bound terms.now.from terms.now.count layer.now result }
 {
-    reaches(sum_layer(part, from, n, layer), bound)
+    reaches(sum_layer(terms, layer), bound)
 }
 
 // A sum over the values of a state: the number of its terms, and what they add up to.
@@ -270,7 +259,7 @@ pub fn sum_at(part: &[u8], from: usize, values: &[i64]) -> Sum
         let at = from + 4 * n;
         let v = variable(part, at);
         let x = values[v];
-        total = integer::add(total, scaled(part, at, x));
+        total += scaled(part, at, x);
         n += 1;
     }
     Sum { terms: n, total }
@@ -288,14 +277,15 @@ pub fn width(command: u8) -> usize
     }
 }
 
-// Is the command behind the `n` terms from `from` on, which add up to `total`, a condition that fails?
-pub fn fails(part: &[u8], from: usize, n: usize, total: i64, has: &[bool]) -> bool
-    requires { Judged part.now from n total has.now }
-    ensures { Judgement part.now from n total has.now result }
+// Is the command behind these terms, which add up to `total`, a condition that fails?
+pub fn fails(terms: &Terms, total: i64, has: &[bool]) -> bool
+    requires { Judged terms.now.part.now terms.now.from terms.now.count total has.now }
+    ensures { Judgement terms.now.part.now terms.now.from terms.now.count total has.now result }
 {
-    let at = from + 4 * n;
+    let part = terms.part;
+    let at = terms.from + 4 * terms.count;
     match part[at] {
-        0x50 => !has[index(part[at + 1])],
+        0x50 => !has[part[at + 1] as usize],
         0x43 => !compare(part[at + 1], total, integer::i32_at(part, at + 2)),
         _ => false,
     }
@@ -309,12 +299,12 @@ pub fn applicable(part: &[u8], has: &[bool], values: &[i64]) -> bool
     let mut from = 1;
     while from < part.len() {
         let sum = sum_at(part, from, values);
-        let n = sum.terms;
-        let total = sum.total;
-        if fails(part, from, n, total, has) {
+        let count = sum.terms;
+        let terms = Terms { part, from, count };
+        if fails(&terms, sum.total, has) {
             return false;
         }
-        from = from + 4 * n + width(part[from + 4 * n]);
+        from = from + 4 * count + width(part[from + 4 * count]);
     }
     true
 }
@@ -335,19 +325,18 @@ pub fn unmet(part: &[u8], has: &[bool], layer: &[i64]) -> usize
                 }
             }
             ItemAt::Condition {
-                comparison: _,
                 bound,
                 from,
-                terms,
+                terms: count,
                 after,
+                ..
             } => {
-                if !condition_reached(part, bound, from, terms, layer) {
+                let terms = Terms { part, from, count };
+                if !condition_reached(&terms, bound, layer) {
                     return after - 6;
                 }
             }
-            ItemAt::End => {
-                return part.len();
-            }
+            ItemAt::End => return part.len(),
             _ => {}
         }
         at = behind(item);

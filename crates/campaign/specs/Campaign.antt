@@ -1,14 +1,11 @@
 -- From what normalise, decide and plan answer and leave to what `campaign` does.
 -- Assumes nothing.
-use Rattle.std.specs.Prelude.{ℕ, ◌≡◌, refl, List, ℤ, length, take}
+use Rattle.std.specs.Prelude.{ℕ, ◌≡◌, refl, List, ℤ, length, take, Result, Ok, Err}
 use Rattle.std.proofs.Common.{sym, ◌∙◌}
 use Rattle.std.proofs.Math.Path.{ap}
 use Rattle.model.specs.declared.Refusal.{Refusal}
-use Rattle.model.specs.declared.WriteAnswer.TheVariants as write
 use Rattle.model.specs.declared.DecideAnswer.{DecideAnswer}
-use Rattle.model.specs.declared.DecideAnswer.TheVariants as decide
 use Rattle.model.specs.declared.PlanAnswer.{PlanAnswer}
-use Rattle.model.specs.declared.PlanAnswer.TheVariants as plan
 use Rattle.model.specs.Limits.{paper}
 use Rattle.model.specs.Calls.{turns, normalised, normalise_answer, normalise_out, decide_answer, decide_memory, plan_answer, plan_memory, plan_out, on_output, campaign_decision, campaign_plan, campaign_memory, campaign_out}
 use Rattle.model.specs.Theorems.Campaigns.Demand2.{Handed}
@@ -18,7 +15,7 @@ use Rattle.model.specs.Theorems.Campaigns.OneCall.{Promise}
 use Rattle.model.proofs.Theorems.Campaigns.OneCall.{decides_on, plans_on, fills_on, writes_on, campaign_promise}
 
 -- what campaign answers, d and p, and leaves in each memory, as equations, and demand 3 of it
-pub record Done (t bs normal_form : List ℕ) (layers : List ℤ) (out normalFormAfter : List ℕ) (layersAfter : List ℤ) (outAfter : List ℕ) (d : DecideAnswer) (p : PlanAnswer) : Type 0 where
+pub record Done (t bs normal_form : List ℕ) (layers : List ℤ) (out normalFormAfter : List ℕ) (layersAfter : List ℤ) (outAfter : List ℕ) (d : Result DecideAnswer Refusal) (p : Result PlanAnswer Refusal) : Type 0 where
   pub decision : d ≡ campaign_decision paper t bs normal_form layers
   pub plan : p ≡ campaign_plan paper t bs normal_form layers out
   pub normal : normalFormAfter ≡ normalise_out paper t normal_form
@@ -28,7 +25,7 @@ pub record Done (t bs normal_form : List ℕ) (layers : List ℤ) (out normalFor
 
 -- the equations give the promise
 done_by :
-    (t bs normal_form : List ℕ) (layers : List ℤ) (out normalFormAfter : List ℕ) (layersAfter : List ℤ) (outAfter : List ℕ) (d : DecideAnswer) (p : PlanAnswer)
+    (t bs normal_form : List ℕ) (layers : List ℤ) (out normalFormAfter : List ℕ) (layersAfter : List ℤ) (outAfter : List ℕ) (d : Result DecideAnswer Refusal) (p : Result PlanAnswer Refusal)
     → d ≡ campaign_decision paper t bs normal_form layers
     → p ≡ campaign_plan paper t bs normal_form layers out
     → normalFormAfter ≡ normalise_out paper t normal_form
@@ -48,19 +45,19 @@ done_by t bs normal_form layers out normalFormAfter layersAfter outAfter d p ed 
 -- normalise turned back
 pub done_refused :
     (t bs normal_form : List ℕ) (layers : List ℤ) (out normalFormAfter : List ℕ) (r : Refusal)
-    → normalise_answer paper t normal_form ≡ write.Refused r
+    → normalise_answer paper t normal_form ≡ Err r
     → normalFormAfter ≡ normalise_out paper t normal_form
-    → Done t bs normal_form layers out normalFormAfter layers out (decide.Refused r) (plan.Refused r)
+    → Done t bs normal_form layers out normalFormAfter layers out (Err r) (Err r)
 unfolding campaign_decision campaign_plan campaign_memory campaign_out on_output
 done_refused t bs normal_form layers out normalFormAfter r e normal =
     let o : normalised paper t (length normal_form) ≡ turns r = refused_turns t normal_form r e in
-    done_by t bs normal_form layers out normalFormAfter layers out (decide.Refused r) (plan.Refused r)
+    done_by t bs normal_form layers out normalFormAfter layers out (Err r) (Err r)
     (rw o refl) (rw o refl) normal (rw o refl) (rw o refl)
 
 -- decide and plan ran on what normalise wrote
 pub done_written :
-    (t bs normal_form : List ℕ) (layers : List ℤ) (out normalFormAfter part : List ℕ) (layersAfter : List ℤ) (outAfter : List ℕ) (d : DecideAnswer) (p : PlanAnswer) (n : ℕ)
-    → normalise_answer paper t normal_form ≡ write.Written n
+    (t bs normal_form : List ℕ) (layers : List ℤ) (out normalFormAfter part : List ℕ) (layersAfter : List ℤ) (outAfter : List ℕ) (d : Result DecideAnswer Refusal) (p : Result PlanAnswer Refusal) (n : ℕ)
+    → normalise_answer paper t normal_form ≡ Ok n
     → normalFormAfter ≡ normalise_out paper t normal_form
     → part ≡ take n normalFormAfter
     → d ≡ decide_answer paper part bs layers

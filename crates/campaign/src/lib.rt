@@ -6,13 +6,13 @@ ghost use Rattle.model.specs.Limits.{paper};
 ghost use Rattle.model.specs.Calls.{decide_answer, plan_answer, plan_memory, plan_out};
 ghost use Rattle.campaign.specs.Campaign.{Done};
 
-use model::{DecideAnswer, PlanAnswer, WriteAnswer};
+use model::{DecideAnswer, PlanAnswer, Refusal};
 
 // Decide's and plan's answers.
 #[derive(Clone, Copy)]
 pub struct Answers {
-    pub decision: DecideAnswer,
-    pub plan: PlanAnswer,
+    pub decision: Result<DecideAnswer, Refusal>,
+    pub plan: Result<PlanAnswer, Refusal>,
 }
 
 // Decide, then plan, on one layer memory.
@@ -39,13 +39,10 @@ pub fn campaign(
         normal.new layers.new out.new result.decision result.plan }
 {
     match normal::normalise(table, normal) {
-        WriteAnswer::Written(n) => {
-            let len = n as usize;
-            decided_and_planned(&normal[..len], state, layers, out)
-        }
-        WriteAnswer::Refused(r) => Answers {
-            decision: DecideAnswer::Refused(r),
-            plan: PlanAnswer::Refused(r),
+        Ok(n) => decided_and_planned(&normal[..n as usize], state, layers, out),
+        Err(r) => Answers {
+            decision: Err(r),
+            plan: Err(r),
         },
     }
 }

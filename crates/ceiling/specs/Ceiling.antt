@@ -1,15 +1,12 @@
 -- A ceiling on tables and on layer memory (document 02, request 7), and the calls under it: those of `Calls`, with refusal 17 between the
 -- table's checks and all others, and with layer memory used only up to the ceiling's numbers. The rig's ceiling and the full one, which
 -- is none, are two values of one record. Assumes nothing.
-use Rattle.std.specs.Prelude.{ℕ, ◌*◌, Bool, true, false, ◌||◌, List, [], ◌++◌, ltb, ℤ, length, take, drop}
+use Rattle.std.specs.Prelude.{ℕ, ◌*◌, Bool, true, false, ◌||◌, List, [], ◌++◌, ltb, ℤ, length, take, drop, Result, Err}
 use Rattle.std.proofs.Math.Option.{Option, none, some}
 use Rattle.model.specs.declared.Refusal.{Refusal}
-use Rattle.model.specs.declared.ReadAnswer.{ReadAnswer}
-use Rattle.model.specs.declared.WriteAnswer.{WriteAnswer}
+use Rattle.model.specs.declared.Head.{Head as ReadHead}
 use Rattle.model.specs.declared.DecideAnswer.{DecideAnswer}
-use Rattle.model.specs.declared.DecideAnswer.TheVariants as decide
 use Rattle.model.specs.declared.PlanAnswer.{PlanAnswer}
-use Rattle.model.specs.declared.PlanAnswer.TheVariants as plan
 use Rattle.model.specs.Limits.{Limits, paper}
 use Rattle.model.specs.Task.{Form, written, normal}
 use Rattle.model.specs.Seen.{Head}
@@ -65,7 +62,7 @@ behind_of (some n) mem = drop n mem
 -- ---- the calls of `Calls` under a ceiling: "Give it entry calls with these limits beside the five of 01."
 
 -- read
-unfoldable pub read_answer_under : Ceiling → Limits → List ℕ → ReadAnswer
+unfoldable pub read_answer_under : Ceiling → Limits → List ℕ → Result ReadHead Refusal
 read_answer_under C L t = read_of (reading_under C L both t)
 
 -- the block reader
@@ -82,7 +79,7 @@ block_refusal_under C L t b = no_block b (reading_under C L both t)
 unfoldable pub normalised_under : Ceiling → Limits → List ℕ → ℕ → Output
 normalised_under C L t size = fitted size (normal_of (reading_under C L (only written) t))
 
-unfoldable pub normalise_answer_under : Ceiling → Limits → List ℕ → List ℕ → WriteAnswer
+unfoldable pub normalise_answer_under : Ceiling → Limits → List ℕ → List ℕ → Result ℕ Refusal
 normalise_answer_under C L t out = write_answer (normalised_under C L t (length out))
 
 unfoldable pub normalise_out_under : Ceiling → Limits → List ℕ → List ℕ → List ℕ
@@ -92,7 +89,7 @@ normalise_out_under C L t out = output_after (normalised_under C L t (length out
 unfoldable pub stepped_under : Ceiling → Limits → List ℕ → List ℕ → ℕ → ℕ → Output
 stepped_under C L t bs b size = fitted size (step_of L (reading_under C L (only written) t) bs b)
 
-unfoldable pub step_answer_under : Ceiling → Limits → List ℕ → List ℕ → ℕ → List ℕ → WriteAnswer
+unfoldable pub step_answer_under : Ceiling → Limits → List ℕ → List ℕ → ℕ → List ℕ → Result ℕ Refusal
 step_answer_under C L t bs b out = write_answer (stepped_under C L t bs b (length out))
 
 unfoldable pub step_out_under : Ceiling → Limits → List ℕ → List ℕ → ℕ → List ℕ → List ℕ
@@ -102,7 +99,7 @@ step_out_under C L t bs b out = output_after (stepped_under C L t bs b (length o
 unfoldable pub prepared_under : Ceiling → Limits → List ℕ → List ℕ → Ready
 prepared_under C L t bs = ready_of L (reading_under C L (only normal) t) bs
 
-unfoldable pub decide_answer_under : Ceiling → Limits → List ℕ → List ℕ → List ℤ → DecideAnswer
+unfoldable pub decide_answer_under : Ceiling → Limits → List ℕ → List ℕ → List ℤ → Result DecideAnswer Refusal
 decide_answer_under C L t bs mem = decide_of L (length (first_of C.numbers mem)) (prepared_under C L t bs)
 
 unfoldable pub decide_memory_under : Ceiling → Limits → List ℕ → List ℕ → List ℤ → List ℤ
@@ -110,7 +107,7 @@ decide_memory_under C L t bs mem =
     memory_of L (prepared_under C L t bs) (first_of C.numbers mem) ++ behind_of C.numbers mem
 
 -- plan
-unfoldable pub plan_answer_under : Ceiling → Limits → List ℕ → List ℕ → List ℤ → List ℕ → PlanAnswer
+unfoldable pub plan_answer_under : Ceiling → Limits → List ℕ → List ℕ → List ℤ → List ℕ → Result PlanAnswer Refusal
 plan_answer_under C L t bs mem out = plan_of L (length (first_of C.numbers mem)) (length out) (prepared_under C L t bs)
 
 unfoldable pub plan_memory_under : Ceiling → Limits → List ℕ → List ℕ → List ℤ → List ℤ
@@ -120,13 +117,13 @@ unfoldable pub plan_out_under : Ceiling → Limits → List ℕ → List ℕ →
 plan_out_under C L t bs mem out = plan_out_of L (length (first_of C.numbers mem)) (prepared_under C L t bs) out
 
 -- campaign: decide and plan on exactly the bytes that normalise writes
-unfoldable pub campaign_decision_under : Ceiling → Limits → List ℕ → List ℕ → List ℕ → List ℤ → DecideAnswer
+unfoldable pub campaign_decision_under : Ceiling → Limits → List ℕ → List ℕ → List ℕ → List ℤ → Result DecideAnswer Refusal
 campaign_decision_under C L t bs normalOut mem =
-    on_output (normalised_under C L t (length normalOut)) (λ nb. decide_answer_under C L nb bs mem) (λ r. decide.Refused r)
+    on_output (normalised_under C L t (length normalOut)) (λ nb. decide_answer_under C L nb bs mem) (λ r. Err r)
 
-unfoldable pub campaign_plan_under : Ceiling → Limits → List ℕ → List ℕ → List ℕ → List ℤ → List ℕ → PlanAnswer
+unfoldable pub campaign_plan_under : Ceiling → Limits → List ℕ → List ℕ → List ℕ → List ℤ → List ℕ → Result PlanAnswer Refusal
 campaign_plan_under C L t bs normalOut mem out =
-    on_output (normalised_under C L t (length normalOut)) (λ nb. plan_answer_under C L nb bs mem out) (λ r. plan.Refused r)
+    on_output (normalised_under C L t (length normalOut)) (λ nb. plan_answer_under C L nb bs mem out) (λ r. Err r)
 
 unfoldable pub campaign_memory_under : Ceiling → Limits → List ℕ → List ℕ → List ℕ → List ℤ → List ℤ
 campaign_memory_under C L t bs normalOut mem =

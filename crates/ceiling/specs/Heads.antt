@@ -9,7 +9,7 @@ use Rattle.model.specs.Limits.{paper}
 use Rattle.model.specs.Task.{Form, written, normal}
 use Rattle.model.specs.Command.{head, code_of, task_bytes}
 use Rattle.model.specs.Seen.{Head}
-use Rattle.model.specs.Reading.{Table, accepted, refused, Wanted, reading}
+use Rattle.model.specs.Reading.{Table, accepted, Wanted, reading}
 use Rattle.ceiling.specs.Ceiling as ceilings
 use Rattle.model.specs.Theorems.Reading.Accepted.{HeadBytes}
 use Rattle.model.proofs.Theorems.Reading.Accepted.{reading_length, head_bytes_lem}

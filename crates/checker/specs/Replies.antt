@@ -1,13 +1,11 @@
 -- The answer of the checker with what its output holds afterwards: by the goal, by the list, by the checks of state and table.
 -- Assumes nothing.
-use Rattle.std.specs.Prelude.{ℕ, ◌≤◌, ◌≡◌, Bool, List, ℤ, length}
+use Rattle.std.specs.Prelude.{ℕ, ◌≤◌, ◌≡◌, Bool, List, ℤ, length, Result, Ok, Err}
 use Rattle.std.proofs.Math.Path.{refl, sym, ap, ap₂}
 use Rattle.std.proofs.Common.{◌∙◌, subst}
 use Rattle.std.proofs.Math.Bool.{true, false}
 use Rattle.std.proofs.Math.Option.{none, some}
 use Rattle.model.specs.declared.Refusal.{Refusal}
-use Rattle.model.specs.declared.WriteAnswer.{WriteAnswer}
-use Rattle.model.specs.declared.WriteAnswer.TheVariants as write
 use Rattle.model.specs.Limits.{paper}
 use Rattle.model.specs.Task.{written, Block}
 use Rattle.model.specs.Move.{State, applicable}
@@ -36,15 +34,15 @@ use Rattle.transition.specs.Turns.{Read}
 use Rattle.transition.specs.Steps.{put_same}
 
 -- p is the reply, 13 apart
-pub record Replied (p : Reply) (old new : List ℕ) (r : CheckAnswer) : Type 0 where
+pub record Replied (p : Reply) (old new : List ℕ) (r : Result CheckAnswer Refusal) : Type 0 where
   pub answer : r ≡ reply_answer (fitted_reply (length old) p)
   pub output : new ≡ reply_out (fitted_reply (length old) p) old
 
-pub replied_same : {p q : Reply} {old new : List ℕ} {r : CheckAnswer} → Replied p old new r → p ≡ q → Replied q old new r
+pub replied_same : {p q : Reply} {old new : List ℕ} {r : Result CheckAnswer Refusal} → Replied p old new r → p ≡ q → Replied q old new r
 replied_same {old = old} {new} {r} a e = subst (λ (x : Reply). Replied x old new r) e a
 
 -- an answer that is no yes
-pub replied_other : {p : Reply} (old : List ℕ) {a : CheckAnswer} → p ≡ other a → Replied p old old a
+pub replied_other : {p : Reply} (old : List ℕ) {a : Result CheckAnswer Refusal} → p ≡ other a → Replied p old old a
 unfolding fitted_reply reply_answer reply_out
 replied_other old {a} e = replied_same {p = other a} {old = old} (record { answer = refl; output = refl }) (sym e)
 
@@ -65,15 +63,15 @@ pub record Testable (part : List ℕ) (props vars : ℕ) (has : List Bool) (valu
 
 -- the reply in the state after the list, of a task with this goal
 unfoldable pub end_reply : ℕ → ℕ → Block → State → Reply
-end_reply props vars g s = elim (applicable s g) [ true ↦ yes_with (state_bytes props vars s) | false ↦ other check.GoalNotMet ]
+end_reply props vars g s = elim (applicable s g) [ true ↦ yes_with (state_bytes props vars s) | false ↦ other (Ok check.GoalNotMet) ]
 
 -- a yes from the length that is stored, or 13
-unfoldable answer_as : WriteAnswer → CheckAnswer
-answer_as (write.Written n) = check.Yes n
-answer_as (write.Refused r) = check.Refused r
+unfoldable answer_as : Result ℕ Refusal → Result CheckAnswer Refusal
+answer_as (Ok n) = Ok (check.Yes n)
+answer_as (Err r) = Err r
 
 -- in every reading
-pub record Tested (part : List ℕ) (props vars : ℕ) (has : List Bool) (values : List ℤ) (old new : List ℕ) (r : CheckAnswer) : Type 0 where
+pub record Tested (part : List ℕ) (props vars : ℕ) (has : List Bool) (values : List ℤ) (old new : List ℕ) (r : Result CheckAnswer Refusal) : Type 0 where
   pub is : (g : Block) (s : State) → GoalIn part props vars g → Holds props vars has values s → Replied (end_reply props vars g s) old new r
 
 by_output : (old bs : List ℕ) → Replied (yes_with bs) old (output_after (fitted (length old) (writes bs)) old) (answer_as (write_answer (fitted (length old) (writes bs))))
@@ -94,17 +92,17 @@ module _ {part : List ℕ} {props vars : ℕ} {has : List Bool} {values : List �
     goal_applicable {g} {s} l w = q.is (ranges_of props vars) g s l (holds_state w)
 
     -- "goal not met"
-    pub tested_unmet : t ≡ false → Tested part props vars has values old old check.GoalNotMet
+    pub tested_unmet : t ≡ false → Tested part props vars has values old old (Ok check.GoalNotMet)
     unfolding end_reply
     tested_unmet e = record { is = λ g s l w. replied_other old (rw (end_reply, sym (goal_applicable l w) ∙ e) refl) }
 
     -- what is stored, or 13
-    module _ (met : t ≡ true) {new : List ℕ} {a : WriteAnswer} (stored : Answered (writes (state_bytes props vars (state_in has values))) old new a) where
+    module _ (met : t ≡ true) {new : List ℕ} {a : Result ℕ Refusal} (stored : Answered (writes (state_bytes props vars (state_in has values))) old new a) where
       end_is : {g : Block} {s : State} → GoalIn part props vars g → Holds props vars has values s → yes_with (state_bytes props vars (state_in has values)) ≡ end_reply props vars g s
       unfolding end_reply
       end_is l w = ap yes_with (put_same w) ∙ sym (rw (end_reply, sym (goal_applicable l w) ∙ met) refl)
 
-      tested : {r : CheckAnswer} → r ≡ answer_as a → Tested part props vars has values old new r
+      tested : {r : Result CheckAnswer Refusal} → r ≡ answer_as a → Tested part props vars has values old new r
       tested e =
           let bs = state_bytes props vars (state_in has values) in
           record {
@@ -114,11 +112,11 @@ module _ {part : List ℕ} {props vars : ℕ} {has : List Bool} {values : List �
                 (end_is l w);
           }
 
-      pub tested_yes : {n : ℕ} → a ≡ write.Written n → Tested part props vars has values old new (check.Yes n)
+      pub tested_yes : {n : ℕ} → a ≡ Ok n → Tested part props vars has values old new (Ok (check.Yes n))
       unfolding answer_as
       tested_yes e = tested (sym (ap answer_as e))
 
-      pub tested_short : {r : Refusal} → a ≡ write.Refused r → Tested part props vars has values old new (check.Refused r)
+      pub tested_short : {r : Refusal} → a ≡ Err r → Tested part props vars has values old new (Err r)
       unfolding answer_as
       tested_short e = tested (sym (ap answer_as e))
 
@@ -133,7 +131,7 @@ module _ {t marks : List ℕ} {props vars moves : ℕ} (h : Read t marks props v
       ∙ ap₂ (λ (p n : ℕ). check_state paper h.table.task bs ms (state_refusal paper p n bs)) (sym h.props_is) (sym h.vars_is)
 
   -- the state is refused
-  pub reply_state : {q : Refusal} → state_refusal paper props vars bs ≡ some q → check_table paper (reading paper (only written) t) bs ms ≡ other (check.Refused q)
+  pub reply_state : {q : Refusal} → state_refusal paper props vars bs ≡ some q → check_table paper (reading paper (only written) t) bs ms ≡ other (Err q)
   unfolding check_state
   reply_state e = reply_is ∙ ap (check_state paper h.table.task bs ms) e
 
@@ -152,7 +150,7 @@ module _ {t marks : List ℕ} {props vars moves : ℕ} (h : Read t marks props v
       state_refusal paper props vars bs ≡ none
       → {i : ℕ} {f : Fault}
       → FirstFault paper h.table.task (state_of props bs) ms i f
-      → check_table paper (reading paper (only written) t) bs ms ≡ other (check.Fails i f)
+      → check_table paper (reading paper (only written) t) bs ms ≡ other (Ok (check.Fails i f))
   unfolding reply_of
   reply_fails e {i} {f} w = reply_checked e ((fails_exactly paper h.table.task (state_of props bs) ms i f).1 w)
 
@@ -173,7 +171,7 @@ module _ {t marks : List ℕ} {props vars moves : ℕ} (h : Read t marks props v
       by_goal :
           (s : State) (b : Bool)
           → let k = h.table.task in
-          elim b [ true ↦ yes_with (state_bytes k.props k.vars s) | false ↦ other check.GoalNotMet ]
+          elim b [ true ↦ yes_with (state_bytes k.props k.vars s) | false ↦ other (Ok check.GoalNotMet) ]
           ≡ reply_of k (elim b [ true ↦ passes s | false ↦ unmet ])
       by_goal s true = refl
       by_goal s false = refl
@@ -185,12 +183,12 @@ module _ {t marks : List ℕ} {props vars moves : ℕ} (h : Read t marks props v
 
 -- ---- the call
 
-pub reply_table : (t bs ms : List ℕ) {q : Refusal} → reading paper (only written) t ≡ refused q → check_table paper (reading paper (only written) t) bs ms ≡ other (check.Refused q)
+pub reply_table : (t bs ms : List ℕ) {q : Refusal} → reading paper (only written) t ≡ refused q → check_table paper (reading paper (only written) t) bs ms ≡ other (Err q)
 unfolding check_table
 reply_table t bs ms e = ap (λ (v : Verdict). check_table paper v bs ms) e
 
 pub check_replied :
-    (t bs ms : List ℕ) {old new : List ℕ} {r : CheckAnswer}
+    (t bs ms : List ℕ) {old new : List ℕ} {r : Result CheckAnswer Refusal}
     → Replied (check_table paper (reading paper (only written) t) bs ms) old new r
     → (r ≡ check_answer paper t bs ms old) × (new ≡ check_out paper t bs ms old) × CheckRight paper t bs ms old new r
 unfolding check_answer check_out checking

@@ -13,121 +13,67 @@ ghost use Rattle.schedule.specs.Theorems.Answers.{CheckRight};
 ghost use Rattle.transition.specs.Turns.{Read};
 ghost use Rattle.checker.specs.Replies.{Replied, Testable, Tested};
 
-use model::{ReadAnswer, WriteAnswer};
+use model::Refusal;
+use reader::Blocks;
+use real_move::RealState;
 use schedule::CheckAnswer;
-use state::StateCheck;
 use table::Wanted;
-use transition::Walked;
 
 // The answer in the state after the list: "goal not met", or yes with that state.
 fn finish(
     goal: &[u8],
-    has: &[bool; 120],
-    values: &[i64; 16],
+    state: &RealState,
     props: usize,
     vars: usize,
     out: &mut [u8],
-) -> CheckAnswer
-    requires { Testable goal.now props vars has.now values.now }
-    ensures { Tested goal.now props vars has.now values.now out.old out.new result }
+) -> Result<CheckAnswer, Refusal>
+    requires { Testable goal.now props vars state.now.has state.now.values }
+    ensures { Tested goal.now props vars state.now.has state.now.values out.old out.new result }
 {
-    if !block::applicable(goal, has, values) {
-        return CheckAnswer::GoalNotMet;
+    if !block::applicable(goal, &state.has, &state.values) {
+        return Ok(CheckAnswer::GoalNotMet);
     }
-    match transition::put_state(has, values, props, vars, out) {
-        WriteAnswer::Written(length) => CheckAnswer::Yes { length },
-        WriteAnswer::Refused(r) => CheckAnswer::Refused(r),
-    }
+    let length = transition::put_state(state, props, vars, out)?;
+    Ok(CheckAnswer::Yes { length })
 }
 
 // Runs the list from an accepted state.
 fn follow(
-    table: &[u8],
-    marks: &[usize; 66],
-    props: usize,
-    vars: usize,
-    moves: usize,
+    blocks: &Blocks,
     state: &[u8],
     list: &[u8],
     out: &mut [u8],
-) -> CheckAnswer
-    requires { (Read table.now marks.now props vars moves) × (state_refusal paper props vars state.now ≡ none) }
-    ensures { Replied (check_table paper (reading paper (only written) table.now) state.now list.now) out.old out.new result }
+) -> Result<CheckAnswer, Refusal>
+    requires { (Read blocks.now.table.now blocks.now.marks.now blocks.now.props blocks.now.vars blocks.now.moves) × (state_refusal paper blocks.now.props blocks.now.vars state.now ≡ none) }
+    ensures { Replied (check_table paper (reading paper (only written) blocks.now.table.now) state.now list.now) out.old out.new result }
 {
-    let mut has = [false; 120];
-    let mut values = [0; 16];
-    match transition::walk(
-        table,
-        marks,
-        props,
-        vars,
-        moves,
-        state,
-        list,
-        &mut has,
-        &mut values,
-    ) {
-        Walked::Ended => finish(
-            reader::part(table, marks, moves),
-            &has,
-            &values,
-            props,
-            vars,
-            out,
-        ),
-        Walked::Stopped { index, fault } => CheckAnswer::Fails {
-            index: index as u64,
-            fault,
-        },
-    }
-}
-
-// Checks the state, and runs the list from it.
-fn checked(
-    table: &[u8],
-    marks: &[usize; 66],
-    props: usize,
-    vars: usize,
-    moves: usize,
-    state: &[u8],
-    list: &[u8],
-    out: &mut [u8],
-) -> CheckAnswer
-    requires { Read table.now marks.now props vars moves }
-    ensures { Replied (check_table paper (reading paper (only written) table.now) state.now list.now) out.old out.new result }
-{
-    match state::check(state, props, vars) {
-        StateCheck::Accepted => follow(table, marks, props, vars, moves, state, list, out),
-        StateCheck::Refused(r) => CheckAnswer::Refused(r),
+    match transition::walk(blocks, state, list) {
+        Ok(after) => {
+            let goal = blocks.part(blocks.moves);
+            finish(goal, &after, blocks.props, blocks.vars, out)
+        }
+        Err(stop) => Ok(CheckAnswer::Fails {
+            index: stop.index as u64,
+            fault: stop.fault,
+        }),
     }
 }
 
 // Checks a list of move bytes against a written table and a state: yes with the end state, the first entry that cannot be made, "goal not
 // met", or why the call turns back. A yes means that the list solves the table with all its values in range (`CheckRight`).
-pub fn check(table: &[u8], state: &[u8], list: &[u8], out: &mut [u8]) -> CheckAnswer
+pub fn check(
+    table: &[u8],
+    state: &[u8],
+    list: &[u8],
+    out: &mut [u8],
+) -> Result<CheckAnswer, Refusal>
     ensures { (result ≡ check_answer paper table.now state.now list.now out.old)
         × (out.new ≡ check_out paper table.now state.now list.now out.old)
         × CheckRight paper table.now state.now list.now out.old out.new result }
 {
     let mut marks = [0; 66];
-    match table::outline(table, Wanted::Written, &mut marks) {
-        ReadAnswer::Head {
-            kind: _,
-            props,
-            vars,
-            moves,
-        } => {
-            checked(
-                table,
-                &marks,
-                props as usize,
-                vars as usize,
-                moves as usize,
-                state,
-                list,
-                out,
-            )
-        }
-        ReadAnswer::Refused(r) => CheckAnswer::Refused(r),
-    }
+    let head = table::outline(table, Wanted::Written, &mut marks)?;
+    let blocks = Blocks::new(table, &marks, head);
+    state::check(state, blocks.props, blocks.vars)?;
+    follow(&blocks, state, list, out)
 }

@@ -12,10 +12,7 @@ fn live_predecessor(edges: &[bool; 1024], alive: &[bool; 32], var: usize, u: usi
     requires { (var < 32) × (u < 32) }
     ensures { result ≡ live_predecessor edges.now alive.now var u }
 {
-    if edges[u * 32 + var] {
-        return alive[u];
-    }
-    false
+    edges[u * 32 + var] && alive[u]
 }
 
 // Is one of the `n` variables alive, with an edge to `var`?
@@ -23,12 +20,10 @@ fn has_live_predecessor(edges: &[bool; 1024], alive: &[bool; 32], var: usize, n:
     requires { (var < 32) × (n ≤ 32) }
     ensures { result ≡ any_below (live_predecessor edges.now alive.now var) n }
 {
-    let mut u = 0;
-    while u < n {
+    for u in 0..n {
         if live_predecessor(edges, alive, var, u) {
             return true;
         }
-        u += 1;
     }
     false
 }
@@ -38,11 +33,9 @@ fn prune(edges: &[bool; 1024], alive: &[bool; 32], n: usize) -> [bool; 32]
     requires { n ≤ 32 }
     ensures { (length result ≡ 32) × ((v : ℕ) → v < n → alive_at result v ≡ kept edges.now alive.now n v) }
 {
-    let mut next = all_alive();
-    let mut var = 0;
-    while var < n {
+    let mut next = [true; 32];
+    for var in 0..n {
         next[var] = alive[var] && has_live_predecessor(edges, alive, var, n);
-        var += 1;
     }
     next
 }
@@ -52,20 +45,7 @@ fn any_alive(alive: &[bool; 32], n: usize) -> bool
     requires { n ≤ 32 }
     ensures { result ≡ any_below (alive_at alive.now) n }
 {
-    let mut var = 0;
-    while var < n {
-        if alive[var] {
-            return true;
-        }
-        var += 1;
-    }
-    false
-}
-
-fn all_alive() -> [bool; 32]
-    ensures { result ≡ replicate 32 true }
-{
-    [true; 32]
+    alive[..n].iter().any(|a| *a)
 }
 
 // Check 7: "the edges have no circle".
@@ -73,14 +53,12 @@ pub fn circular(edges: &[bool; 1024], n: usize) -> bool
     requires { n ≤ 32 }
     ensures { result ≡ circular_in edges.now n }
 {
-    let mut alive = all_alive();
-    let mut rounds = 0;
-    while rounds < n {
+    let mut alive = [true; 32];
+    for round in 0..n {
         if !any_alive(&alive, n) {
             return false;
         }
         alive = prune(edges, &alive, n);
-        rounds += 1;
     }
     any_alive(&alive, n)
 }

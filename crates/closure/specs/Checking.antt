@@ -1,21 +1,32 @@
--- What the loops over windows and durations know: faults by a test of each, and a walk that writes. Assumes nothing.
-use Rattle.std.specs.Prelude.{ℕ, zero, suc, ◌+◌, ◌<◌, ◌≡◌, Bool, true, false, List, T}
+-- What the loops over windows and durations know: faults by a test of each. Assumes nothing.
+use Rattle.std.specs.Prelude.{ℕ, zero, suc, ◌+◌, ◌*◌, ◌/◌, ◌%◌, ◌≤◌, ◌<◌, ◌≡◌, min, Bool, true, false, List, T, Option as Maybe, Some, None, MatchOption}
 use Rattle.std.proofs.Common.{arith, sym, ◌∙◌}
 use Rattle.std.proofs.Math.Path.{refl, ap}
 use Rattle.std.proofs.Math.Option.{Option, none, some}
 use Rattle.model.specs.Calls.{Output, turns}
 use Rattle.model.proofs.Theorems.Laws.Booleans.{false_not, clash}
-use Rattle.closure.specs.declared.Fault.{Fault}
-use Rattle.closure.specs.declared.Fault.TheVariants as fault
-use Rattle.placement.specs.Day.{paper_day, window_at, wrong_window, wrong_duration, first_window, first_duration}
+use Rattle.placement.specs.Day.{paper_day, window_at, pieces, wrong_window, wrong_duration, first_window, first_duration}
 use Rattle.placement.specs.Placing.{checked}
 use Rattle.placement.specs.Theorems.Checks.{WindowOk, WindowsOk, DurationOk, DurationsOk}
-use Rattle.placement.proofs.Theorems.Checks.{same_test, right_window, wrong_window_lem, windows_cases, right_duration, wrong_duration_holds, durations_cases}
+use Rattle.std.proofs.lemmas.Grind.{div_ceil_times}
+use Rattle.placement.proofs.Theorems.Checks.{begins_piece, pieces_end, same_test, right_window, wrong_window_lem, windows_cases, right_duration, wrong_duration_holds, durations_cases}
 use Rattle.placement.specs.Theorems.Answers.{DayOk}
 
-unfoldable pub fault_of : Fault → Option ℕ
-fault_of (fault.At i) = some i
-fault_of fault.Nothing = none
+-- the number of the first window or duration at fault, if any
+unfoldable pub fault_of : Maybe ℕ → Option ℕ
+fault_of (Some i) = some i
+fault_of None = none
+
+-- how many there are: the bytes over the size of one, rounded up
+pub count_pieces : (size n : ℕ) → 0 < size → n / size + min 1 (n % size) ≡ pieces size n
+count_pieces size n some_size = let h = div_ceil_times n size some_size in go (n / size + min 1 (n % size)) h.0 h.1
+  where
+    go : (q : ℕ) → n ≤ q * size → q * size < n + size → q ≡ pieces size n
+    go zero least most = let e : pieces size n ≤ 0 = pieces_end size n some_size 0 (omega arith) in omega arith
+    go (suc q) least most =
+        let e : pieces size n ≤ suc q = pieces_end size n some_size (suc q) (omega arith) in
+        let f : q < pieces size n = begins_piece size n some_size q (omega arith) in
+        omega arith
 
 -- ---- one window, one duration
 
@@ -60,9 +71,9 @@ overlap {ws} {i} {before} s ok h = go i refl
 -- ---- the first fault of the day
 
 -- a fault is refused as a window's or as a duration's; without one both lists are as they should be
-abbrev pub FirstFault : List ℕ → List ℕ → Fault → Type 0
-FirstFault ws ds (fault.At i) = (rest : Output) → checked (first_window paper_day ws) (first_duration paper_day ds) rest ≡ turns (record { number = 18; place = i })
-FirstFault ws ds fault.Nothing = DayOk paper_day ws ds × ((rest : Output) → checked (first_window paper_day ws) (first_duration paper_day ds) rest ≡ rest)
+abbrev pub FirstFault : List ℕ → List ℕ → Maybe ℕ → Type 0
+FirstFault ws ds (Some i) = (rest : Output) → checked (first_window paper_day ws) (first_duration paper_day ds) rest ≡ turns (record { number = 18; place = i })
+FirstFault ws ds None = DayOk paper_day ws ds × ((rest : Output) → checked (first_window paper_day ws) (first_duration paper_day ds) rest ≡ rest)
 
 some_none : {i : ℕ} → some i ≡ none → ⊥
 some_none e = clash cc
@@ -77,13 +88,23 @@ durations_right ds e =
 
 module _ (ws ds : List ℕ) where
   -- a window is at fault
-  pub fault_window : {i : ℕ} → some i ≡ first_window paper_day ws → FirstFault ws ds (fault.At i)
+  pub fault_window : {i : ℕ} → some i ≡ first_window paper_day ws → FirstFault ws ds (Some i)
   unfolding checked
   fault_window e = λ rest. ap (λ (o : Option ℕ). checked o (first_duration paper_day ds) rest) (sym e)
 
   -- no window is: the durations tell
-  pub fault_duration : (r : Fault) → none ≡ first_window paper_day ws → fault_of r ≡ first_duration paper_day ds → FirstFault ws ds r
+  pub fault_duration : (r : Maybe ℕ) → none ≡ first_window paper_day ws → fault_of r ≡ first_duration paper_day ds → FirstFault ws ds r
   unfolding checked fault_of
-  fault_duration (fault.At i) e f = λ rest. rw (← e, ← f) refl
-  fault_duration fault.Nothing e f =
+  fault_duration (Some i) e f = λ rest. rw (← e, ← f) refl
+  fault_duration None e f =
       (record { windows = windows_right ws e; durations = durations_right ds f }, λ rest. rw (← e, ← f) refl)
+
+  -- the windows are looked through, and the durations where no window is at fault
+  pub fault_first :
+      (o r : Maybe ℕ)
+      → fault_of o ≡ first_window paper_day ws
+      → MatchOption o (fault_of r ≡ first_duration paper_day ds) (λ i. r ≡ Some i)
+      → FirstFault ws ds r
+  unfolding fault_of
+  fault_first (Some i) r e f = rw f (fault_window e)
+  fault_first None r e f = fault_duration r e f

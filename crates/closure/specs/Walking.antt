@@ -1,5 +1,6 @@
 -- The walk over the bytes of an accepted day, writing each start as it goes (`Theorems.Walk` has the walk itself). Assumes nothing.
-use Rattle.std.specs.Prelude.{ℕ, suc, ◌+◌, ◌-◌, ◌*◌, ◌≤◌, ◌<◌, ◌≡◌, refl, List, [], ◌∷◌, ◌++◌}
+use Rattle.std.specs.Prelude.{ℕ, suc, ◌+◌, ◌-◌, ◌*◌, ◌≤◌, ◌<◌, ◌≡◌, refl, List, [], ◌∷◌, ◌++◌, Result, Ok, Err, cond, leb, max}
+use Rattle.std.proofs.lemmas.Bool.Decides.{nat_tests}
 use Rattle.std.proofs.Common.{add-one, arith, sym, ◌∙◌, length-append}
 use Rattle.std.proofs.Math.Path.{ap}
 use Rattle.std.proofs.Math.ListN.{length}
@@ -8,8 +9,6 @@ use Rattle.integer.proofs.BigEndian.{length_bytes}
 use Rattle.output.specs.Writing.{Written, written_none, written_join, written_same}
 use Rattle.model.specs.Lists.{tabulate}
 use Rattle.model.proofs.Theorems.Laws.Searching.{length_tabulate}
-use Rattle.closure.specs.declared.Walked.{Walked}
-use Rattle.closure.specs.declared.Walked.TheVariants as walked
 use Rattle.placement.specs.Day.{Window, paper_day, window_at, duration_at, pieces, windows_of, durations_of}
 use Rattle.placement.specs.Placing.{start_in, placed, stuck, start_bytes, day_placed}
 use Rattle.placement.proofs.Theorems.Earliest.{start_most}
@@ -19,6 +18,10 @@ use Rattle.placement.specs.Theorems.Answers.{DayOk}
 use Rattle.placement.proofs.Theorems.Starts.{starts_one}
 use Rattle.placement.specs.Theorems.Walk.{Walk, begin, place, leave}
 use Rattle.placement.proofs.Theorems.Walk.{walk_turns, walk_placed, walk_stuck}
+
+-- the larger of two minutes
+pub larger : (a b : ℕ) → max a b ≡ cond (leb a b) b a
+larger a b = grind (arith, nat_tests)
 
 -- what is left from number i on, of n
 abbrev left_of : {A : Type 0} → (ℕ → A) → ℕ → ℕ → List A
@@ -89,9 +92,9 @@ pub record Stopped (ws ds : List ℕ) (i : ℕ) : Type 0 where
   pub pass : OnePass ws ds starts from
 
 -- what becomes of the list
-abbrev pub Walks : List ℕ → List ℕ → List ℕ → List ℕ → Walked → Type 0
-Walks ws ds old new (walked.Placed end) = Wrote ws ds old new end
-Walks ws ds old new (walked.Stuck i) = Stopped ws ds i
+abbrev pub Walks : List ℕ → List ℕ → List ℕ → List ℕ → Result ℕ ℕ → Type 0
+Walks ws ds old new (Ok end) = Wrote ws ds old new end
+Walks ws ds old new (Err i) = Stopped ws ds i
 
 module _ {ws ds : List ℕ} (day : DayOk paper_day ws ds) {old : List ℕ} {from shut w i : ℕ} {new : List ℕ} (s : Walking ws ds old from shut w i new) where
   one_pass : OnePass ws ds s.starts from

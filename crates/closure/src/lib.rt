@@ -2,7 +2,7 @@
 // as early as can be, and writes their starts.
 #![tactic(auto)]
 
-ghost use Rattle.std.specs.Prelude.{◌≡◌, ◌+◌, ◌*◌, ◌^◌, ◌<◌, ◌≤◌, cond, leb, length};
+ghost use Rattle.std.specs.Prelude.{◌≡◌, ◌+◌, ◌*◌, ◌^◌, ◌<◌, ◌≤◌, length};
 ghost use Rattle.placement.specs.Day.{paper_day, minute_at, wrong_window, wrong_duration, first_window, first_duration};
 ghost use Rattle.placement.specs.Placing.{starts_of, day_placed, place_answer, place_out};
 ghost use Rattle.placement.specs.Theorems.Answers.{DayOk, PlaceRight};
@@ -10,22 +10,8 @@ ghost use Rattle.closure.specs.Checking.{fault_of, ShutBefore, FirstFault};
 ghost use Rattle.closure.specs.Walking.{Walks};
 ghost use Rattle.closure.specs.Filling.{Filled};
 
-use model::Refusal;
-use placement::PlaceAnswer;
-
-// The number of the first window or duration at fault.
-#[derive(Clone, Copy)]
-enum Fault {
-    At(usize),
-    Nothing,
-}
-
-// What becomes of a list: the minute at which its last entry ends, or the number of the first entry for which there is no room.
-#[derive(Clone, Copy)]
-enum Walked {
-    Placed(u64),
-    Stuck(usize),
-}
+use model::{Reason, Refusal};
+use placement::Placed;
 
 // The minute in the four bytes from `at` on.
 fn minute_at(s: &[u8], at: usize) -> u64
@@ -40,37 +26,26 @@ fn wrong_window(windows: &[u8], i: usize, before: u64) -> bool
     requires { (8 * i < length windows.now) × ShutBefore windows.now i before }
     ensures { result ≡ wrong_window paper_day windows.now i }
 {
-    if i >= 64 {
-        return true;
-    }
-    if windows.len() - 8 * i < 8 {
+    if i >= 64 || windows.len() - 8 * i < 8 {
         return true;
     }
     let opening = minute_at(windows, 8 * i);
     let shutting = minute_at(windows, 8 * i + 4);
-    if shutting <= opening {
-        return true;
-    }
-    if shutting > 1000000 {
-        return true;
-    }
-    opening < before
+    shutting <= opening || shutting > 1000000 || opening < before
 }
 
 // The first window at fault.
-fn first_window(windows: &[u8]) -> Fault
+fn first_window(windows: &[u8]) -> Option<usize>
     ensures { fault_of result ≡ first_window paper_day windows.now }
 {
-    let mut i = 0;
     let mut before = 0;
-    while 8 * i < windows.len() {
+    for i in 0..windows.len().div_ceil(8) {
         if wrong_window(windows, i, before) {
-            return Fault::At(i);
+            return Some(i);
         }
         before = minute_at(windows, 8 * i + 4);
-        i += 1;
     }
-    Fault::Nothing
+    None
 }
 
 // Are the minutes of entry `i` cut short, 0, or more than 1,440?
@@ -82,50 +57,32 @@ fn wrong_duration(durations: &[u8], i: usize) -> bool
         return true;
     }
     let minutes = minute_at(durations, 4 * i);
-    if minutes == 0 {
-        return true;
-    }
-    minutes > 1440
+    minutes == 0 || minutes > 1440
 }
 
 // The first duration at fault.
-fn first_duration(durations: &[u8]) -> Fault
+fn first_duration(durations: &[u8]) -> Option<usize>
     ensures { fault_of result ≡ first_duration paper_day durations.now }
 {
-    let mut i = 0;
-    while 4 * i < durations.len() {
+    for i in 0..durations.len().div_ceil(4) {
         if wrong_duration(durations, i) {
-            return Fault::At(i);
+            return Some(i);
         }
-        i += 1;
     }
-    Fault::Nothing
+    None
 }
 
 // The first fault of the day, windows before durations.
-fn first_fault(windows: &[u8], durations: &[u8]) -> Fault
+fn first_fault(windows: &[u8], durations: &[u8]) -> Option<usize>
     ensures { FirstFault windows.now durations.now result }
 {
-    let wrong = first_window(windows);
-    match wrong {
-        Fault::At(i) => Fault::At(i),
-        Fault::Nothing => first_duration(durations),
-    }
-}
-
-// The larger of two minutes.
-fn later(a: u64, b: u64) -> u64
-    ensures { result ≡ cond (leb a b) b a }
-{
-    if a <= b {
-        return b;
-    }
-    a
+    first_window(windows).or_else(|| first_duration(durations))
 }
 
 // Places the entries of an accepted day in one pass over windows and entries together, and writes each start that fits whole. It stands at
-// minute `from` in a window that shuts at `shut`: before the first window there is no time.
-fn walk(windows: &[u8], durations: &[u8], out: &mut [u8]) -> Walked
+// minute `from` in a window that shuts at `shut`: before the first window there is no time. The minute at which the last entry ends, or the
+// number of the first entry for which there is no room.
+fn walk(windows: &[u8], durations: &[u8], out: &mut [u8]) -> Result<u64, usize>
     requires { DayOk paper_day windows.now durations.now }
     ensures { Walks windows.now durations.now out.old out.new result }
 {
@@ -141,53 +98,42 @@ fn walk(windows: &[u8], durations: &[u8], out: &mut [u8]) -> Walked
             i += 1;
         } else {
             if 8 * w >= windows.len() {
-                return Walked::Stuck(i);
+                return Err(i);
             }
-            from = later(from, minute_at(windows, 8 * w));
+            from = from.max(minute_at(windows, 8 * w));
             shut = minute_at(windows, 8 * w + 4);
             w += 1;
         }
     }
-    Walked::Placed(from)
-}
-
-fn refused(number: u64, place: u64) -> PlaceAnswer
-    ensures { result ≡ PlaceAnswer.Refused (record { number = number; place = place }) }
-{
-    PlaceAnswer::Refused(Refusal { number, place })
+    Ok(from)
 }
 
 // Places the entries of an accepted day and writes their starts. A first walk, over no bytes, tells whether all of them have room: "13 for a
 // short output last".
-fn fill(windows: &[u8], durations: &[u8], out: &mut [u8]) -> PlaceAnswer
+fn fill(windows: &[u8], durations: &[u8], out: &mut [u8]) -> Result<Placed, Refusal>
     requires { DayOk paper_day windows.now durations.now }
     ensures { Filled windows.now durations.now (starts_of (day_placed windows.now durations.now)) out.old out.new result }
 {
-    let mut nothing: [u8; 0] = [];
-    match walk(windows, durations, &mut nothing) {
-        Walked::Stuck(i) => refused(19, i as u64),
-        Walked::Placed(end) => {
-            if out.len() < durations.len() {
-                return refused(13, 0);
-            }
-            walk(windows, durations, out);
-            PlaceAnswer::Placed {
-                end,
-                length: durations.len() as u64,
-            }
-        }
+    let end = walk(windows, durations, &mut []).map_err(|i| Reason::NoPlacement.at(i))?;
+    if out.len() < durations.len() {
+        return Err(Reason::OutputTooShort.at(0));
     }
+    let _ = walk(windows, durations, out);
+    Ok(Placed {
+        end,
+        length: durations.len() as u64,
+    })
 }
 
 // Places a list in the windows of a closure day and writes each entry's start: the end minute, or why the call turns back. In every other
 // placement of the list no entry starts earlier (`PlaceRight`).
-pub fn place(windows: &[u8], durations: &[u8], out: &mut [u8]) -> PlaceAnswer
+pub fn place(windows: &[u8], durations: &[u8], out: &mut [u8]) -> Result<Placed, Refusal>
     ensures { (result ≡ place_answer paper_day windows.now durations.now out.old)
         × (out.new ≡ place_out paper_day windows.now durations.now out.old)
         × PlaceRight paper_day windows.now durations.now out.old out.new result }
 {
-    match first_fault(windows, durations) {
-        Fault::At(i) => refused(18, i as u64),
-        Fault::Nothing => fill(windows, durations, out),
+    if let Some(i) = first_fault(windows, durations) {
+        return Err(Reason::WrongDay.at(i));
     }
+    fill(windows, durations, out)
 }

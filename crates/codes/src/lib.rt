@@ -12,8 +12,8 @@ ghost use Rattle.schedule.specs.Exports.{check_code, check_index};
 ghost use Rattle.schedule.specs.Theorems.Codes.{CheckSmall};
 ghost use Rattle.codes.specs.Parts.{part_code};
 
-use model::{BlockingAnswer, DecideAnswer, PlanAnswer, ReadAnswer, Refusal, WriteAnswer};
-use placement::PlaceAnswer;
+use model::{DecideAnswer, Head, PlanAnswer, Refusal};
+use placement::Placed;
 use schedule::CheckAnswer;
 
 // Bits 32 to 63 the refusal's number, bits 0 to 31 its place.
@@ -24,101 +24,93 @@ fn refusal_code(r: Refusal) -> u64
     r.number * 4294967296 + r.place
 }
 
-fn head_code(kind: u64, props: u64, vars: u64, moves: u64) -> u64
-    requires { (kind < 256) × (props < 256) × (vars < 256) × (moves < 256) }
-    ensures { result ≡ read_code (ReadAnswer.Head kind props vars moves) }
-{
-    kind * 16777216 + props * 65536 + vars * 256 + moves
-}
-
-pub fn read_code(a: ReadAnswer) -> u64
+pub fn read_code(a: Result<Head, Refusal>) -> u64
     requires { ReadSmall a }
     ensures { result ≡ read_code a }
 {
     match a {
-        ReadAnswer::Head {
-            kind,
-            props,
-            vars,
-            moves,
-        } => head_code(kind, props, vars, moves),
-        ReadAnswer::Refused(r) => refusal_code(r),
+        Ok(h) => h.kind * 16777216 + h.props * 65536 + h.vars * 256 + h.moves,
+        Err(r) => refusal_code(r),
     }
 }
 
-pub fn write_code(a: WriteAnswer) -> u64
+pub fn write_code(a: Result<u64, Refusal>) -> u64
     requires { WriteSmall result_limit a }
     ensures { result ≡ write_code a }
 {
     match a {
-        WriteAnswer::Written(n) => n,
-        WriteAnswer::Refused(r) => refusal_code(r),
+        Ok(n) => n,
+        Err(r) => refusal_code(r),
     }
 }
 
-pub fn decide_code(a: DecideAnswer) -> u64
+pub fn decide_code(a: Result<DecideAnswer, Refusal>) -> u64
     requires { DecideSmall a }
     ensures { result ≡ decide_code a }
 {
     match a {
-        DecideAnswer::Plan { layer: _, layers } => layers,
-        DecideAnswer::NoPlan { layers } => 2147483648 + layers,
-        DecideAnswer::Refused(r) => refusal_code(r),
+        Ok(DecideAnswer::Plan { layers, .. }) => layers,
+        Ok(DecideAnswer::NoPlan { layers }) => 2147483648 + layers,
+        Err(r) => refusal_code(r),
     }
 }
 
-pub fn plan_code(a: PlanAnswer, records: &mut u64, first: &mut u64) -> u64
+pub fn plan_code(a: Result<PlanAnswer, Refusal>, records: &mut u64, first: &mut u64) -> u64
     requires { PlanSmall a }
     ensures { (result ≡ plan_code a) × (records.new ≡ plan_record_count a records.old)
         × (first.new ≡ plan_first_moves a first.old) }
 {
     match a {
-        PlanAnswer::Plan {
-            layer: _,
-            layers,
-            records: n,
-            first_moves: set,
-        } => {
+        Ok(
+            PlanAnswer::Plan {
+                layers,
+                records: n,
+                first_moves: set,
+                ..
+            },
+        ) => {
             *records = n;
             *first = set;
             layers
         }
-        PlanAnswer::NoPlan {
-            layers,
-            records: n,
-            first_moves: set,
-        } => {
+        Ok(
+            PlanAnswer::NoPlan {
+                layers,
+                records: n,
+                first_moves: set,
+            },
+        ) => {
             *records = n;
             *first = set;
             2147483648 + layers
         }
-        PlanAnswer::Refused(r) => refusal_code(r),
+        Err(refusal) => refusal_code(refusal),
     }
 }
 
-pub fn blocking_code(a: BlockingAnswer) -> u64
+pub fn blocking_code(a: Result<Option<u64>, Refusal>) -> u64
     requires { BlockingSmall a }
     ensures { result ≡ blocking_code a }
 {
     match a {
-        BlockingAnswer::Blocks { offset } => offset,
-        BlockingAnswer::Nothing => 0,
-        BlockingAnswer::Refused(r) => refusal_code(r),
+        Ok(Some(offset)) => offset,
+        Ok(None) => 0,
+        Err(r) => refusal_code(r),
     }
 }
 
 // The length is written in an answer only, and the place in a refusal only.
-pub fn place_code(a: PlaceAnswer, length: &mut u64, place: &mut u64) -> u64
+pub fn place_code(a: Result<Placed, Refusal>, length: &mut u64, place: &mut u64) -> u64
     requires { PlaceSmall a }
     ensures { (result ≡ place_code a) × (length.new ≡ place_length a length.old)
         × (place.new ≡ place_place a place.old) }
 {
     match a {
-        PlaceAnswer::Placed { end, length: n } => {
+        Ok(Placed { end, length: n }) => {
             *length = n;
             end
         }
-        PlaceAnswer::Refused(r) => {
+        Err(r) => {
             *place = r.place;
             refusal_code(Refusal {
                 number: r.number,
@@ -129,18 +121,18 @@ pub fn place_code(a: PlaceAnswer, length: &mut u64, place: &mut u64) -> u64
 }
 
 // Bit 31 tells an answer that is no yes; the index is written with a fault only.
-pub fn check_code(a: CheckAnswer, index: &mut u64) -> u64
+pub fn check_code(a: Result<CheckAnswer, Refusal>, index: &mut u64) -> u64
     requires { CheckSmall a }
     ensures { (result ≡ check_code a) × (index.new ≡ check_index a index.old) }
 {
     match a {
-        CheckAnswer::Yes { length } => length,
-        CheckAnswer::Fails { index: i, fault } => {
+        Ok(CheckAnswer::Yes { length }) => length,
+        Ok(CheckAnswer::Fails { index: i, fault }) => {
             *index = i;
             2147483648 + schedule::fault_number(fault)
         }
-        CheckAnswer::GoalNotMet => 2147483648,
-        CheckAnswer::Refused(r) => refusal_code(r),
+        Ok(CheckAnswer::GoalNotMet) => 2147483648,
+        Err(r) => refusal_code(r),
     }
 }
 

@@ -1,23 +1,13 @@
 -- Checks 3, 6 and 16 of one command over what the code keeps. Assumes nothing.
-use Rattle.std.specs.Prelude.{ℕ, ◌≤◌, ◌<◌, ◌≡◌, Bool, ◌&&◌, ◌||◌, not, ltb, leb}
+use Rattle.std.specs.Prelude.{ℕ, ◌≡◌, Bool, ◌&&◌, ◌||◌, not, ltb, leb}
 use Rattle.std.proofs.Math.Path.{refl}
 use Rattle.std.proofs.Math.Bool.{true, false}
-use borrow.Author.Tests.{le-leb, lt-leb}
 use Rattle.model.specs.Command.{Command, head, open_move, open_goal, end_table, need_prop, add_prop, delete_prop, term, close_condition, close_effect, unknown, Place, start, preamble, in_move, in_goal, finished, order, in_place, after_term}
 use Rattle.model.specs.Reading.{Wanted, head_wanted, checks16}
 
 -- is the place one of those from the first to the last
 unfoldable pub lies_in : Place → Place → Place → Bool
 lies_in first last p = leb (order first) (order p) && leb (order p) (order last)
-
-module _ (f l p : Place) {a b d : ℕ} (ea : a ≡ order p) (eb : b ≡ order f) (ed : d ≡ order l) where
-  pub lies_behind : b ≤ a → leb a d ≡ lies_in f l p
-  unfolding lies_in
-  lies_behind h = rw (← ea, ← eb, ← ed, le-leb b a h) refl
-
-  pub lies_before : a < b → false ≡ lies_in f l p
-  unfolding lies_in
-  lies_before h = rw (← ea, ← eb, lt-leb b a h) refl
 
 -- a command stands in the places from the first to the last, if it does at each of the five
 pub stands_within :
@@ -87,26 +77,3 @@ closes_idle w p active term = false
 closes_idle w p active close_condition = false
 closes_idle w p active close_effect = false
 closes_idle w p active unknown = false
-
--- the three ways through it
-module _ (w : Wanted) (p : Place) where
-  pub unfinished_active : (a : Bool) → a ≡ true → false ≡ unfinished w p a
-  unfolding unfinished
-  unfinished_active a e = rw e (go (checks16 w) (lies_in in_move in_move p))
-    where
-      go : (x y : Bool) → false ≡ (x && y && false)
-      go true true = refl
-      go true false = refl
-      go false y = refl
-
-  pub unfinished_stored : (a : Bool) → checks16 w ≡ false → false ≡ unfinished w p a
-  unfolding unfinished
-  unfinished_stored a e = rw e refl
-
-  pub unfinished_place : (a r : Bool) → a ≡ false → checks16 w ≡ true → r ≡ lies_in in_move in_move p → r ≡ unfinished w p a
-  unfolding unfinished
-  unfinished_place a r e h k = rw (e, h, k) (go (lies_in in_move in_move p))
-    where
-      go : (x : Bool) → x ≡ (x && true)
-      go true = refl
-      go false = refl

@@ -3,20 +3,20 @@
 #![tactic(auto)]
 
 ghost use Rattle.std.specs.Prelude.{◌≡◌};
-ghost use Rattle.model.specs.Command.{code_of, command_of, width, order, in_place, after_term, head};
+ghost use Rattle.model.specs.Command.{code_of, command_of, width, in_place, after_term, head};
 ghost use Rattle.model.specs.Reading.{head_wanted};
 ghost use Rattle.command.specs.Names.{form_of, command_is, place_of, wanted_of};
 ghost use Rattle.command.specs.Checks.{lies_in, misplaced, miscounted, unfinished, closes_idle};
 
 // "54 P V A: head of a written table"; "4E P N A: head of a normal table"
-#[derive(Clone, Copy)]
+#[derive(Clone, Copy, PartialEq, Eq)]
 pub enum Form {
     Written,
     Normal,
 }
 
 // The heads that a call takes. A stored table may have either, and moves that do nothing.
-#[derive(Clone, Copy)]
+#[derive(Clone, Copy, PartialEq, Eq)]
 pub enum Wanted {
     Written,
     Normal,
@@ -39,8 +39,8 @@ pub enum Command {
     Unknown,
 }
 
-// Where a command stands.
-#[derive(Clone, Copy)]
+// Where a command stands, in the order of reading.
+#[derive(Clone, Copy, PartialEq, Eq, PartialOrd, Ord)]
 pub enum Place {
     Start,
     Preamble,
@@ -74,30 +74,11 @@ pub fn width(command: Command) -> usize
     ensures { result ≡ width (command_is command) }
 {
     match command {
-        Command::Head(_) => 4,
-        Command::OpenMove => 1,
-        Command::OpenGoal => 1,
-        Command::EndTable => 1,
-        Command::NeedProp => 2,
-        Command::AddProp => 2,
-        Command::DeleteProp => 2,
-        Command::Term => 4,
+        Command::OpenMove | Command::OpenGoal | Command::EndTable | Command::Unknown => 1,
+        Command::NeedProp | Command::AddProp | Command::DeleteProp => 2,
+        Command::Head(_) | Command::Term => 4,
         Command::CloseCondition => 6,
         Command::CloseEffect => 7,
-        Command::Unknown => 1,
-    }
-}
-
-// The places in the order of reading.
-fn order(place: Place) -> u64
-    ensures { result ≡ order (place_of place) }
-{
-    match place {
-        Place::Start => 0,
-        Place::Preamble => 1,
-        Place::InMove => 2,
-        Place::InGoal => 3,
-        Place::Finished => 4,
     }
 }
 
@@ -105,12 +86,7 @@ fn order(place: Place) -> u64
 fn lies(place: Place, first: Place, last: Place) -> bool
     ensures { result ≡ lies_in (place_of first) (place_of last) (place_of place) }
 {
-    let at = order(place);
-    if order(first) <= at {
-        at <= order(last)
-    } else {
-        false
-    }
+    first <= place && place <= last
 }
 
 // May the command stand there?
@@ -118,16 +94,14 @@ fn in_place(place: Place, command: Command) -> bool
     ensures { result ≡ in_place (place_of place) (command_is command) }
 {
     match command {
-        Command::Head(_) => lies(place, Place::Start, Place::Start),
+        Command::Head(_) => place == Place::Start,
         Command::OpenMove => lies(place, Place::Preamble, Place::InGoal),
         Command::OpenGoal => lies(place, Place::Preamble, Place::InMove),
-        Command::EndTable => lies(place, Place::InGoal, Place::InGoal),
-        Command::NeedProp => lies(place, Place::InMove, Place::InGoal),
-        Command::AddProp => lies(place, Place::InMove, Place::InMove),
-        Command::DeleteProp => lies(place, Place::InMove, Place::InMove),
-        Command::Term => lies(place, Place::InMove, Place::InGoal),
-        Command::CloseCondition => lies(place, Place::InMove, Place::InGoal),
-        Command::CloseEffect => lies(place, Place::InMove, Place::InMove),
+        Command::EndTable => place == Place::InGoal,
+        Command::NeedProp | Command::Term | Command::CloseCondition => {
+            lies(place, Place::InMove, Place::InGoal)
+        }
+        Command::AddProp | Command::DeleteProp | Command::CloseEffect => place == Place::InMove,
         Command::Unknown => false,
     }
 }
@@ -137,17 +111,8 @@ fn after_term(command: Command) -> bool
     ensures { result ≡ after_term (command_is command) }
 {
     match command {
-        Command::Head(_) => false,
-        Command::OpenMove => false,
-        Command::OpenGoal => false,
-        Command::EndTable => false,
-        Command::NeedProp => false,
-        Command::AddProp => false,
-        Command::DeleteProp => false,
-        Command::Term => true,
-        Command::CloseCondition => true,
-        Command::CloseEffect => true,
-        Command::Unknown => false,
+        Command::Term | Command::CloseCondition | Command::CloseEffect => true,
+        _ => false,
     }
 }
 
@@ -166,16 +131,9 @@ fn takes_head(wanted: Wanted, form: Form) -> bool
     ensures { result ≡ head_wanted (wanted_of wanted) (head (form_of form)) }
 {
     match wanted {
-        Wanted::Both => true,
-        Wanted::Stored => true,
-        Wanted::Written => match form {
-            Form::Written => true,
-            Form::Normal => false,
-        },
-        Wanted::Normal => match form {
-            Form::Written => false,
-            Form::Normal => true,
-        },
+        Wanted::Both | Wanted::Stored => true,
+        Wanted::Written => form == Form::Written,
+        Wanted::Normal => form == Form::Normal,
     }
 }
 
@@ -183,16 +141,7 @@ fn takes_head(wanted: Wanted, form: Form) -> bool
 pub fn misplaced(place: Place, terms: usize, wanted: Wanted, command: Command) -> bool
     ensures { result ≡ misplaced (wanted_of wanted) (place_of place) terms (command_is command) }
 {
-    if !in_place(place, command) {
-        return true;
-    }
-    if !head_wanted(wanted, command) {
-        return true;
-    }
-    if terms == 0 {
-        return false;
-    }
-    !after_term(command)
+    !in_place(place, command) || !head_wanted(wanted, command) || terms > 0 && !after_term(command)
 }
 
 // Check 6: "41 beyond A, after the goal too; 47 before A moves".
@@ -210,13 +159,7 @@ pub fn miscounted(command: Command, moves: usize, opened: usize) -> bool
 fn unfinished(place: Place, active: bool, wanted: Wanted) -> bool
     ensures { result ≡ unfinished (wanted_of wanted) (place_of place) active }
 {
-    if active {
-        return false;
-    }
-    match wanted {
-        Wanted::Stored => false,
-        _ => lies(place, Place::InMove, Place::InMove),
-    }
+    wanted != Wanted::Stored && place == Place::InMove && !active
 }
 
 // Check 16: "such a move, place the command that closes its block".
@@ -224,8 +167,7 @@ pub fn closes_idle(place: Place, active: bool, wanted: Wanted, command: Command)
     ensures { result ≡ closes_idle (wanted_of wanted) (place_of place) active (command_is command) }
 {
     match command {
-        Command::OpenMove => unfinished(place, active, wanted),
-        Command::OpenGoal => unfinished(place, active, wanted),
+        Command::OpenMove | Command::OpenGoal => unfinished(place, active, wanted),
         _ => false,
     }
 }

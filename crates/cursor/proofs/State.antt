@@ -1,62 +1,54 @@
 -- The reading as the code keeps it: the cursor, what holds of its numbers, and all checks of one command over them.
 -- Assumes nothing.
-use Prim.Native.Nat.{ℕ, zero, suc, ◌+◌, ◌*◌, ◌-◌, ◌≤◌, ◌<◌}
+use Prim.Native.Nat.{ℕ, zero, suc, ◌+◌, ◌<◌}
 use Rattle.std.proofs.Common.{arith, sym, ltb-false}
-use Rattle.std.specs.Prelude.{◌≡◌, Bool, true, false, ◌&&◌, ◌||◌, not, List, [], ◌∷◌, eqb, leb, ltb, length, get_or}
+use Rattle.std.specs.Prelude.{◌≡◌, Bool, true, false, ◌&&◌, ◌||◌, not, List, [], ◌∷◌, ltb, length, Ok, Err}
 use Rattle.std.proofs.Math.Path.{refl}
 use Rattle.std.proofs.Math.Option.{Option, none, some}
-use Rattle.model.specs.Limits.{paper}
 use Rattle.model.specs.declared.Refusal.{Refusal}
 use Rattle.model.specs.Command.{Command, head, open_move, open_goal, end_table, need_prop, add_prop, delete_prop, term, close_condition, close_effect, unknown, width, in_place, after_term}
 use Rattle.model.specs.Command as command
 use Rattle.model.specs.Reading as reading
 use Rattle.model.specs.Reading.{head_wanted, refused_at, first_refusal}
 use Rattle.cursor.specs.declared.Cursor.{Cursor}
-use Rattle.command.specs.declared.Place.{Place}
-use Rattle.command.specs.declared.Place.TheVariants.{Start, Preamble, InMove, InGoal, Finished}
-use Rattle.command.specs.declared.Form.{Form}
-use Rattle.command.specs.declared.Form.TheVariants as form
-use Rattle.cursor.specs.declared.Check.{Check}
-use Rattle.cursor.specs.declared.Check.TheVariants.{Passes, Refused}
-use Rattle.command.specs.Names.{form_of, place_of}
+use Rattle.command.specs.Names.{place_of}
 use Rattle.command.specs.Checks.{misplaced, miscounted, closes_idle}
-use Rattle.operand.specs.Ranges.{wrong_operand}
 use Rattle.cursor.specs.State.{Passed, check_of, cursor_refusal, in_order, refused_offset, repeated, wrong_at}
 
 module _ (p : ℕ) (a b d i : Bool) (o : ℕ) (e : Bool) where
-  pub order_3 : a ≡ true → Refused (record { number = 3; place = p }) ≡ check_of (in_order p a b d i o e)
+  pub order_3 : a ≡ true → Err (record { number = 3; place = p }) ≡ check_of (in_order p a b d i o e)
   unfolding in_order first_refusal refused_at check_of
   order_3 h = rw h refl
 
-  pub order_2 : a ≡ false → b ≡ true → Refused (record { number = 2; place = p }) ≡ check_of (in_order p a b d i o e)
+  pub order_2 : a ≡ false → b ≡ true → Err (record { number = 2; place = p }) ≡ check_of (in_order p a b d i o e)
   unfolding in_order first_refusal refused_at check_of
   order_2 h j = rw (h, j) refl
 
-  pub order_6 : a ≡ false → b ≡ false → d ≡ true → Refused (record { number = 6; place = p }) ≡ check_of (in_order p a b d i o e)
+  pub order_6 : a ≡ false → b ≡ false → d ≡ true → Err (record { number = 6; place = p }) ≡ check_of (in_order p a b d i o e)
   unfolding in_order first_refusal refused_at check_of
   order_6 h j k = rw (h, j, k) refl
 
-  pub order_16 : a ≡ false → b ≡ false → d ≡ false → i ≡ true → Refused (record { number = 16; place = p }) ≡ check_of (in_order p a b d i o e)
+  pub order_16 : a ≡ false → b ≡ false → d ≡ false → i ≡ true → Err (record { number = 16; place = p }) ≡ check_of (in_order p a b d i o e)
   unfolding in_order first_refusal refused_at check_of
   order_16 h j k l = rw (h, j, k, l) refl
 
-  pub order_4 : a ≡ false → b ≡ false → d ≡ false → i ≡ false → 0 < o → Refused (record { number = 4; place = p + o }) ≡ check_of (in_order p a b d i o e)
+  pub order_4 : a ≡ false → b ≡ false → d ≡ false → i ≡ false → 0 < o → Err (record { number = 4; place = p + o }) ≡ check_of (in_order p a b d i o e)
   unfolding in_order first_refusal refused_at refused_offset check_of
   order_4 h j k l m = rw (h, j, k, l) (go o m)
     where
-      go : (n : ℕ) → 0 < n → Refused (record { number = 4; place = p + n }) ≡ check_of (first_refusal (refused_offset p n ∷ refused_at 5 e p ∷ []))
+      go : (n : ℕ) → 0 < n → Err (record { number = 4; place = p + n }) ≡ check_of (first_refusal (refused_offset p n ∷ refused_at 5 e p ∷ []))
       go zero q = absurd (omega arith)
       go (suc n) q = refl
 
-  pub order_5 : a ≡ false → b ≡ false → d ≡ false → i ≡ false → o ≡ 0 → e ≡ true → Refused (record { number = 5; place = p }) ≡ check_of (in_order p a b d i o e)
+  pub order_5 : a ≡ false → b ≡ false → d ≡ false → i ≡ false → o ≡ 0 → e ≡ true → Err (record { number = 5; place = p }) ≡ check_of (in_order p a b d i o e)
   unfolding in_order first_refusal refused_at refused_offset check_of
   order_5 h j k l m n = rw (h, j, k, l, m, n) refl
 
-  pub order_passes : a ≡ false → b ≡ false → d ≡ false → i ≡ false → o ≡ 0 → e ≡ false → Passes ≡ check_of (in_order p a b d i o e)
+  pub order_passes : a ≡ false → b ≡ false → d ≡ false → i ≡ false → o ≡ 0 → e ≡ false → Ok tt ≡ check_of (in_order p a b d i o e)
   unfolding in_order first_refusal refused_at refused_offset check_of
   order_passes h j k l m n = rw (h, j, k, l, m, n) refl
 
-pub passes_none : (x : Option Refusal) → Passes ≡ check_of x → x ≡ none
+pub passes_none : (x : Option Refusal) → Ok tt ≡ check_of x → x ≡ none
 unfolding check_of
 passes_none none e = refl
 passes_none (some r) e = let z : ◌≡◌ {A = ℕ} 0 1 = cc in absurd (omega arith)
@@ -81,7 +73,7 @@ misplaced_no w p n k h = go (in_place p k) (head_wanted w k) (ltb 0 n && not (af
 
 pub passed :
     (w : reading.Wanted) (t : List ℕ) (c : Cursor) (needed changed affected : List ℕ) (k : Command)
-    → Passes ≡ check_of (cursor_refusal w t c needed changed affected k)
+    → Ok tt ≡ check_of (cursor_refusal w t c needed changed affected k)
     → Passed t c needed changed affected k
 unfolding cursor_refusal
 passed w t c needed changed affected k h =

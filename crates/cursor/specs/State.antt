@@ -1,7 +1,7 @@
 -- The reading as the code keeps it: the cursor, what holds of its numbers, and all checks of one command over them.
 -- Assumes nothing.
 use Prim.Native.Nat.{ℕ, zero, suc, ◌+◌, ◌*◌, ◌-◌, ◌≤◌, ◌<◌}
-use Rattle.std.specs.Prelude.{◌≡◌, Bool, true, false, ◌||◌, not, List, [], ◌∷◌, eqb, leb, ltb, length, get_or}
+use Rattle.std.specs.Prelude.{◌≡◌, Bool, true, false, ◌||◌, not, List, [], ◌∷◌, eqb, leb, ltb, length, get_or, Result, Ok, Err}
 use Rattle.std.proofs.Math.Option.{Option, none, some}
 use Rattle.model.specs.Limits.{paper}
 use Rattle.model.specs.declared.Refusal.{Refusal}
@@ -13,8 +13,6 @@ use Rattle.command.specs.declared.Place.{Place}
 use Rattle.command.specs.declared.Place.TheVariants.{Start, Preamble, InMove, InGoal, Finished}
 use Rattle.command.specs.declared.Form.{Form}
 use Rattle.command.specs.declared.Form.TheVariants as form
-use Rattle.cursor.specs.declared.Check.{Check}
-use Rattle.cursor.specs.declared.Check.TheVariants.{Passes, Refused}
 use Rattle.command.specs.Names.{form_of, place_of}
 use Rattle.command.specs.Checks.{misplaced, miscounted, closes_idle}
 use Rattle.operand.specs.Ranges.{wrong_operand}
@@ -166,9 +164,9 @@ cursor_refusal w t c needed changed affected k =
     (miscounted c.moves c.opened k) (closes_idle w (place_of c.place) c.active k)
     (wrong_at t c k) (repeated t c needed changed affected k)
 
-unfoldable pub check_of : Option Refusal → Check
-check_of none = Passes
-check_of (some r) = Refused r
+unfoldable pub check_of : Option Refusal → Result Unit Refusal
+check_of none = Ok tt
+check_of (some r) = Err r
 
 -- what the checks that pass say
 pub record Passed (t : List ℕ) (c : Cursor) (needed changed affected : List ℕ) (k : Command) : Type 0 where

@@ -7,6 +7,7 @@ ghost use Rattle.command.specs.Names.{command_is, wanted_of};
 ghost use Rattle.cursor.specs.State.{Valid, start_cursor, wrong_at, repeated, cursor_refusal, check_of};
 
 use command::{Command, Form, Place, Wanted};
+use model::{Reason, Refusal};
 
 // Where the reading stands: the offset of the next command and its place, the head and whether the open move changes something, how
 // many moves have been opened, how many terms are open and the least variable that the next one may have, how many blocks and ends
@@ -27,15 +28,17 @@ pub struct Cursor {
     pub stamp: u64,
 }
 
-// What the checks of one command say.
+// What the blocks have named: by proposition, the number of the block that needed it last and of the block that changed it last; by
+// variable, of the block that affected it last. 0 where no block has.
 #[derive(Clone, Copy)]
-pub enum Check {
-    Passes,
-    Refused(model::Refusal),
+pub struct Named {
+    pub needed: [u64; 120],
+    pub changed: [u64; 120],
+    pub affected: [u64; 32],
 }
 
 // Was the proposition that stands at an offset named last by the block of this number?
-fn named(table: &[u8], at: usize, by: &[u64; 120], stamp: u64) -> bool
+fn is_named(table: &[u8], at: usize, by: &[u64; 120], stamp: u64) -> bool
     requires { (at < length table.now) × (get_or table.now at 0 < 120) }
     ensures { result ≡ eqb (get_or by.now (get_or table.now at 0) 0) stamp }
 {
@@ -44,49 +47,24 @@ fn named(table: &[u8], at: usize, by: &[u64; 120], stamp: u64) -> bool
 }
 
 // Check 5: "named again, not rising, ninth term".
-fn named_again(
-    table: &[u8],
-    c: Cursor,
-    command: Command,
-    needed: &[u64; 120],
-    changed: &[u64; 120],
-    affected: &[u64; 32],
-) -> bool
+fn named_again(table: &[u8], c: Cursor, command: Command, named: &Named) -> bool
     requires { (Valid table.now c) × (c.at + width (command_is command) ≤ length table.now) × (wrong_at table.now c (command_is command) ≡ 0) }
-    ensures { result ≡ repeated table.now c needed.now changed.now affected.now (command_is command) }
+    ensures { result ≡ repeated table.now c named.now.needed named.now.changed named.now.affected (command_is command) }
 {
-    let at = c.at;
     match command {
-        Command::Head(_) => false,
-        Command::OpenMove => false,
-        Command::OpenGoal => false,
-        Command::EndTable => false,
-        Command::NeedProp => named(table, at + 1, needed, c.stamp),
-        Command::AddProp => named(table, at + 1, changed, c.stamp),
-        Command::DeleteProp => named(table, at + 1, changed, c.stamp),
-        Command::Term => {
-            let var = operand::byte(table, at + 1);
-            if var < c.next {
-                return true;
-            }
-            8 <= c.terms
-        }
-        Command::CloseCondition => false,
+        Command::NeedProp => is_named(table, c.at + 1, &named.needed, c.stamp),
+        Command::AddProp | Command::DeleteProp => is_named(
+            table,
+            c.at + 1,
+            &named.changed,
+            c.stamp,
+        ),
+        Command::Term => operand::byte(table, c.at + 1) < c.next || 8 <= c.terms,
         Command::CloseEffect => {
-            let var = operand::byte(table, at + 2);
-            affected[var] == c.stamp
+            let var = operand::byte(table, c.at + 2);
+            named.affected[var] == c.stamp
         }
-        Command::Unknown => false,
-    }
-}
-
-// "A refusal is a number and a place."
-pub fn refusal(number: u64, place: usize) -> model::Refusal
-    ensures { result ≡ record { number = number; place = place } }
-{
-    model::Refusal {
-        number: number,
-        place: place as u64,
+        _ => false,
     }
 }
 
@@ -96,36 +74,32 @@ pub fn checked(
     c: Cursor,
     command: Command,
     wanted: Wanted,
-    needed: &[u64; 120],
-    changed: &[u64; 120],
-    affected: &[u64; 32],
-) -> Check
+    named: &Named,
+) -> Result<(), Refusal>
     requires { Valid table.now c }
-    ensures { result ≡ check_of (cursor_refusal (wanted_of wanted) table.now c needed.now changed.now affected.now (command_is command)) }
+    ensures { result ≡ check_of (cursor_refusal (wanted_of wanted) table.now c named.now.needed named.now.changed named.now.affected (command_is command)) }
 {
     let at = c.at;
-    let place = c.place;
-    let form = c.form;
-    if command::misplaced(place, c.terms, wanted, command) {
-        return Check::Refused(refusal(3, at));
+    if command::misplaced(c.place, c.terms, wanted, command) {
+        return Err(Reason::Misplaced.at(at));
     }
     if table.len() - at < command::width(command) {
-        return Check::Refused(refusal(2, at));
+        return Err(Reason::CutShort.at(at));
     }
     if command::miscounted(command, c.moves, c.opened) {
-        return Check::Refused(refusal(6, at));
+        return Err(Reason::Miscounted.at(at));
     }
-    if command::closes_idle(place, c.active, wanted, command) {
-        return Check::Refused(refusal(16, at));
+    if command::closes_idle(c.place, c.active, wanted, command) {
+        return Err(Reason::Idle.at(at));
     }
-    let wrong = operand::wrong_operand(table, command, at, form, c.props, c.vars);
+    let wrong = operand::wrong_operand(table, command, at, c.form, c.props, c.vars);
     if wrong > 0 {
-        return Check::Refused(refusal(4, at + wrong));
+        return Err(Reason::OperandOutOfRange.at(at + wrong));
     }
-    if named_again(table, c, command, needed, changed, affected) {
-        return Check::Refused(refusal(5, at));
+    if named_again(table, c, command, named) {
+        return Err(Reason::NamedAgain.at(at));
     }
-    Check::Passes
+    Ok(())
 }
 
 // The cursor before the first command.

@@ -1,4 +1,5 @@
-// The engine for its hosts: exported calls, each answered by one 64-bit number (crates/model/specs/Exports.antt, crates/placement/specs/Exports.antt).
+// The engine for its hosts: exported calls, each answered by one 64-bit number (crates/model/specs/Exports.antt; those of closure days and of the
+// checker in crates/placement/specs/Exports.antt and crates/schedule/specs/Exports.antt).
 #![tactic(auto)]
 
 ghost use Rattle.std.specs.Prelude.{◌≡◌};

@@ -13,13 +13,9 @@ use Rattle.model.specs.Move.{move_at}
 use Rattle.model.specs.Layer.{Layer, usable, layer_at}
 use Rattle.model.specs.Plan.{Wants, supports, helpful, set_of}
 use Rattle.model.proofs.Theorems.Laws.Sets.{set_small}
-use Rattle.model.proofs.Theorems.Sizes.Layers.{layer_small}
 use Rattle.block.specs.Parts.{ranges_of}
 use Rattle.targets.specs.declared.Targets.{Targets}
 use Rattle.targets.specs.Encoding.{Encodes}
-use Rattle.table.specs.Outlines.{part_at}
-use Rattle.reader.specs.Parts.{PartIn}
-use Rattle.block.specs.Items.{Left}
 use Rattle.block.specs.Sums.{LayerRow}
 use Rattle.achievers.specs.Search.{Parts}
 use Rattle.taking.specs.Descending.{SmallTargets}

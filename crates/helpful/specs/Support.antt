@@ -1,5 +1,5 @@
 -- What a block supports: a proposition that is wanted and that the layer lacks, or a target that the layer does not reach. Assumes nothing.
-use Rattle.std.specs.Prelude.{ℕ, ◌≤◌, ◌<◌, ◌≡◌, Bool, true, false, ◌&&◌, List, ℤ, pos, nat_abs, length}
+use Rattle.std.specs.Prelude.{ℕ, ◌≤◌, ◌<◌, ◌≡◌, Bool, true, false, ◌&&◌, List, ℤ, pos, length}
 use Rattle.std.proofs.Common.{arith, ◌∙◌}
 use Rattle.std.proofs.Math.Path.{sym, ap, ap₂}
 use Rattle.std.proofs.Math.Bool.{not}
@@ -9,7 +9,6 @@ use Rattle.model.specs.Task.{Effect, add, effect, Block}
 use Rattle.model.specs.Layer.{Layer, reaches, layer_value}
 use Rattle.model.specs.Memory.{encode}
 use Rattle.model.specs.Plan.{Target, Wants, demand, achieves, reaches_new, supports}
-use Rattle.model.specs.Theorems.Plans.Targets.{EachTarget}
 use Rattle.block.specs.Items.{Ranges, Left, EffectIs}
 use Rattle.block.specs.Sums.{LayerRow}
 use Rattle.stored_layer.specs.View.{held_by}

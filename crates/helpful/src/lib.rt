@@ -6,7 +6,8 @@ ghost use Rattle.model.specs.Plan.{helpful, set_of};
 ghost use Rattle.helpful.specs.Support.{Testable, ReachesNew, Supportable, Supports};
 ghost use Rattle.helpful.specs.Sets.{Gatherable, LayerOne, HelpfulSet};
 
-use block::ItemAt;
+use block::{ItemAt, Terms};
+use reader::Blocks;
 use targets::Targets;
 
 // "first had and wanted at layer 1": wanted, and not had in the layer before.
@@ -16,20 +17,11 @@ fn lacking(wanted: bool, had: bool) -> bool
     wanted && !had
 }
 
-// "whose effect reaches, by the test that Plan uses to take a move .., a target there that layer 0 did not": the effect on a variable
-// with value `old` in the layer of this row.
-fn reaches_new(
-    part: &[u8],
-    kind: u8,
-    base: i64,
-    from: usize,
-    terms: usize,
-    row: &[i64],
-    old: i64,
-    target: i64,
-) -> bool
-    requires { Testable part.now kind base from terms row.now }
-    ensures { ReachesNew part.now kind base from terms row.now old target result }
+// "whose effect reaches, by the test that Plan uses to take a move .., a target there that layer 0 did not": the effect with these
+// terms on a variable with value `old` in the layer of this row.
+fn reaches_new(terms: &Terms, kind: u8, base: i64, row: &[i64], old: i64, target: i64) -> bool
+    requires { Testable terms.now.part.now kind base terms.now.from terms.now.count row.now }
+    ensures { ReachesNew terms.now.part.now kind base terms.now.from terms.now.count row.now old target result }
 {
     if targets::is_free(target) {
         return false;
@@ -37,7 +29,7 @@ fn reaches_new(
     if block::reaches(old, target) {
         return false;
     }
-    let value = block::layer_value(part, from, terms, base, row);
+    let value = block::layer_value(terms, base, row);
     block::reaches(value, achievers::demand(kind, target))
 }
 
@@ -53,10 +45,11 @@ fn supports(
     ensures { Supports part.now wanted.now targets.now layers.now row.now result }
 {
     let mut at = 1;
-    loop {
+    while at < part.len() {
         let item = block::next(part, at);
+        at = block::behind(item);
         match item {
-            ItemAt::Add { prop, after: _ } => {
+            ItemAt::Add { prop, .. } => {
                 if lacking(wanted[prop], stored_layer::held(layers[prop], 0)) {
                     return true;
                 }
@@ -66,46 +59,39 @@ fn supports(
                 var,
                 base,
                 from,
-                terms,
-                after: _,
+                terms: count,
+                ..
             } => {
-                if reaches_new(part, kind, base, from, terms, row, row[var], targets[var]) {
+                let terms = Terms { part, from, count };
+                if reaches_new(&terms, kind, base, row, row[var], targets[var]) {
                     return true;
                 }
             }
-            ItemAt::End => {
-                return false;
-            }
             _ => {}
         }
-        at = block::behind(item);
     }
+    false
 }
 
 // "the set holds each move usable in layer 0 that ..": bit b for move b. The row is layer 0's.
 fn gather(
-    table: &[u8],
-    marks: &[usize],
+    blocks: &Blocks,
     wanted: &[bool; 120],
     targets: &[i64; 32],
     layers: &[i64],
     row: &[i64],
-    props: usize,
-    moves: usize,
 ) -> u64
-    requires { Gatherable table.now marks.now wanted.now targets.now layers.now row.now props moves }
-    ensures { (x : Gatherable table.now marks.now wanted.now targets.now layers.now row.now props moves)
+    requires { Gatherable blocks.now.table.now blocks.now.marks.now wanted.now targets.now layers.now row.now blocks.now.props blocks.now.moves }
+    ensures { (x : Gatherable blocks.now.table.now blocks.now.marks.now wanted.now targets.now layers.now row.now blocks.now.props blocks.now.moves)
         → result ≡ set_of (helpful x.over x.wants) x.task.moves }
 {
     let mut set: u64 = 0;
-    let mut b = moves;
-    while b > 0 {
-        b -= 1;
+    for b in (0..blocks.moves).rev() {
         set = 2 * set;
-        if !stored_layer::held(layers[props + b], 0) {
+        if !stored_layer::held(layers[blocks.props + b], 0) {
             continue;
         }
-        if !supports(reader::part(table, marks, b), wanted, targets, layers, row) {
+        if !supports(blocks.part(b), wanted, targets, layers, row) {
             continue;
         }
         set += 1;
@@ -114,19 +100,10 @@ fn gather(
 }
 
 // The helpful moves, from the layers in memory and the wants of layer 1.
-pub fn helpful_moves(
-    wants: Targets,
-    table: &[u8],
-    marks: &[usize],
-    layers: &[i64],
-    props: usize,
-    moves: usize,
-) -> u64
-    requires { LayerOne table.now marks.now layers.now props moves wants }
-    ensures { (x : LayerOne table.now marks.now layers.now props moves wants) → HelpfulSet x result }
+pub fn helpful_moves(wants: Targets, blocks: &Blocks, layers: &[i64]) -> u64
+    requires { LayerOne blocks.now.table.now blocks.now.marks.now layers.now blocks.now.props blocks.now.moves wants }
+    ensures { (x : LayerOne blocks.now.table.now blocks.now.marks.now layers.now blocks.now.props blocks.now.moves wants) → HelpfulSet x result }
 {
-    let wanted = wants.props;
-    let target = wants.target;
-    let row = &layers[props + moves..];
-    gather(table, marks, &wanted, &target, layers, row, props, moves)
+    let row = &layers[blocks.props + blocks.moves..];
+    gather(blocks, &wants.props, &wants.target, layers, row)
 }

@@ -1,3 +1,4 @@
 pub mod Ceiling
 pub mod BigEndian
 pub mod Store
+pub mod Operators

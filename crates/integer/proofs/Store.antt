@@ -1,14 +1,12 @@
 -- Bytes stored in a list: `put l at bs` is l with the bytes bs from place `at` on, and nothing else changed.
 -- Its laws: the length, what stands before, at and after the place, one byte more in front, two stores side by side.
-use Rattle.std.specs.Prelude.{◌≡◌, refl, List, [], ◌∷◌, ◌++◌, get_or, set, take}
-use Rattle.std.proofs.Math.Path.{sym, ap}
-use Rattle.std.proofs.Common.{◌∙◌, append_assoc, append-nil, add-zero, add-one, length-append, take-append-drop, length-take-le, take-suc, take_at, take-take, drop-drop}
+use Rattle.std.specs.Prelude.{◌≡◌, refl, List, set}
+use Rattle.std.proofs.Math.Path.{sym}
+use Rattle.std.proofs.Common.{◌∙◌, add-one}
 use Prim.Native.Nat.{ℕ, suc, ◌+◌, ◌-◌, ◌/◌, ◌%◌, ◌^◌, ◌<◌, ◌≤◌}
 use Rattle.std.proofs.Math.Nat.{pow-suc, div-div-eq-div-mul}
 use native.Mathlib.Omega.{arith}
-use Rattle.std.proofs.Math.ListN.{length, drop, length-drop}
-use Rattle.std.proofs.lemmas.List.{set_at}
-use Rattle.std.proofs.Math.Seq.{drop_at}
+use Rattle.std.proofs.Math.ListN.{length}
 use Rattle.integer.specs.BigEndian.{bytes}
 use Rattle.integer.proofs.BigEndian.{length_bytes}
 use Rattle.integer.specs.Store.{Stored, length_put, put, put_cons, put_nil}

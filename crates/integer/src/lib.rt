@@ -1,21 +1,12 @@
-// Whole-number arithmetic with exact contracts: signed operations that never wrap, division that rounds up,
-// big-endian numbers in slices of bytes, and bytes copied from one slice to another.
+// Whole-number arithmetic with exact contracts: division that rounds up, big-endian numbers in slices of bytes, and bytes copied from
+// one slice to another.
 #![tactic(auto)]
 
-ghost use Rattle.std.specs.Prelude.{◌≡◌, ◌+◌, ◌*◌, ◌^◌, ◌<◌, ◌≤◌, length, take, drop, neg_ℤ, nat_abs, ◌+ℤ◌, ◌-ℤ◌, ◌*ℤ◌, eqb};
-ghost use Rattle.std.specs.Int.Signed.{lt_z, le_z};
+ghost use Rattle.std.specs.Prelude.{◌≡◌, ◌+◌, ◌*◌, ◌^◌, ◌<◌, ◌≤◌, length, take, drop, neg_ℤ, nat_abs, ◌-ℤ◌, eqb};
 ghost use Rattle.integer.specs.Linear.{larger};
 ghost use Rattle.integer.specs.Ceiling.{ceiling};
 ghost use Rattle.integer.specs.BigEndian.{unsigned, bytes, half, signed, signed_bytes, twos, residue};
 ghost use Rattle.integer.specs.Store.{put};
-
-// The sum.
-pub fn add(a: i64, b: i64) -> i64
-    requires { nat_abs a + nat_abs b < 2 ^ 63 }
-    ensures { (result ≡ a +ℤ b) × (nat_abs result ≤ nat_abs a + nat_abs b) }
-{
-    a + b
-}
 
 // The difference.
 pub fn sub(a: i64, b: i64) -> i64
@@ -31,39 +22,6 @@ pub fn neg(a: i64) -> i64
     ensures { (result ≡ neg_ℤ a) × (nat_abs result ≤ nat_abs a) }
 {
     0 - a
-}
-
-// The number without its sign.
-pub fn magnitude(z: i64) -> u64
-    requires { nat_abs z < 2 ^ 63 }
-    ensures { result ≡ nat_abs z }
-{
-    if z < 0 {
-        return neg(z) as u64;
-    }
-    z as u64
-}
-
-// The value `a` times the weight `w`.
-pub fn mul(a: i64, w: i64) -> i64
-    requires { (nat_abs a ≤ 2 ^ 50) × (nat_abs w ≤ 1000) }
-    ensures { (result ≡ w *ℤ a) × (nat_abs result ≤ 1000 * nat_abs a) }
-{
-    w * a
-}
-
-// Is `a` below `b`?
-pub fn less(a: i64, b: i64) -> bool
-    ensures { result ≡ lt_z a b }
-{
-    a < b
-}
-
-// Is `a` at most `b`?
-pub fn at_most(a: i64, b: i64) -> bool
-    ensures { result ≡ le_z a b }
-{
-    a <= b
 }
 
 // Is it 0?
@@ -93,23 +51,14 @@ pub fn ceil_div(a: i64, d: u64) -> i64
     }
 }
 
-// A byte as a number.
-pub fn wide(x: u8) -> u64
-    ensures { (result ≡ x) × (result < 256) }
-{
-    x as u64
-}
-
 // The unsigned number in the `width` bytes from `at` on.
 pub fn unsigned_at(s: &[u8], at: usize, width: usize) -> u64
     requires { (at + width ≤ length s.now) × (width ≤ 8) }
     ensures { (result ≡ unsigned (take width (drop at s.now))) × (result < 256 ^ width) }
 {
     let mut n: u64 = 0;
-    let mut i = 0;
-    while i < width {
-        n = n * 256 + wide(s[at + i]);
-        i += 1;
+    for i in 0..width {
+        n = n * 256 + s[at + i] as u64;
     }
     n
 }
@@ -156,11 +105,9 @@ pub fn put_unsigned(out: &mut [u8], at: usize, n: u64, width: usize)
     ensures { out.new ≡ put out.old at (bytes width n) }
 {
     let mut rest = n;
-    let mut done = 0;
-    while done < width {
+    for done in 0..width {
         out[at + (width - 1 - done)] = (rest % 256) as u8;
-        rest = rest / 256;
-        done += 1;
+        rest /= 256;
     }
 }
 
@@ -212,9 +159,6 @@ pub fn put_u64(out: &mut [u8], at: usize, n: u64)
 pub fn copy(from: &[u8], out: &mut [u8])
     ensures { out.new ≡ put out.old 0 (take (length out.old) from.now) }
 {
-    let mut i = 0;
-    while i < out.len() && i < from.len() {
-        out[i] = from[i];
-        i += 1;
-    }
+    let n = out.len().min(from.len());
+    out[..n].copy_from_slice(&from[..n]);
 }

@@ -1,6 +1,6 @@
 -- Two arrays compared place by place, up to a bound.
 -- Assumes nothing.
-use Rattle.std.specs.Prelude.{ℕ, ◌+◌, ◌≤◌, ◌<◌, ◌≡◌, refl, Bool, true, false, not, ◌||◌, List, ℤ, pos, get_or}
+use Rattle.std.specs.Prelude.{ℕ, ◌+◌, ◌≤◌, ◌<◌, ◌≡◌, refl, Bool, true, false, ◌||◌, List, ℤ, pos, get_or}
 use Rattle.std.proofs.Common.{add-one, arith, sym, ◌∙◌}
 use Rattle.std.proofs.Math.Path.{ap, ap₂}
 use Rattle.std.proofs.Math.Bool.{◌&&◌}
@@ -55,20 +55,6 @@ within_mark z e = rw e refl
 pub within_number : (z : ℤ) → is_mark z ≡ false → le_z z (pos largest_value) ≡ within_limit z
 unfolding within_limit paper
 within_number z e = rw e refl
-
-pub beq_true : {a : Bool} (b : Bool) → a ≡ true → b ≡ beq a b
-beq_true b e = rw e (go b)
-  where
-    go : (c : Bool) → c ≡ beq true c
-    go true = refl
-    go false = refl
-
-pub beq_false : {a : Bool} (b : Bool) → a ≡ false → not b ≡ beq a b
-beq_false b e = rw e (go b)
-  where
-    go : (c : Bool) → not c ≡ beq false c
-    go true = refl
-    go false = refl
 
 -- of each value of a row
 unfoldable pub within_at : List ℤ → ℕ → Bool

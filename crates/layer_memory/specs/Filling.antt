@@ -1,8 +1,10 @@
 -- A list of which the first n elements are written anew: entries cleared and noted, a row of values stored.
 -- Assumes nothing.
-use Rattle.std.specs.Prelude.{ℕ, ◌+◌, ◌≤◌, ◌<◌, ◌≡◌, Bool, ◌&&◌, List, ℤ, pos, negsuc, length, get_or, set}
-use Rattle.std.proofs.Common.{arith, sym, ◌∙◌, subst, length-set, get_or-set_same, get_or-set_other}
-use Rattle.std.proofs.Math.Path.{refl}
+use Rattle.std.specs.Prelude.{ℕ, ◌+◌, ◌≤◌, ◌<◌, ◌≡◌, Bool, ◌&&◌, List, ◌++◌, ◌-◌, drop, ℤ, pos, negsuc, length, get_or, set}
+use Rattle.std.proofs.Common.{arith, sym, ◌∙◌, subst, length-set, get_or-set_same, get_or-set_other, length-append, length-drop}
+use Rattle.std.proofs.lemmas.List.{get_or-append_right, get_or-drop}
+use Rattle.std.proofs.Math.ListN.{get_or-append}
+use Rattle.std.proofs.Math.Path.{refl, ap}
 use Rattle.std.proofs.Math.Bool.{true, false, cond}
 use Rattle.std.specs.Int.Signed.{lt_z}
 use Rattle.model.proofs.Theorems.Laws.Searching.{below_suc}
@@ -28,6 +30,15 @@ module _ {A : Type 0} {d : A} {g : ℕ → A} {old : List A} where
             (λ below. get_or-set_other new i j x d (λ q. omega arith) ∙ f.done j below)
             (λ q. subst (λ (m : ℕ). get_or (set new i x) m d ≡ g m) (sym q) (get_or-set_same new i x d (omega (arith, f.same_length)) ∙ e));
         kept = λ j h. get_or-set_other new i j x d (λ q. omega arith) ∙ f.kept j (omega arith);
+      }
+
+  -- the first n written at once
+  pub filled_front : (part : List A) {n : ℕ} → n ≤ length old → length part ≡ n → ((i : ℕ) → i < n → get_or part i d ≡ g i) → Filled d g n old (part ++ drop n old)
+  filled_front part {n} h k f =
+      record {
+        same_length = omega (arith, length-append part (drop n old), length-drop n old);
+        done = λ i b. get_or-append part (drop n old) d i (omega arith) ∙ f i b;
+        kept = λ i b. let e : n + (i - n) ≡ i = omega arith in get_or-append_right part (drop n old) n i d k b ∙ get_or-drop n old (i - n) d ∙ ap (λ (j : ℕ). get_or old j d) e;
       }
 
   pub filled_end : {new : List A} {i n : ℕ} → i ≤ n → n ≤ i → Filled d g i old new → Filled d g n old new

@@ -6,16 +6,19 @@ ghost use Rattle.model.specs.Theorems.Layers.Entries.{noted};
 ghost use Rattle.layer_memory.specs.Filling.{Filled, cleared, noted_at, row_at};
 ghost use Rattle.layer_memory.specs.Storing.{NotesMoves};
 
+// A layer in arrays, the first of them in use: the truth of each proposition, the value of each variable.
+#[derive(Clone, Copy)]
+pub struct Layer {
+    pub has: [bool; 120],
+    pub row: [i64; 32],
+}
+
 // "never is −1": no entry is filled.
 pub fn clear(entries: &mut [i64], n: usize)
     requires { n ≤ length entries.old }
     ensures { Filled (pos 0) cleared n entries.old entries.new }
 {
-    let mut i = 0;
-    while i < n {
-        entries[i] = -1;
-        i += 1;
-    }
+    entries[..n].fill(-1);
 }
 
 // An entry once layer `t` is made: filled if it was not yet and the layer has what it stands for.
@@ -23,12 +26,7 @@ fn noted(entry: i64, has: bool, t: u64) -> i64
     requires { t < 2 ^ 63 }
     ensures { result ≡ noted entry has t }
 {
-    if has {
-        if entry < 0 {
-            return t as i64;
-        }
-    }
-    entry
+    if has && entry < 0 { t as i64 } else { entry }
 }
 
 // The entries once layer `t` is made.
@@ -36,11 +34,8 @@ pub fn note(entries: &mut [i64], marked: &[bool], n: usize, t: u64)
     requires { (n ≤ length entries.old) × (n ≤ length marked.now) × (t < 2 ^ 63) }
     ensures { Filled (pos 0) (noted_at entries.old marked.now t) n entries.old entries.new }
 {
-    let mut i = 0;
-    while i < n {
-        let old = entries[i];
-        entries[i] = noted(old, marked[i], t);
-        i += 1;
+    for i in 0..n {
+        entries[i] = noted(entries[i], marked[i], t);
     }
 }
 
@@ -49,11 +44,7 @@ pub fn copy_row(row: &[i64], into: &mut [i64], vars: usize)
     requires { (vars ≤ length row.now) × (vars ≤ length into.old) }
     ensures { Filled (pos 0) (row_at row.now) vars into.old into.new }
 {
-    let mut v = 0;
-    while v < vars {
-        into[v] = row[v];
-        v += 1;
-    }
+    into[..vars].copy_from_slice(&row[..vars]);
 }
 
 // The entries of the moves that the step from layer `t` used.

@@ -41,6 +41,8 @@ module _ {part : List ℕ} {before : Bool} {has : List Bool} {row : List ℤ} {t
 
 -- a move's part, with the next layer so far: what it becomes, and whether the move's conditions hold, in every such reading
 pub record TakenIn (part : List ℕ) (before : Bool) (has : List Bool) (row : List ℤ) (flags : List Bool) (values : List ℤ) (flags' : List Bool) (values' : List ℤ) (t : Bool) : Type 0 where
+  pub same_flags : length flags' ≡ length flags
+  pub same_values : length values' ≡ length values
   pub is :
       (k : Ranges) (b : Block) (l : Layer) (h : ℕ → Bool) (f : ℕ → Value)
       → k.form ≡ normal
@@ -59,6 +61,8 @@ module _ {part : List ℕ} {before : Bool} {has : List Bool} {row : List ℤ} {f
   pub taken_usable : {flags' : List Bool} {values' : List ℤ} → t ≡ true → Applied part row flags values flags' values' → TakenIn part before has row flags values flags' values' t
   taken_usable e a =
       record {
+        same_flags = a.same_flags;
+        same_values = a.same_next;
         is =
             λ k b l h f form left once w again hs vs up.
             let q : t ≡ usable l b = u.is k b l left w again in
@@ -73,6 +77,8 @@ module _ {part : List ℕ} {before : Bool} {has : List Bool} {row : List ℤ} {f
   pub taken_unusable : t ≡ false → TakenIn part before has row flags values flags values t
   taken_unusable e =
       record {
+        same_flags = refl;
+        same_values = refl;
         is =
             λ k b l h f form left once w again hs vs up.
             let q : t ≡ usable l b = u.is k b l left w again in
@@ -238,15 +244,13 @@ module _ {table marks : List ℕ} {moves : ℕ} {has : List Bool} {row : List �
         {part : List ℕ} {flags'' : List Bool} {values'' : List ℤ} {t : Bool}
         → b < moves
         → moves ≤ length used
-        → length flags'' ≡ length flags'
-        → length values'' ≡ length values'
         → part ≡ part_at table marks b
         → TakenIn part (get_or used' b false) has row flags' values' flags'' values'' t
         → UsingMoves table marks moves has row flags values used (b + 1) flags'' values'' (set used' b t)
-    using_next {t} h room lf lv e r =
+    using_next {t} h room e r =
         record {
-          same_flags = lf ∙ s.same_flags;
-          same_values = lv ∙ s.same_values;
+          same_flags = r.same_flags ∙ s.same_flags;
+          same_values = r.same_values ∙ s.same_values;
           same_used = length-set used' b t ∙ s.same_used;
           same_rest = λ c i. get_or-set_other used' b c t false (λ q. omega arith) ∙ s.same_rest c (omega arith);
           is =
@@ -262,6 +266,7 @@ module _ {table marks : List ℕ} {moves : ℕ} {has : List Bool} {row : List �
 -- the next layer, and the moves that made it
 pub record MovesUsed (table marks : List ℕ) (moves : ℕ) (has : List Bool) (row : List ℤ) (flags : List Bool) (values : List ℤ) (used : List Bool) (flags' : List Bool) (values' : List ℤ) (used' : List Bool) : Type 0 where
   pub same_flags : length flags' ≡ length flags
+  pub same_values : length values' ≡ length values
   pub same_used : length used' ≡ length used
   pub is :
       (k : Task) (l : Layer)
@@ -286,6 +291,7 @@ unfolding next
 using_end {b} {used'} s h room =
     record {
       same_flags = s.same_flags;
+      same_values = s.same_values;
       same_used = s.same_used;
       is =
           λ k l o c w m ts vs.

@@ -27,6 +27,8 @@ pub record Appliable (part : List ℕ) (row : List ℤ) (flags : List Bool) (nex
 
 -- its propositions are added and its values taken in, in every reading
 pub record Applied (part : List ℕ) (row : List ℤ) (flags : List Bool) (next : List ℤ) (flags' : List Bool) (next' : List ℤ) : Type 0 where
+  pub same_flags : length flags' ≡ length flags
+  pub same_next : length next' ≡ length next
   pub is :
       (k : Ranges) (b : Block) (l : Layer) (h : ℕ → Bool) (f : ℕ → Value)
       → k.form ≡ normal
@@ -177,6 +179,8 @@ module _ {part : List ℕ} {row : List ℤ} {flags : List Bool} {next : List ℤ
   pub upto_end : length part ≤ at → Applied part row flags next flags' next'
   upto_end past =
       record {
+        same_flags = w.same_flags;
+        same_next = w.same_next;
         is =
             λ k b l h f form left once row_is hs vs a.
             let p = w.is k b l h f form left once row_is hs vs a in

@@ -1,9 +1,11 @@
 -- The step from layer t: what the next layer is judged to be, and what is left in the part of the memory behind the last layer.
 -- Assumes nothing.
-use Rattle.std.specs.Prelude.{ℕ, suc, ◌≤◌, ◌<◌, ◌≡◌, refl, Bool, true, false, not, ◌&&◌, List, ltb, ℤ, pos, length, get_or}
-use Rattle.std.proofs.Common.{arith, ◌∙◌}
+use Rattle.std.specs.Prelude.{ℕ, suc, ◌≤◌, ◌<◌, ◌≡◌, refl, ◌⊎◌, Result, Ok, Err, Bool, true, false, not, ◌&&◌, List, ltb, ℤ, pos, length, get_or}
+use Rattle.std.proofs.Common.{arith, inl, inr, ◌∙◌}
 use Rattle.std.proofs.Math.Path.{sym, ap}
 use borrow.Author.Tests.{lt-ltb, le-ltb, not-false as was-true, not-true as was-false}
+use Rattle.model.specs.declared.reason.Reason.{Reason}
+use Rattle.model.specs.declared.reason.Reason.TheVariants as why
 use Rattle.layer_step.specs.declared.NextLayer.{NextLayer}
 use Rattle.layer_step.specs.declared.NextLayer.TheVariants as outlook
 use Rattle.model.specs.Limits.{paper}
@@ -44,24 +46,24 @@ pub steppable_row : {table marks : List ℕ} {props vars moves : ℕ} {has : Lis
 steppable_row p = rw p.counts.vars_is p.state.row.long
 
 -- "A next layer equal to layer t is not stored and needs no memory"; "each new layer": 15, then 14
-unfoldable pub next_layer : Bool → Bool → Bool → NextLayer
-next_layer true large short = outlook.Same
-next_layer false true short = outlook.TooLarge
-next_layer false false true = outlook.TooShort
-next_layer false false false = outlook.New
+unfoldable pub next_layer : Bool → Bool → Bool → Result NextLayer Reason
+next_layer true large short = Ok outlook.Same
+next_layer false true short = Err why.LayerTooLarge
+next_layer false false true = Err why.MemoryTooShort
+next_layer false false false = Ok outlook.New
 
 -- what each outcome says of the three tests
-abbrev pub Judged : NextLayer → Bool → Bool → Bool → Type 0
-Judged outlook.Same same large short = same ≡ true
-Judged outlook.TooLarge same large short = (same ≡ false) × (large ≡ true)
-Judged outlook.TooShort same large short = (same ≡ false) × (large ≡ false) × (short ≡ true)
-Judged outlook.New same large short = (same ≡ false) × (large ≡ false) × (short ≡ false)
+abbrev pub Judged : Result NextLayer Reason → Bool → Bool → Bool → Type 0
+Judged (Ok outlook.Same) same large short = same ≡ true
+Judged (Ok outlook.New) same large short = (same ≡ false) × (large ≡ false) × (short ≡ false)
+Judged (Err r) same large short =
+    (same ≡ false) × (((r ≡ why.LayerTooLarge) × (large ≡ true)) ⊎ ((r ≡ why.MemoryTooShort) × (large ≡ false) × (short ≡ true)))
 
 pub judged : (same large short : Bool) → Judged (next_layer same large short) same large short
 unfolding next_layer
 judged true large short = refl
-judged false true short = (refl, refl)
-judged false false true = (refl, refl, refl)
+judged false true short = (refl, inl (refl, refl))
+judged false false true = (refl, inr (refl, refl, refl))
 judged false false false = (refl, refl, refl)
 
 -- the values stand at the start of the part, the numbers behind them are as they were
@@ -71,14 +73,19 @@ pub record RowWritten (vars : ℕ) (f : ℕ → Value) (old new : List ℤ) : Ty
   pub kept : (i : ℕ) → vars ≤ i → get_or new i (pos 0) ≡ get_or old i (pos 0)
 
 -- "is not stored"; "one ended by 14 or 15 does not" count: only a new layer is written
-abbrev pub PartAfter : ℕ → (ℕ → Value) → List ℤ → List ℤ → NextLayer → Type 0
-PartAfter vars f old new outlook.Same = new ≡ old
-PartAfter vars f old new outlook.TooLarge = new ≡ old
-PartAfter vars f old new outlook.TooShort = new ≡ old
-PartAfter vars f old new outlook.New = RowWritten vars f old new
+abbrev pub PartAfter : ℕ → (ℕ → Value) → List ℤ → List ℤ → Result NextLayer Reason → Type 0
+PartAfter vars f old new (Ok outlook.Same) = new ≡ old
+PartAfter vars f old new (Ok outlook.New) = RowWritten vars f old new
+PartAfter vars f old new (Err r) = new ≡ old
+
+-- only a new layer's row stands in the part
+abbrev pub RowStored : ℕ → List ℤ → List ℤ → List ℤ → Result NextLayer Reason → Type 0
+RowStored vars row old new (Ok outlook.Same) = new ≡ old
+RowStored vars row old new (Ok outlook.New) = (vars ≤ length row) × Filled (pos 0) (row_at row) vars old new
+RowStored vars row old new (Err r) = new ≡ old
 
 -- what the step from layer t answers and leaves: the next layer's propositions, the moves used, the part
-pub record StepFrom (k : Task) (s : State) (t : ℕ) (behind : List ℤ) (flags used : List Bool) (behind' : List ℤ) (r : NextLayer) : Type 0 where
+pub record StepFrom (k : Task) (s : State) (t : ℕ) (behind : List ℤ) (flags used : List Bool) (behind' : List ℤ) (r : Result NextLayer Reason) : Type 0 where
   pub truths : Truths k.props flags (layer_at k s (suc t)).has
   pub uses : Truths (length k.moves) used (λ b. usable (layer_at k s t) (move_at k b))
   pub is : r ≡ next_layer (settled k s t) (wrong15 paper k s (suc t)) (ltb (length behind) k.vars)
@@ -93,7 +100,7 @@ pub record AtLayer (table marks : List ℕ) (props vars moves : ℕ) (has : List
   pub used_in : UsedIn k (layer_at k s t) used
 
 -- the step, in every such reading
-pub record Stepped (table marks : List ℕ) (props vars moves : ℕ) (has : List Bool) (row : List ℤ) (flags used : List Bool) (behind : List ℤ) (flags' used' : List Bool) (behind' : List ℤ) (r : NextLayer) : Type 0 where
+pub record Stepped (table marks : List ℕ) (props vars moves : ℕ) (has : List Bool) (row : List ℤ) (flags used : List Bool) (behind : List ℤ) (flags' used' : List Bool) (behind' : List ℤ) (r : Result NextLayer Reason) : Type 0 where
   pub same_flags : length flags' ≡ length flags
   pub same_used : length used' ≡ length used
   pub is : (k : Task) (s : State) (t : ℕ) → AtLayer table marks props vars moves has row flags used k s t → StepFrom k s t behind flags' used' behind' r
@@ -123,7 +130,7 @@ module _ {table marks : List ℕ} {props vars moves : ℕ} {has : List Bool} {ro
     unfolding move_at
     uses = (m.is k (layer_at k s t) a.outlined a.counts.moves_is a.state a.used_in a.begun (row_values a.state.row)).2
 
-    from : {behind behind' : List ℤ} {r : NextLayer} → r ≡ next_layer (settled k s t) (wrong15 paper k s (suc t)) (ltb (length behind) k.vars) → PartAfter k.vars (layer_at k s (suc t)).val behind behind' r → StepFrom k s t behind flags' used' behind' r
+    from : {behind behind' : List ℤ} {r : Result NextLayer Reason} → r ≡ next_layer (settled k s t) (wrong15 paper k s (suc t)) (ltb (length behind) k.vars) → PartAfter k.vars (layer_at k s (suc t)).val behind behind' r → StepFrom k s t behind flags' used' behind' r
     from i p = record { truths = truths; uses = uses; is = i; part = p }
 
     settled_is : e ≡ settled k s t
@@ -153,17 +160,17 @@ module _ {table marks : List ℕ} {props vars moves : ℕ} {has : List Bool} {ro
           kept = λ i h. f.kept i (omega arith);
         }
 
-  stepped : {behind behind' : List ℤ} {r : NextLayer} → ((k : Task) (s : State) (t : ℕ) → AtLayer table marks props vars moves has row flags used k s t → StepFrom k s t behind flags' used' behind' r) → Stepped table marks props vars moves has row flags used behind flags' used' behind' r
+  stepped : {behind behind' : List ℤ} {r : Result NextLayer Reason} → ((k : Task) (s : State) (t : ℕ) → AtLayer table marks props vars moves has row flags used k s t → StepFrom k s t behind flags' used' behind' r) → Stepped table marks props vars moves has row flags used behind flags' used' behind' r
   stepped f = record { same_flags = m.same_flags; same_used = m.same_used; is = f }
 
   -- "A next layer equal to layer t"
-  pub stepped_same : {behind : List ℤ} → e ≡ true → Stepped table marks props vars moves has row flags used behind flags' used' behind outlook.Same
+  pub stepped_same : {behind : List ℤ} → e ≡ true → Stepped table marks props vars moves has row flags used behind flags' used' behind (Ok outlook.Same)
   unfolding next_layer
   stepped_same h = stepped (λ k s t a. from a (rw (sym (settled_is a) ∙ h) refl) refl)
 
   module _ (h : e ≡ false) {x : Bool} (within : x ≡ all_below (within_at values) vars) where
     -- 15
-    pub stepped_large : {behind : List ℤ} → x ≡ false → Stepped table marks props vars moves has row flags used behind flags' used' behind outlook.TooLarge
+    pub stepped_large : {behind : List ℤ} → x ≡ false → Stepped table marks props vars moves has row flags used behind flags' used' behind (Err why.LayerTooLarge)
     unfolding next_layer
     stepped_large i =
         stepped (λ k s t a. from a (rw (sym (settled_is a) ∙ h, was-true (wrong15 paper k s (suc t)) (sym (within_is a) ∙ sym within ∙ i)) refl) refl)
@@ -173,13 +180,13 @@ module _ {table marks : List ℕ} {props vars moves : ℕ} {has : List Bool} {ro
       small {k} {s} {t} a = was-false (wrong15 paper k s (suc t)) (sym (within_is a) ∙ sym within ∙ i)
 
       -- 14
-      pub stepped_short : {behind : List ℤ} → length behind < vars → Stepped table marks props vars moves has row flags used behind flags' used' behind outlook.TooShort
+      pub stepped_short : {behind : List ℤ} → length behind < vars → Stepped table marks props vars moves has row flags used behind flags' used' behind (Err why.MemoryTooShort)
       unfolding next_layer
       stepped_short {behind} short =
           stepped (λ k s t a. from a (rw (sym (settled_is a) ∙ h, small a, lt-ltb (length behind) k.vars (omega (arith, a.counts.vars_is))) refl) refl)
 
       -- a new layer
-      pub stepped_new : {behind behind' : List ℤ} → vars ≤ length behind → Filled (pos 0) (row_at values) vars behind behind' → Stepped table marks props vars moves has row flags used behind flags' used' behind' outlook.New
+      pub stepped_new : {behind behind' : List ℤ} → vars ≤ length behind → Filled (pos 0) (row_at values) vars behind behind' → Stepped table marks props vars moves has row flags used behind flags' used' behind' (Ok outlook.New)
       unfolding next_layer
       stepped_new {behind} room f =
           stepped

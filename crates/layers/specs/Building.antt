@@ -1,21 +1,23 @@
 -- Building layers in a memory, layer by layer: what is known at layer t, and how each step ends.
 -- Assumes nothing.
-use Rattle.std.specs.Prelude.{ℕ, suc, ◌+◌, ◌-◌, ◌*◌, ◌≤◌, ◌<◌, ◌≡◌, Bool, true, false, List, [], ltb, ℤ, pos, length, drop, replicate}
-use Rattle.std.proofs.Common.{mul-le-mul, mul-suc, add-one, arith, sym, ◌∙◌, ltb-true, ltb-false, lt-ltb, le-ltb, length-drop, length-take-le}
+use Rattle.std.specs.Prelude.{ℕ, suc, ◌+◌, ◌-◌, ◌*◌, ◌≤◌, ◌<◌, ◌≡◌, Result, Ok, Err, Bool, true, false, List, [], ltb, ℤ, pos, length, drop, replicate}
+use Rattle.std.proofs.Common.{inl, inr, mul-le-mul, mul-suc, add-one, arith, sym, ◌∙◌, ltb-true, ltb-false, lt-ltb, le-ltb, length-drop, length-take-le}
 use Rattle.std.proofs.Math.Path.{refl, ap, subst}
 use borrow.Rule.Slice.PartMut.{mid_of, put_mid, put_same}
 use Rattle.std.proofs.Math.ListN.{get_or}
 use Rattle.std.proofs.lemmas.List.{get_or-replicate}
-use Rattle.std.proofs.Math.Seq.{get_or-take, get_or-drop}
 use Rattle.layers.specs.declared.Built.{Built as BuiltAnswer}
 use Rattle.layers.specs.declared.Built.TheVariants as answer
+use Rattle.model.specs.declared.Refusal.{Refusal}
+use Rattle.model.specs.declared.reason.Reason.{Reason}
+use Rattle.model.specs.Reasons.{number_of}
 use Rattle.layer_step.specs.declared.NextLayer.{NextLayer}
 use Rattle.layer_step.specs.declared.NextLayer.TheVariants as outlook
 use Rattle.model.specs.Limits.{paper}
 use Rattle.model.specs.Task.{normal, Task}
 use Rattle.model.specs.Move.{State, move_at}
 use Rattle.model.specs.Layer.{Layer, usable, layer, layer_at, meets_goal, Passed, reached, exhausted, settled, bound}
-use Rattle.model.specs.Memory.{encode, room, wrong15, wrong14, overwrite, Built, answered, stopped, build, built_memory}
+use Rattle.model.specs.Memory.{room, wrong15, wrong14, overwrite, Built, answered, stopped, build, built_memory}
 use Rattle.model.specs.Theorems.Reading.WellFormed.{TaskOk}
 use Rattle.model.proofs.Theorems.Laws.Booleans.{T_true, true_t, false_not}
 use Rattle.model.proofs.Theorems.Layers.Order.{usable_mono}
@@ -32,17 +34,17 @@ use Rattle.layer_memory.specs.Filling.{Filled, noted_at, row_at}
 use Rattle.layer_memory.specs.Arrays.{Truths, row_values}
 use Rattle.layers.specs.Goal.{IsMet, GoalTestable}
 use Rattle.layer_moves.specs.UsingMoves.{UsedIn}
-use Rattle.layer_step.specs.Step.{Counts, Steppable, Judged, judged, PartAfter, StepFrom, Stepped, state_truths}
+use Rattle.layer_step.specs.Step.{Counts, Steppable, Judged, judged, PartAfter, StepFrom, Stepped, RowStored, state_truths}
 use Rattle.layer_memory.specs.Storing.{FilledAt, filled_behind, row_behind, holds_before, holds_layer, NotesMoves}
 
 -- how building ended, as the definitions have it
-unfoldable pub built_of : BuiltAnswer → Built
-built_of (answer.Reached t) = answered (reached t)
-built_of (answer.Exhausted t) = answered (exhausted t)
-built_of (answer.Stopped n p) = stopped n p
+unfoldable pub built_of : Result BuiltAnswer Refusal → Built
+built_of (Ok (answer.Reached t)) = answered (reached t)
+built_of (Ok (answer.Exhausted t)) = answered (exhausted t)
+built_of (Err r) = stopped r.number r.place
 
 -- the answer and the memory are right
-pub record IsBuilt (k : Task) (s : State) (old mem : List ℤ) (r : BuiltAnswer) : Type 0 where
+pub record IsBuilt (k : Task) (s : State) (old mem : List ℤ) (r : Result BuiltAnswer Refusal) : Type 0 where
   pub ended : built_of r ≡ build paper k s (length old)
   pub memory : mem ≡ overwrite (built_memory k s (build paper k s (length old))) old
 
@@ -81,13 +83,13 @@ pub room_missing : (k : Task) (s : State) (n t : ℕ) → n < size k s (suc t) �
 unfolding wrong14 room
 room_missing k s n t h = lt-ltb n (k.props + length k.moves + k.vars * (t + 1)) (rw (add-one t) h)
 
-pub built_by : {k : Task} {s : State} {old mem : List ℤ} {r : BuiltAnswer} (b : Built) (new : List ℤ) → build paper k s (length old) ≡ b → built_of r ≡ b → built_memory k s b ≡ new → mem ≡ overwrite new old → IsBuilt k s old mem r
+pub built_by : {k : Task} {s : State} {old mem : List ℤ} {r : Result BuiltAnswer Refusal} (b : Built) (new : List ℤ) → build paper k s (length old) ≡ b → built_of r ≡ b → built_memory k s b ≡ new → mem ≡ overwrite new old → IsBuilt k s old mem r
 built_by {k} {s} {old} b new e f g m =
     record { ended = f ∙ sym e; memory = m ∙ ap (λ (l : List ℤ). overwrite l old) (sym (ap (built_memory k s) e ∙ g)) }
 
 module _ {k : Task} (ok : TaskOk paper normal k) {s : State} {old : List ℤ} {t : ℕ} {mem : List ℤ} {has : List Bool} {row : List ℤ} (a : Layered k s old t mem has row) where
   -- the answer layer
-  pub layered_reached : meets_goal k s t ≡ true → IsBuilt k s old mem (answer.Reached t)
+  pub layered_reached : meets_goal k s t ≡ true → IsBuilt k s old mem (Ok (answer.Reached t))
   unfolding built_of built_memory
   layered_reached met =
       built_by (answered (reached t)) _ (a.built _ (BuildsFrom.answer a.stored met)) refl refl (holds_memory a.room a.holds)
@@ -97,7 +99,7 @@ module _ {k : Task} (ok : TaskOk paper normal k) {s : State} {old : List ℤ} {t
   layered_bound = passed_bound ok s a.passed
 
   -- "no plan": the step that changes nothing counts
-  pub layered_exhausted : {mem' : List ℤ} → meets_goal k s t ≡ false → settled k s t ≡ true → Holds k s (suc t) (suc t) old mem' → IsBuilt k s old mem' (answer.Exhausted t)
+  pub layered_exhausted : {mem' : List ℤ} → meets_goal k s t ≡ false → settled k s t ≡ true → Holds k s (suc t) (suc t) old mem' → IsBuilt k s old mem' (Ok (answer.Exhausted t))
   unfolding built_of built_memory
   layered_exhausted unmet same held =
       built_by (answered (exhausted t)) _ (a.built _ (BuildsFrom.no_plan a.stored unmet ((settled_equal ok s t).0 same)))
@@ -115,14 +117,14 @@ module _ {k : Task} (ok : TaskOk paper normal k) {s : State} {old : List ℤ} {t
     layered_below = passed_bound ok s passes
 
     -- 15: the memory holds every layer before
-    pub layered_large : wrong15 paper k s (suc t) ≡ true → IsBuilt k s old mem (answer.Stopped 15 (t + 1))
+    pub layered_large : wrong15 paper k s (suc t) ≡ true → IsBuilt k s old mem (Err (record { number = 15; place = t + 1 }))
     unfolding built_of built_memory
     layered_large large =
         built_by (stopped 15 (suc t)) _ (goes_on _ (BuildsFrom.too_large large))
         (ap (stopped 15) (add-one t)) refl (holds_memory a.room a.holds)
 
     -- 14
-    pub layered_short : wrong15 paper k s (suc t) ≡ false → length old < size k s (suc (suc t)) → IsBuilt k s old mem (answer.Stopped 14 (t + 1))
+    pub layered_short : wrong15 paper k s (suc t) ≡ false → length old < size k s (suc (suc t)) → IsBuilt k s old mem (Err (record { number = 14; place = t + 1 }))
     unfolding built_of built_memory
     layered_short small short =
         built_by (stopped 14 (suc t)) _ (goes_on _ (BuildsFrom.too_short small (room_missing k s (length old) (suc t) short)))
@@ -164,11 +166,9 @@ pub record Growable (table marks : List ℕ) (props vars moves : ℕ) (has : Lis
   pub outlined : Outline normal table marks task
   pub counts : Counts task props vars moves
   pub layered : Layered task start old 0 mem has row
-  pub has_long : length has ≡ 120
-  pub row_long : length row ≡ 32
 
 -- what it ends with, in every reading
-pub record Grown (table marks : List ℕ) (props vars moves : ℕ) (has : List Bool) (row mem mem' : List ℤ) (r : BuiltAnswer) : Type 0 where
+pub record Grown (table marks : List ℕ) (props vars moves : ℕ) (has : List Bool) (row mem mem' : List ℤ) (r : Result BuiltAnswer Refusal) : Type 0 where
   pub is : (k : Task) (s : State) (old : List ℤ) → Outline normal table marks k → Counts k props vars moves → Layered k s old 0 mem has row → IsBuilt k s old mem' r
 
 -- layer t is the last one, and the moves marked as used are usable in it
@@ -204,9 +204,6 @@ module _ {table marks : List ℕ} {props vars moves : ℕ} {k : Task} {s : State
   pub has_room : props ≤ length has
   has_room = rw c.props_is a.state.long
 
-  pub row_room : vars ≤ length row
-  row_room = rw c.vars_is a.state.row.long
-
   pub count_small : moves ≤ 64
   unfolding paper
   count_small = omega (arith, c.moves_is, o.ok.moves)
@@ -218,10 +215,10 @@ module _ {table marks : List ℕ} {props vars moves : ℕ} {k : Task} {s : State
   unfolding meets_goal
   met_is m = m.is k (layer_at k s t) o c.moves_is a.state
 
-  pub reached_at : {r : Bool} → IsMet table marks moves has row r → r ≡ true → IsBuilt k s old mem (answer.Reached t)
+  pub reached_at : {r : Bool} → IsMet table marks moves has row r → r ≡ true → IsBuilt k s old mem (Ok (answer.Reached t))
   reached_at m e = layered_reached o.ok a (sym (met_is m) ∙ e)
 
-  module _ {m : Bool} (met : IsMet table marks moves has row m) (no-goal : m ≡ false) {flags used used' : List Bool} {part : List ℤ} {r : NextLayer} {end : ℕ} (at : end ≡ props + moves + vars * suc t) (before : UsedIn k (layer_at k s t) used) (stepped : Stepped table marks props vars moves has row has used (mid_of end (length mem - end) mem) flags used' part r) where
+  module _ {m : Bool} (met : IsMet table marks moves has row m) (no-goal : m ≡ false) {flags used used' : List Bool} {part : List ℤ} {r : Result NextLayer Reason} {end : ℕ} (at : end ≡ props + moves + vars * suc t) (before : UsedIn k (layer_at k s t) used) (stepped : Stepped table marks props vars moves has row has used (mid_of end (length mem - end) mem) flags used' part r) where
     unmet : meets_goal k s t ≡ false
     unmet = sym (met_is met) ∙ no-goal
 
@@ -244,35 +241,36 @@ module _ {table marks : List ℕ} {props vars moves : ℕ} {k : Task} {s : State
     enough : end ≤ length mem
     enough = omega (arith, place, a.room, a.holds.same_length)
 
-    checks : {x : NextLayer} → r ≡ x → Judged x (settled k s t) (wrong15 paper k s (suc t)) (ltb (length behind) k.vars)
+    checks : {x : Result NextLayer Reason} → r ≡ x → Judged x (settled k s t) (wrong15 paper k s (suc t)) (ltb (length behind) k.vars)
     checks {x} e =
-        subst (λ (y : NextLayer). Judged y (settled k s t) (wrong15 paper k s (suc t)) (ltb (length behind) k.vars)) (sym step_from.is ∙ e)
+        subst (λ (y : Result NextLayer Reason). Judged y (settled k s t) (wrong15 paper k s (suc t)) (ltb (length behind) k.vars)) (sym step_from.is ∙ e)
         (judged (settled k s t) (wrong15 paper k s (suc t)) (ltb (length behind) k.vars))
 
-    written : {x : NextLayer} → r ≡ x → PartAfter k.vars (layer_at k s (suc t)).val behind part x
-    written e = subst (λ (y : NextLayer). PartAfter k.vars (layer_at k s (suc t)).val behind part y) e step_from.part
+    written : {x : Result NextLayer Reason} → r ≡ x → PartAfter k.vars (layer_at k s (suc t)).val behind part x
+    written e = subst (λ (y : Result NextLayer Reason). PartAfter k.vars (layer_at k s (suc t)).val behind part y) e step_from.part
 
     -- a part that is as it was leaves the memory as it was
     untouched : part ≡ behind → put_mid end (length mem - end) mem part ≡ mem
     untouched e = ap (put_mid end (length mem - end) mem) e ∙ put_same end (length mem - end) mem
 
     -- "no plan"
-    pub exhausted_at : {mem' : List ℤ} → r ≡ outlook.Same → NotesMoves props moves t used' (put_mid end (length mem - end) mem part) mem' → IsBuilt k s old mem' (answer.Exhausted t)
+    pub exhausted_at : {mem' : List ℤ} → r ≡ Ok outlook.Same → NotesMoves props moves t used' (put_mid end (length mem - end) mem part) mem' → IsBuilt k s old mem' (Ok (answer.Exhausted t))
     exhausted_at {mem'} e n =
         layered_exhausted o.ok a unmet (checks e)
         ((subst (λ (l : List ℤ). NotesMoves props moves t used' l mem') (untouched (written e)) n).is k s (suc t) old c.props_is c.moves_is step_from.uses a.holds)
 
-    -- 15
-    pub large_at : r ≡ outlook.TooLarge → IsBuilt k s old (put_mid end (length mem - end) mem part) (answer.Stopped 15 (t + 1))
-    large_at e = rw (untouched (written e)) (layered_large o.ok a unmet (checks e).0 (checks e).1)
+    -- 15 and 14
+    pub stopped_at : {because : Reason} → r ≡ Err because → IsBuilt k s old (put_mid end (length mem - end) mem part) (Err (record { number = number_of because; place = t + 1 }))
+    stopped_at e =
+        let told = checks e in
+        elim told.1 [
+          | inl x ↦ rw (x.0, untouched (written e)) (layered_large o.ok a unmet told.0 x.1)
+          | inr x ↦
+              let short : length behind < k.vars = ltb-true (length behind) k.vars x.2 in
+              rw (x.0, untouched (written e)) (layered_short o.ok a unmet told.0 x.1 (omega (arith, next_size, behind_length, enough, a.holds.same_length)))
+        ]
 
-    -- 14
-    pub short_at : r ≡ outlook.TooShort → IsBuilt k s old (put_mid end (length mem - end) mem part) (answer.Stopped 14 (t + 1))
-    short_at e =
-        let short : length behind < k.vars = ltb-true (length behind) k.vars (checks e).2 in
-        rw (untouched (written e)) (layered_short o.ok a unmet (checks e).0 (checks e).1 (omega (arith, next_size, behind_length, enough, a.holds.same_length)))
-
-    module _ (e : r ≡ outlook.New) where
+    module _ (e : r ≡ Ok outlook.New) where
       pub below_bound : t < bound moves vars
       below_bound = rw (c.moves_is, c.vars_is) (layered_below o.ok a unmet (checks e).0)
 
@@ -285,12 +283,13 @@ module _ {table marks : List ℕ} {props vars moves : ℕ} {k : Task} {s : State
       -- the next layer is the last one stored
       pub next_at :
           {mem' mem'' row' : List ℤ}
+          → RowStored vars row' behind part r
           → NotesMoves props moves t used' (put_mid end (length mem - end) mem part) mem'
           → Filled (pos 0) (noted_at mem' flags (t + 1)) props mem' mem''
-          → Filled (pos 0) (row_at (mid_of end (length mem'' - end) mem'')) vars row row'
           → Grows k s old (suc t) mem'' flags row' used'
       unfolding row_at
-      next_at {mem'} {mem''} {row'} n f g =
+      next_at {mem'} {mem''} {row'} q n f =
+          let stored : (vars ≤ length row') × Filled (pos 0) (row_at row') vars behind part = subst (λ (y : Result NextLayer Reason). RowStored vars row' behind part y) e q in
           let mem₁ = put_mid end (length mem - end) mem part in
           let at₁ : FilledAt (row_at part) (size k s (suc t)) k.vars mem mem₁ =
           subst (λ (x : ℕ). FilledAt (row_at part) x k.vars mem mem₁) place
@@ -309,26 +308,12 @@ module _ {table marks : List ℕ} {props vars moves : ℕ} {k : Task} {s : State
                   has = step_from.truths.same;
                   row =
                       record {
-                        long = omega (arith, g.same_length, a.state.row.long);
-                        each = λ v h. record { is = read held g v h; size = ((written e).row.each v h).size };
+                        long = omega (arith, stored.0, c.vars_is);
+                        each = λ v h. let w = (written e).row.each v h in record { is = sym (stored.1.done v (omega (arith, c.vars_is))) ∙ w.is; size = w.size };
                       };
                 });
             used_in = used_next s t o.ok step_from.uses;
           }
-        where
-          -- the values read back
-          read :
-              Holds k s (suc (suc t)) (suc t) old mem''
-              → Filled (pos 0) (row_at (mid_of end (length mem'' - end) mem'')) vars row row'
-              → (v : ℕ)
-              → v < k.vars
-              → get_or row' v (pos 0) ≡ encode ((layer_at k s (suc t)).val v)
-          read held g v h =
-              g.done v (omega (arith, c.vars_is))
-              ∙ get_or-take (length mem'' - end) (drop end mem'') v (pos 0) (omega (arith, held.same_length, fits, a.holds.same_length))
-              ∙ get_or-drop end mem'' v (pos 0)
-              ∙ ap (λ (x : ℕ). get_or mem'' x (pos 0)) (omega (arith, place))
-              ∙ held.value (suc t) v (omega arith) h
 
 module _ {table marks : List ℕ} {props vars moves : ℕ} {has₀ : List Bool} {row₀ mem₀ : List ℤ} where
   pub growing_start : Growing table marks props vars moves has₀ row₀ mem₀ 0 has₀ row₀ (replicate 64 false) mem₀ (props + moves + vars)
@@ -348,3 +333,24 @@ module _ {table marks : List ℕ} {props vars moves : ℕ} {has₀ : List Bool} 
             λ k s old o c a.
             subst (λ (u : ℕ). Grows k s old u mem' has' row' used') (sym (add-one t)) (f k s old o c (g.is k s old o c a));
       }
+
+-- ---- what the loop knows at layer t
+
+module _ {table marks : List ℕ} {props vars moves : ℕ} {has₀ : List Bool} {row₀ mem₀ : List ℤ} (p : Growable table marks props vars moves has₀ row₀ mem₀) {t : ℕ} {has : List Bool} {row : List ℤ} {used : List Bool} {mem : List ℤ} {end : ℕ} (g : Growing table marks props vars moves has₀ row₀ mem₀ t has row used mem end) where
+  pub grows_now : Grows p.task p.start p.old t mem has row used
+  grows_now = g.is p.task p.start p.old p.outlined p.counts p.layered
+
+  pub end_within : end ≤ length mem
+  end_within = omega (arith, memory_room p.outlined p.counts grows_now.layered, g.end_is)
+
+  pub front_within : props + moves ≤ length mem
+  front_within = omega (arith, memory_room p.outlined p.counts grows_now.layered)
+
+  pub moves_few : moves ≤ 64
+  moves_few = count_small p.outlined p.counts grows_now.layered
+
+  pub layers_few : t ≤ 3201
+  layers_few = layer_small p.outlined p.counts grows_now.layered
+
+  pub props_within : props ≤ length has
+  props_within = has_room p.outlined p.counts grows_now.layered

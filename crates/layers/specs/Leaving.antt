@@ -1,8 +1,9 @@
 -- What building leaves in the memory where it ends with an answer. Assumes nothing.
-use Rattle.std.specs.Prelude.{ℕ, ◌/◌, ◌≡◌, List, ℤ, length}
+use Rattle.std.specs.Prelude.{ℕ, ◌/◌, ◌≡◌, Result, List, ℤ, length}
 use Rattle.std.proofs.Common.{arith, sym, ap, ◌∙◌}
 use Rattle.std.proofs.Math.Option.{none}
 use Rattle.layers.specs.declared.Built.{Built as BuiltAnswer}
+use Rattle.model.specs.declared.Refusal.{Refusal}
 use Rattle.model.specs.Limits.{paper}
 use Rattle.model.specs.Task.{normal, Task}
 use Rattle.model.specs.Layer.{Outcome, reported}
@@ -26,7 +27,7 @@ start_small {k} props {vars} bs ok e accepted =
 
 -- the memory holds the layers up to the last one
 pub built_layers :
-    {t bs marks : List ℕ} {props vars moves : ℕ} {mem mem' : List ℤ} {b : BuiltAnswer} (r : ReadyIn t bs marks props vars moves)
+    {t bs marks : List ℕ} {props vars moves : ℕ} {mem mem' : List ℤ} {b : Result BuiltAnswer Refusal} (r : ReadyIn t bs marks props vars moves)
     → IsBuilt r.task (start_of props bs) mem mem' b
     → (o : Outcome)
     → built_of b ≡ answered o

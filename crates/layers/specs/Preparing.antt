@@ -1,15 +1,13 @@
 -- What stands before any layer: a normal table, outlined, and an accepted state; and the answer of `decide`.
 -- Assumes nothing.
-use Rattle.std.specs.Prelude.{ℕ, ◌/◌, ◌≤◌, ◌≡◌, List, ℤ, length}
+use Rattle.std.specs.Prelude.{ℕ, ◌/◌, ◌≤◌, ◌≡◌, Result, Ok, Err, List, ℤ, length}
 use Rattle.std.proofs.Common.{arith, sym, ◌∙◌}
 use Rattle.std.proofs.Math.Path.{ap}
 use Rattle.std.proofs.Math.Option.{none, some}
 use Rattle.layers.specs.declared.Built.{Built as BuiltAnswer}
-use Rattle.layers.specs.declared.Prepared.{Prepared}
-use Rattle.layers.specs.declared.Prepared.TheVariants as before
+use Rattle.model.specs.declared.Head.{Head}
 use Rattle.model.specs.declared.Refusal.{Refusal}
 use Rattle.model.specs.declared.DecideAnswer.{DecideAnswer}
-use Rattle.model.specs.declared.DecideAnswer.TheVariants as decide
 use Rattle.model.specs.Limits.{paper}
 use Rattle.model.specs.Task.{normal, Task}
 use Rattle.model.specs.Reading.{Verdict, refused, only, reading}
@@ -34,9 +32,9 @@ pub record ReadyIn (t bs m : List ℕ) (props vars moves : ℕ) : Type 0 where
   pub counts : Counts task props vars moves
   pub accepted_state : state_refusal paper props (vars / 2) bs ≡ none
 
-abbrev pub IsPrepared : List ℕ → List ℕ → List ℕ → Prepared → Type 0
-IsPrepared t bs m (before.Ready props vars moves) = ReadyIn t bs m props vars moves
-IsPrepared t bs m (before.Refused r) = prepared paper t bs ≡ unready r
+abbrev pub IsPrepared : List ℕ → List ℕ → List ℕ → Result Head Refusal → Type 0
+IsPrepared t bs m (Ok n) = ReadyIn t bs m n.props n.vars n.moves
+IsPrepared t bs m (Err r) = prepared paper t bs ≡ unready r
 
 pub table_refused : (t bs : List ℕ) {r : Refusal} → reading paper (only normal) t ≡ refused r → prepared paper t bs ≡ unready r
 unfolding prepared ready_of
@@ -80,15 +78,15 @@ ready_buildable r = record { task = r.task; outlined = r.outlined; counts = r.co
 
 -- ---- decide
 
-pub record Decided (t bs : List ℕ) (mem mem' : List ℤ) (r : DecideAnswer) : Type 0 where
+pub record Decided (t bs : List ℕ) (mem mem' : List ℤ) (r : Result DecideAnswer Refusal) : Type 0 where
   pub answers : r ≡ decide_answer paper t bs mem
   pub leaves : mem' ≡ decide_memory paper t bs mem
 
 -- the reported layers are within the bound
-pub decided_within : {t bs : List ℕ} {mem mem' : List ℤ} {r : DecideAnswer} → Decided t bs mem mem' r → LayersWithin t (decide_layers r)
+pub decided_within : {t bs : List ℕ} {mem mem' : List ℤ} {r : Result DecideAnswer Refusal} → Decided t bs mem mem' r → LayersWithin t (decide_layers r)
 decided_within {t} {bs} {mem} d = rw d.answers (decide_within t bs mem)
 
-pub decided_refused : (t bs : List ℕ) (mem : List ℤ) {r : Refusal} → prepared paper t bs ≡ unready r → Decided t bs mem mem (decide.Refused r)
+pub decided_refused : (t bs : List ℕ) (mem : List ℤ) {r : Refusal} → prepared paper t bs ≡ unready r → Decided t bs mem mem (Err r)
 unfolding decide_answer decide_of decide_memory memory_of
 decided_refused t bs mem e =
     record {
@@ -97,7 +95,7 @@ decided_refused t bs mem e =
     }
 
 pub decided_built :
-    (t bs : List ℕ) (mem mem' : List ℤ) {k : Task} {s : State} {b : BuiltAnswer} {r : DecideAnswer}
+    (t bs : List ℕ) (mem mem' : List ℤ) {k : Task} {s : State} {b : Result BuiltAnswer Refusal} {r : Result DecideAnswer Refusal}
     → prepared paper t bs ≡ ready k s
     → IsBuilt k s mem mem' b
     → r ≡ decided (built_of b)

@@ -1,6 +1,6 @@
 -- Layer 0: the state's truths and values in two arrays and in the memory.
 -- Assumes nothing.
-use Rattle.std.specs.Prelude.{ℕ, ◌+◌, ◌-◌, ◌*◌, ◌/◌, ◌≤◌, ◌<◌, ◌≡◌, Bool, ℤ}
+use Rattle.std.specs.Prelude.{ℕ, ◌+◌, ◌-◌, ◌*◌, ◌/◌, ◌≤◌, ◌<◌, ◌≡◌, Result, Err, Bool, ℤ}
 use Rattle.std.proofs.Common.{arith, ◌∙◌}
 use Rattle.std.proofs.Math.Path.{refl, ap, subst}
 use Rattle.std.proofs.Math.Bool.{false}
@@ -11,7 +11,7 @@ use Rattle.std.proofs.Math.IntN.{pos, nat_abs}
 use Rattle.std.proofs.Math.ListN.{length, get_or}
 use Rattle.integer.specs.Linear.{zlin, nat_abs_split, le_lt_z}
 use Rattle.layers.specs.declared.Built.{Built as BuiltAnswer}
-use Rattle.layers.specs.declared.Built.TheVariants as answer
+use Rattle.model.specs.declared.Refusal.{Refusal}
 use Rattle.model.specs.Limits.{paper}
 use Rattle.model.specs.Lists.{tabulate}
 use Rattle.model.specs.Task.{normal, Task}
@@ -52,7 +52,7 @@ pub record Buildable (table marks : List ℕ) (props vars moves : ℕ) (bs : Lis
   pub accepted : state_refusal paper props (vars / 2) bs ≡ none
 
 -- what building in a memory ends with, in every reading of the table
-pub record Builds (table marks : List ℕ) (props vars moves : ℕ) (bs : List ℕ) (mem mem' : List ℤ) (r : BuiltAnswer) : Type 0 where
+pub record Builds (table marks : List ℕ) (props vars moves : ℕ) (bs : List ℕ) (mem mem' : List ℤ) (r : Result BuiltAnswer Refusal) : Type 0 where
   pub is : (k : Task) → Outline normal table marks k → Counts k props vars moves → IsBuilt k (start_of props bs) mem mem' r
 
 -- "N even, 0..32"
@@ -118,7 +118,7 @@ module _ {k : Task} {props vars moves : ℕ} (ok : TaskOk paper normal k) (n : C
       false_not (le_lt_z {a = pos paper.layer_value} {b = (start_of props bs).val v} (omega (zlin, nat_abs_split ((start_of props bs).val v)))) big))
 
   -- 14 at layer 0 leaves the memory as it was
-  pub first_short : {old : List ℤ} → length old < props + moves + vars → IsBuilt k (start_of props bs) old old (answer.Stopped 14 0)
+  pub first_short : {old : List ℤ} → length old < props + moves + vars → IsBuilt k (start_of props bs) old old (Err (record { number = 14; place = 0 }))
   unfolding built_of built_memory overwrite
   first_short {old} h =
       built_by (stopped 14 0) []

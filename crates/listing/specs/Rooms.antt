@@ -1,13 +1,11 @@
 -- The listing program's buffers, and that what it prints is the definition's text.
 -- Assumes nothing.
-use Rattle.std.specs.Prelude.{ℕ, ◌≤◌, ◌≡◌, ℤ, length, take, drop}
+use Rattle.std.specs.Prelude.{ℕ, ◌≤◌, ◌≡◌, ℤ, length, take, drop, Ok, Err}
 use Rattle.std.proofs.Math.Path.{sym, ap}
 use Rattle.std.proofs.Common.{subst, ◌∙◌, arith}
 use mathlib.Core.List.{List, []}
 use Rattle.std.proofs.Math.Seq.{take-append_seam}
 use Rattle.model.specs.declared.Refusal.{Refusal}
-use Rattle.model.specs.declared.PlanAnswer.TheVariants.{Refused}
-use Rattle.model.specs.declared.WriteAnswer.TheVariants as write
 use Rattle.model.specs.Limits.{paper}
 use Rattle.model.specs.Memory.{overwrite}
 use Rattle.model.specs.Calls.{Output, on_output, prepared, normalised, normalise_answer, normalise_out, plan_answer, plan_out}
@@ -57,10 +55,10 @@ module _ {normal_form : List ℕ} {layers : List ℤ} {plan text : List ℕ} (ro
   listing_is e = sym (ap (output_text bs) (ap (normalised paper t) (sym rooms.normal_length_lem) ∙ e))
 
   -- normalise turns back
-  pub refused_room : (r : Refusal) → Printable (Refused r) plan text
+  pub refused_room : (r : Refusal) → Printable (Err r) plan text
   refused_room r = refused_printable r plan text text_is
 
-  pub refused_text : (r : Refusal) → normalise_answer paper t normal_form ≡ write.Refused r → answer_text (Refused r) [] ≡ listing paper t bs
+  pub refused_text : (r : Refusal) → normalise_answer paper t normal_form ≡ Err r → answer_text (Err r) [] ≡ listing paper t bs
   unfolding answer_text output_text on_output
   refused_text r e = listing_is (refused_turns t normal_form r e)
 
@@ -74,7 +72,7 @@ module _ {normal_form : List ℕ} {layers : List ℤ} {plan text : List ℕ} (ro
 
   pub planned_text :
       (n : ℕ) (part : List ℕ)
-      → normalise_answer paper t normal_form ≡ write.Written n
+      → normalise_answer paper t normal_form ≡ Ok n
       → part ≡ take n (normalise_out paper t normal_form)
       → answer_text (plan_answer paper part bs layers plan) (planned_records (prepared paper part bs)) ≡ listing paper t bs
   unfolding output_text on_output

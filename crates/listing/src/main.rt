@@ -6,7 +6,6 @@ ghost use Rattle.model.specs.Limits.{paper};
 ghost use Rattle.model.specs.Listing.{listing};
 ghost use Rattle.listing.specs.Rooms.{Rooms};
 
-use model::{PlanAnswer, WriteAnswer};
 use std::fs::File;
 use std::io::Read;
 use std::rt::Files;
@@ -24,10 +23,9 @@ fn text_of(
     ensures { (take result text.new ≡ listing paper task.now state.now) × (result ≤ length text.new) }
 {
     match normal::normalise(task, normal) {
-        WriteAnswer::Refused(r) => report::listing_text(PlanAnswer::Refused(r), plan, text),
-        WriteAnswer::Written(n) => {
-            let len = n as usize;
-            let answer = relaxed_plan::plan(&normal[..len], state, layers, plan);
+        Err(r) => report::listing_text(Err(r), plan, text),
+        Ok(n) => {
+            let answer = relaxed_plan::plan(&normal[..n as usize], state, layers, plan);
             report::listing_text(answer, plan, text)
         }
     }
@@ -51,34 +49,15 @@ fn file_bytes(rt: &impl Files, path: &str, buffer: &mut [u8]) -> usize
     done
 }
 
-// Memory for the normal form and for the plan.
-fn output_buffer() -> [u8; 64000]
-    ensures { 64000 ≡ length result }
-{
-    [0; 64000]
-}
-
-fn layer_memory() -> [i64; 8192]
-    ensures { 8192 ≡ length result }
-{
-    [0; 8192]
-}
-
-fn text_buffer() -> [u8; 160056]
-    ensures { 160056 ≡ length result }
-{
-    [0; 160056]
-}
-
 // A buffer of one byte more than any accepted file has is enough: a longer file is refused by its length alone. Whether
 // the text could be written is not asked: the exit status is 0 in any case.
 fn main(rt: HostRuntime) {
     let mut task = [0u8; 32001];
     let mut state = [0u8; 185];
-    let mut normal = output_buffer();
-    let mut layers = layer_memory();
-    let mut plan = output_buffer();
-    let mut text = text_buffer();
+    let mut normal = [0u8; 64000];
+    let mut layers = [0i64; 8192];
+    let mut plan = [0u8; 64000];
+    let mut text = [0u8; 160056];
     let task_len = file_bytes(&rt, "task.bin", &mut task);
     let state_len = file_bytes(&rt, "state.bin", &mut state);
     let n = text_of(

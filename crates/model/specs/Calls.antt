@@ -1,14 +1,11 @@
 -- The answers of the calls, with what each lent memory holds afterwards, as functions of what it held before. For any bytes
 -- there is exactly one answer. Assumes nothing.
-use Rattle.std.specs.Prelude.{ℕ, zero, suc, ◌+◌, ◌/◌, true, false, ◌&&◌, List, [], ◌∷◌, ◌++◌, eqb, ltb, leb, ℤ, length, get_or, take, drop}
+use Rattle.std.specs.Prelude.{ℕ, zero, suc, ◌/◌, true, false, ◌&&◌, List, [], ◌∷◌, ◌++◌, eqb, ltb, leb, ℤ, length, get_or, take, drop, Result, Ok, Err}
 use Rattle.std.proofs.Math.Option.{Option, none, some, map}
 use Rattle.std.proofs.Math.Seq.{slice}
 use Rattle.integer.specs.BigEndian.{bytes, unsigned}
 use Rattle.model.specs.declared.Refusal.{Refusal}
-use Rattle.model.specs.declared.ReadAnswer.{ReadAnswer}
-use Rattle.model.specs.declared.ReadAnswer.TheVariants as read
-use Rattle.model.specs.declared.WriteAnswer.{WriteAnswer}
-use Rattle.model.specs.declared.WriteAnswer.TheVariants as write
+use Rattle.model.specs.declared.Head.{Head as ReadHead}
 use Rattle.model.specs.declared.DecideAnswer.{DecideAnswer}
 use Rattle.model.specs.declared.DecideAnswer.TheVariants as decide
 use Rattle.model.specs.declared.PlanAnswer.{PlanAnswer}
@@ -17,7 +14,6 @@ use Rattle.model.specs.Limits.{Limits}
 use Rattle.model.specs.Lists.{all_below}
 use Rattle.model.specs.Task.{written, normal, Task}
 use Rattle.model.specs.Command.{head, code_of, task_bytes}
-use Rattle.model.specs.Seen.{Head}
 use Rattle.model.specs.Reading.{Verdict, accepted, refused, only, both, reading}
 use Rattle.model.specs.Move.{State, applicable, real, move_at}
 use Rattle.model.specs.NormalForm.{normal_task, normal_state}
@@ -28,12 +24,12 @@ use Rattle.model.specs.Plan.{Record, records, helpful_moves}
 
 -- ---- read
 
-unfoldable pub read_of : Verdict → ReadAnswer
+unfoldable pub read_of : Verdict → Result ReadHead Refusal
 read_of (accepted k) =
-    read.Head (code_of (head k.header.form)) k.header.props k.header.vars k.header.moves
-read_of (refused r) = read.Refused r
+    Ok (record { kind = code_of (head k.header.form); props = k.header.props; vars = k.header.vars; moves = k.header.moves })
+read_of (refused r) = Err r
 
-unfoldable pub read_answer : Limits → List ℕ → ReadAnswer
+unfoldable pub read_answer : Limits → List ℕ → Result ReadHead Refusal
 read_answer L t = read_of (reading L both t)
 
 -- ---- the block reader
@@ -90,9 +86,9 @@ fitted size (turns r) = turns r
 fitted size (writes bs) =
     elim (ltb size (length bs)) [ true ↦ turns (record { number = 13; place = 0 }) | false ↦ writes bs ]
 
-unfoldable pub write_answer : Output → WriteAnswer
-write_answer (writes bs) = write.Written (length bs)
-write_answer (turns r) = write.Refused r
+unfoldable pub write_answer : Output → Result ℕ Refusal
+write_answer (writes bs) = Ok (length bs)
+write_answer (turns r) = Err r
 
 -- "Outputs keep their bytes"; "In an accepted call the bytes of an output behind the result are kept."
 unfoldable pub output_after : Output → List ℕ → List ℕ
@@ -111,7 +107,7 @@ normal_of (refused r) = turns r
 unfoldable pub normalised : Limits → List ℕ → ℕ → Output
 normalised L t size = fitted size (normal_of (reading L (only written) t))
 
-unfoldable pub normalise_answer : Limits → List ℕ → List ℕ → WriteAnswer
+unfoldable pub normalise_answer : Limits → List ℕ → List ℕ → Result ℕ Refusal
 normalise_answer L t out = write_answer (normalised L t (length out))
 
 unfoldable pub normalise_out : Limits → List ℕ → List ℕ → List ℕ
@@ -150,7 +146,7 @@ step_of L (accepted k) bs b = step_with_state L k.task bs b (state_refusal L k.t
 unfoldable pub stepped : Limits → List ℕ → List ℕ → ℕ → ℕ → Output
 stepped L t bs b size = fitted size (step_of L (reading L (only written) t) bs b)
 
-unfoldable pub step_answer : Limits → List ℕ → List ℕ → ℕ → List ℕ → WriteAnswer
+unfoldable pub step_answer : Limits → List ℕ → List ℕ → ℕ → List ℕ → Result ℕ Refusal
 step_answer L t bs b out = write_answer (stepped L t bs b (length out))
 
 unfoldable pub step_out : Limits → List ℕ → List ℕ → ℕ → List ℕ → List ℕ
@@ -175,16 +171,16 @@ ready_of L (accepted k) bs = ready_with k.task bs (state_refusal L k.task.props 
 unfoldable pub prepared : Limits → List ℕ → List ℕ → Ready
 prepared L t bs = ready_of L (reading L (only normal) t) bs
 
-unfoldable pub decided : Built → DecideAnswer
-decided (answered (reached m)) = decide.Plan m m
-decided (answered (exhausted m)) = decide.NoPlan m
-decided (stopped n m) = decide.Refused (record { number = n; place = m })
+unfoldable pub decided : Built → Result DecideAnswer Refusal
+decided (answered (reached m)) = Ok (decide.Plan m m)
+decided (answered (exhausted m)) = Ok (decide.NoPlan m)
+decided (stopped n m) = Err (record { number = n; place = m })
 
-unfoldable pub decide_of : Limits → ℕ → Ready → DecideAnswer
+unfoldable pub decide_of : Limits → ℕ → Ready → Result DecideAnswer Refusal
 decide_of L size (ready k s) = decided (build L k s size)
-decide_of L size (unready r) = decide.Refused r
+decide_of L size (unready r) = Err r
 
-unfoldable pub decide_answer : Limits → List ℕ → List ℕ → List ℤ → DecideAnswer
+unfoldable pub decide_answer : Limits → List ℕ → List ℕ → List ℤ → Result DecideAnswer Refusal
 decide_answer L t bs mem = decide_of L (length mem) (prepared L t bs)
 
 unfoldable pub memory_of : Limits → Ready → List ℤ → List ℤ
@@ -218,19 +214,19 @@ plan_records k s (answered (exhausted m)) = []
 plan_records k s (stopped n m) = []
 
 -- "plan adds the number of records and the first moves", which are the helpful moves (document 02, request 6); with "no plan" both are 0
-unfoldable pub planned : Task → State → Built → PlanAnswer
-planned k s (answered (reached m)) = plan.Plan m m (length (records k s m)) (helpful_moves k s m)
-planned k s (answered (exhausted m)) = plan.NoPlan m 0 0
-planned k s (stopped n m) = plan.Refused (record { number = n; place = m })
+unfoldable pub planned : Task → State → Built → Result PlanAnswer Refusal
+planned k s (answered (reached m)) = Ok (plan.Plan m m (length (records k s m)) (helpful_moves k s m))
+planned k s (answered (exhausted m)) = Ok (plan.NoPlan m 0 0)
+planned k s (stopped n m) = Err (record { number = n; place = m })
 
-unfoldable pub plan_fitted : ℕ → Task → State → Built → PlanAnswer
-plan_fitted size k s b = on_output (fitted size (writes (record_bytes (plan_records k s b)))) (λ bs. planned k s b) (λ r. plan.Refused r)
+unfoldable pub plan_fitted : ℕ → Task → State → Built → Result PlanAnswer Refusal
+plan_fitted size k s b = on_output (fitted size (writes (record_bytes (plan_records k s b)))) (λ bs. planned k s b) (λ r. Err r)
 
-unfoldable pub plan_of : Limits → ℕ → ℕ → Ready → PlanAnswer
+unfoldable pub plan_of : Limits → ℕ → ℕ → Ready → Result PlanAnswer Refusal
 plan_of L size room (ready k s) = plan_fitted room k s (build L k s size)
-plan_of L size room (unready r) = plan.Refused r
+plan_of L size room (unready r) = Err r
 
-unfoldable pub plan_answer : Limits → List ℕ → List ℕ → List ℤ → List ℕ → PlanAnswer
+unfoldable pub plan_answer : Limits → List ℕ → List ℕ → List ℤ → List ℕ → Result PlanAnswer Refusal
 plan_answer L t bs mem out = plan_of L (length mem) (length out) (prepared L t bs)
 
 -- "After plan's 13 it holds what decide leaves there."
@@ -249,11 +245,11 @@ plan_out L t bs mem out = plan_out_of L (length mem) (prepared L t bs) out
 
 -- Demand 3 is "one claim, from the written table and the state to both answers and the plan's list": decide and plan run on
 -- exactly the bytes that normalise writes, and turn back where it does.
-unfoldable pub campaign_decision : Limits → List ℕ → List ℕ → List ℕ → List ℤ → DecideAnswer
-campaign_decision L t bs normalOut mem = on_output (normalised L t (length normalOut)) (λ nb. decide_answer L nb bs mem) (λ r. decide.Refused r)
+unfoldable pub campaign_decision : Limits → List ℕ → List ℕ → List ℕ → List ℤ → Result DecideAnswer Refusal
+campaign_decision L t bs normalOut mem = on_output (normalised L t (length normalOut)) (λ nb. decide_answer L nb bs mem) (λ r. Err r)
 
-unfoldable pub campaign_plan : Limits → List ℕ → List ℕ → List ℕ → List ℤ → List ℕ → PlanAnswer
-campaign_plan L t bs normalOut mem out = on_output (normalised L t (length normalOut)) (λ nb. plan_answer L nb bs mem out) (λ r. plan.Refused r)
+unfoldable pub campaign_plan : Limits → List ℕ → List ℕ → List ℕ → List ℤ → List ℕ → Result PlanAnswer Refusal
+campaign_plan L t bs normalOut mem out = on_output (normalised L t (length normalOut)) (λ nb. plan_answer L nb bs mem out) (λ r. Err r)
 
 unfoldable pub campaign_memory : Limits → List ℕ → List ℕ → List ℕ → List ℤ → List ℤ
 campaign_memory L t bs normalOut mem = on_output (normalised L t (length normalOut)) (λ nb. plan_memory L nb bs mem) (λ r. mem)

@@ -1,4 +1,5 @@
 pub mod Limits
+pub mod Reasons
 pub mod Lists
 pub mod Task
 pub mod Move

@@ -1,6 +1,6 @@
 -- What the listing program prints, as bytes of ASCII text (document 01, "Trial campaigns", M1).
 -- Assumes nothing.
-use Rattle.std.specs.Prelude.{ℕ, zero, suc, ◌+◌, ◌/◌, ◌%◌, true, false, List, [], ◌∷◌, ◌++◌, ltb}
+use Rattle.std.specs.Prelude.{ℕ, zero, suc, ◌+◌, ◌/◌, ◌%◌, true, false, List, [], ◌∷◌, ◌++◌, ltb, Result, Ok, Err}
 use Rattle.model.specs.declared.Refusal.{Refusal}
 use Rattle.model.specs.declared.PlanAnswer.{PlanAnswer}
 use Rattle.model.specs.declared.PlanAnswer.TheVariants as plan
@@ -57,11 +57,11 @@ records_text [] = []
 records_text (r ∷ rs) = decimal r.move ++ space ++ decimal r.count ++ newline ++ records_text rs
 
 -- the text of plan's answer, of which rs are the records. "plan 3 layers 2": "records and layers"; "no plan layers" and the layers
-unfoldable pub answer_text : PlanAnswer → List Record → List ℕ
-answer_text (plan.Plan layer layers records moves) rs =
+unfoldable pub answer_text : Result PlanAnswer Refusal → List Record → List ℕ
+answer_text (Ok (plan.Plan layer layers records moves)) rs =
     plan_word ++ decimal records ++ layers_word ++ decimal layers ++ newline ++ records_text rs
-answer_text (plan.NoPlan layers records moves) rs = no_plan_word ++ decimal layers ++ newline
-answer_text (plan.Refused r) rs = refusal_text r
+answer_text (Ok (plan.NoPlan layers records moves)) rs = no_plan_word ++ decimal layers ++ newline
+answer_text (Err r) rs = refusal_text r
 
 unfoldable pub ready_text : Limits → Ready → List ℕ
 ready_text L (ready k s) =

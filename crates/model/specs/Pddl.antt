@@ -1,11 +1,10 @@
 -- A written table and a state as PDDL 2.1 text, a domain and a problem (document 02, request 1): the grammar of the subset, a type
 -- for each nonterminal and a constructor for each production; the text, a clause for each production; what stands for each command
 -- of a table; and the call. `PddlMeaning` has the meaning that PDDL 2.1 gives each form. Assumes nothing.
-use Rattle.std.specs.Prelude.{ℕ, zero, suc, true, false, List, [], ◌∷◌, ◌++◌, ℤ, pos, negsuc, length}
+use Rattle.std.specs.Prelude.{ℕ, zero, suc, true, false, List, [], ◌∷◌, ◌++◌, ℤ, pos, negsuc, length, Result}
 use Prim.Native.String.{String}
 use Rattle.std.proofs.Math.Option.{Option, none, some}
 use Rattle.model.specs.declared.Refusal.{Refusal}
-use Rattle.model.specs.declared.WriteAnswer.{WriteAnswer}
 use Rattle.model.specs.Limits.{Limits}
 use Rattle.model.specs.Lists.{tabulate}
 use Rattle.model.specs.Task.{written, Term, Comparison, at_least, above, at_most, below, equal, Condition, Kind, assign, increase, decrease, Effect, need, add, delete, condition, effect, Block, Task}
@@ -218,7 +217,7 @@ text_of L (accepted k) bs = text_with_state k.task bs (state_refusal L k.task.pr
 unfoldable pub pddl_text : Limits → List ℕ → List ℕ → ℕ → Output
 pddl_text L t bs size = fitted size (text_of L (reading L (only written) t) bs)
 
-unfoldable pub pddl_answer : Limits → List ℕ → List ℕ → List ℕ → WriteAnswer
+unfoldable pub pddl_answer : Limits → List ℕ → List ℕ → List ℕ → Result ℕ Refusal
 pddl_answer L t bs out = write_answer (pddl_text L t bs (length out))
 
 unfoldable pub pddl_out : Limits → List ℕ → List ℕ → List ℕ → List ℕ

@@ -1,12 +1,12 @@
 -- The rewriter of stored tables: it "drops such moves and renumbers the others" (document 02, request 5). Assumes nothing.
-use Rattle.std.specs.Prelude.{ℕ, zero, suc, cond, List, [], ◌∷◌, map, length, take}
-use Rattle.model.specs.declared.WriteAnswer.{WriteAnswer}
+use Rattle.std.specs.Prelude.{ℕ, zero, suc, cond, List, [], ◌∷◌, map, length, take, Result}
 use Rattle.model.specs.Limits.{Limits}
 use Rattle.model.specs.Task.{Block, Task, active}
 use Rattle.model.specs.Move.{move_at}
 use Rattle.model.specs.Command.{task_bytes}
 use Rattle.model.specs.Reading.{Verdict, accepted, refused, stored, reading}
 use Rattle.model.specs.Calls.{Output, writes, turns, fitted, write_answer, output_after}
+use Rattle.model.specs.declared.Refusal.{Refusal}
 
 -- "drops such moves": the moves that do something, in their order
 unfoldable pub active_moves : List Block → List Block
@@ -46,7 +46,7 @@ rewrite_of (refused r) = turns r
 unfoldable pub rewrote : Limits → List ℕ → ℕ → Output
 rewrote L t size = fitted size (rewrite_of (reading L stored t))
 
-unfoldable pub rewrite_answer : Limits → List ℕ → List ℕ → WriteAnswer
+unfoldable pub rewrite_answer : Limits → List ℕ → List ℕ → Result ℕ Refusal
 rewrite_answer L t out = write_answer (rewrote L t (length out))
 
 unfoldable pub rewrite_out : Limits → List ℕ → List ℕ → List ℕ

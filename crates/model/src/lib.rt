@@ -1,6 +1,11 @@
-// The answers of the engine's calls (document 01, "Where a call turns back"). A refusal has its number and place; for every
-// other case the fields are the values that document 01 names. specs/Calls.antt says which answer is right.
+// The answers of the engine's calls (document 01, "Where a call turns back"). A call answers Ok with the values that document 01 names
+// (normalise, step and rewrite the length written; blocking the offset of the command that blocks, or None where nothing does), or Err
+// with the refusal, its number and place. specs/Calls.antt says which answer is right.
 #![tactic(auto)]
+
+mod reason;
+
+pub use reason::Reason;
 
 // "A refusal is a number and a place."
 #[derive(Clone, Copy)]
@@ -11,21 +16,11 @@ pub struct Refusal {
 
 // "Read itself answers the head's kind and its three counts." The kind is the head's byte.
 #[derive(Clone, Copy)]
-pub enum ReadAnswer {
-    Head {
-        kind: u64,
-        props: u64,
-        vars: u64,
-        moves: u64,
-    },
-    Refused(Refusal),
-}
-
-// "Normalise answers the length of the normal form and step the length of the state".
-#[derive(Clone, Copy)]
-pub enum WriteAnswer {
-    Written(u64),
-    Refused(Refusal),
+pub struct Head {
+    pub kind: u64,
+    pub props: u64,
+    pub vars: u64,
+    pub moves: u64,
 }
 
 // "Decide answers layer or "no plan" with the reported layers".
@@ -33,7 +28,6 @@ pub enum WriteAnswer {
 pub enum DecideAnswer {
     Plan { layer: u64, layers: u64 },
     NoPlan { layers: u64 },
-    Refused(Refusal),
 }
 
 // "plan adds the number of records and the first moves", since request 6 of document 02 the helpful ones: of "no plan" both are 0.
@@ -50,13 +44,4 @@ pub enum PlanAnswer {
         records: u64,
         first_moves: u64,
     },
-    Refused(Refusal),
-}
-
-// "gives the offset .. of the first 50 or 43 command of the goal"; "If decide answers otherwise, the tool says that nothing blocks."
-#[derive(Clone, Copy)]
-pub enum BlockingAnswer {
-    Blocks { offset: u64 },
-    Nothing,
-    Refused(Refusal),
 }

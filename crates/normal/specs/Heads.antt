@@ -1,20 +1,18 @@
 -- The answer of normalising, from what reading the table answers. Assumes nothing.
-use Rattle.std.specs.Prelude.{ℕ, ◌≡◌, List}
+use Rattle.std.specs.Prelude.{ℕ, ◌≡◌, List, Result, Err}
 use Rattle.std.proofs.Common.{sym, ◌∙◌}
 use Rattle.std.proofs.Math.Path.{ap}
 use Rattle.model.specs.declared.Refusal.{Refusal}
 use Rattle.model.specs.Limits.{paper}
 use Rattle.model.specs.Task.{written}
 use Rattle.model.specs.Reading.{refused, only, reading}
-use Rattle.model.specs.declared.WriteAnswer.{WriteAnswer}
-use Rattle.model.specs.declared.WriteAnswer.TheVariants as write
 use Rattle.model.specs.Calls.{writes, normal_bytes, normal_of, normalised, normalise_answer, normalise_out}
 use Rattle.table.specs.Outlines.{HeadRead}
 use Rattle.reader.specs.Written.{read_task, task_is}
 use Rattle.output.specs.Answers.{Answered, answered_same, answered_refused}
 
 normalise_answered :
-    (t : List ℕ) {old new : List ℕ} {r : WriteAnswer}
+    (t : List ℕ) {old new : List ℕ} {r : Result ℕ Refusal}
     → Answered (normal_of (reading paper (only written) t)) old new r
     → (r ≡ normalise_answer paper t old) × (new ≡ normalise_out paper t old)
 unfolding normalise_answer normalise_out normalised
@@ -27,7 +25,7 @@ module _ {t marks : List ℕ} {props vars moves : ℕ} (h : HeadRead written t m
 
   -- the call's answer is what was written
   pub normalise_written :
-      {old new : List ℕ} {r : WriteAnswer}
+      {old new : List ℕ} {r : Result ℕ Refusal}
       → Answered (writes (normal_bytes (read_task t))) old new r
       → (r ≡ normalise_answer paper t old) × (new ≡ normalise_out paper t old)
   normalise_written a = normalise_answered t (answered_same a (sym normal_is))
@@ -36,6 +34,6 @@ module _ {t marks : List ℕ} {props vars moves : ℕ} (h : HeadRead written t m
 pub normalise_refused :
     (t old : List ℕ) {q : Refusal}
     → reading paper (only written) t ≡ refused q
-    → (◌≡◌ (write.Refused q) (normalise_answer paper t old)) × (old ≡ normalise_out paper t old)
+    → (Err q ≡ normalise_answer paper t old) × (old ≡ normalise_out paper t old)
 unfolding normal_of
 normalise_refused t old e = normalise_answered t (answered_refused old (ap normal_of e))

@@ -55,6 +55,12 @@ normal_size k =
     omega
     (arith, ap length (normal_parts k), length-append (moves_print k.moves) ((code_of open_goal ∷ block_print k.goal) ++ (code_of end_table ∷ [])), length-append (code_of open_goal ∷ block_print k.goal) (code_of end_table ∷ []))
 
+pub whole_short :
+    {t marks : List ℕ} {moves : ℕ}
+    → Source t marks moves
+    → length (moves_print (read_task t).moves) + length (block_print (read_task t).goal) + 6 ≤ 64_000
+whole_short {t} s = omega (arith, normal_size (read_task t), source_small s)
+
 -- ---- the moves one by one
 
 -- the blocks before b are written

@@ -11,13 +11,11 @@ ghost use Rattle.block.specs.Remaining.{Writable, Remaining};
 ghost use Rattle.normal_block.specs.Effects.{effect_bytes, mirror_bytes, effect_print};
 ghost use Rattle.normal_block.specs.Blocks.{print_of, Printable, block_print};
 
-use block::ItemAt;
+use block::{ItemAt, Terms};
 
 // The normal effect on `var` with value S + c, or −S + c.
 fn put_effect(
-    part: &[u8],
-    from: usize,
-    n: usize,
+    terms: &Terms,
     negated: bool,
     kind: u8,
     var: usize,
@@ -25,10 +23,10 @@ fn put_effect(
     out: &mut [u8],
     at: usize,
 ) -> usize
-    requires { (SumAt part.now from n) × (at < 2 ^ 61) × (var < 256) × (nat_abs c ≤ 1000001) }
-    ensures { Written out.old at (effect_bytes negated kind var (terms_at part.now from n) c) out.new result }
+    requires { (SumAt terms.now.part.now terms.now.from terms.now.count) × (at < 2 ^ 61) × (var < 256) × (nat_abs c ≤ 1000001) }
+    ensures { Written out.old at (effect_bytes negated kind var (terms_at terms.now.part.now terms.now.from terms.now.count) c) out.new result }
 {
-    let close = normal_condition::put_sum(part, from, n, negated, out, at);
+    let close = normal_condition::put_sum(terms, negated, out, at);
     let changed = output::put_pair(out, close, 0x46, kind);
     let base = output::put_byte(out, changed, var as u8);
     output::put_i32(out, base, c)
@@ -36,9 +34,7 @@ fn put_effect(
 
 // "Each effect on v_i is written on 2i, then mirrored on 2i+1."
 fn put_mirrored(
-    part: &[u8],
-    from: usize,
-    n: usize,
+    terms: &Terms,
     negated: bool,
     kind: u8,
     var: usize,
@@ -46,41 +42,22 @@ fn put_mirrored(
     out: &mut [u8],
     at: usize,
 ) -> usize
-    requires { (SumAt part.now from n) × (at ≤ 64000) × (var < 16) × (nat_abs c ≤ 1000000) }
-    ensures { Written out.old at (mirror_bytes negated kind var (terms_at part.now from n) c) out.new result }
+    requires { (SumAt terms.now.part.now terms.now.from terms.now.count) × (at ≤ 64000) × (var < 16) × (nat_abs c ≤ 1000000) }
+    ensures { Written out.old at (mirror_bytes negated kind var (terms_at terms.now.part.now terms.now.from terms.now.count) c) out.new result }
 {
-    let next = put_effect(part, from, n, negated, kind, 2 * var, c, out, at);
-    put_effect(
-        part,
-        from,
-        n,
-        !negated,
-        kind,
-        2 * var + 1,
-        integer::neg(c),
-        out,
-        next,
-    )
+    let next = put_effect(terms, negated, kind, 2 * var, c, out, at);
+    put_effect(terms, !negated, kind, 2 * var + 1, -c, out, next)
 }
 
 // "v −= e is v += −e."
-fn put_kind(
-    part: &[u8],
-    from: usize,
-    n: usize,
-    kind: u8,
-    var: usize,
-    c: i64,
-    out: &mut [u8],
-    at: usize,
-) -> usize
-    requires { (SumAt part.now from n) × (at ≤ 64000) × (kind ≤ 2) × (var < 16) × (nat_abs c ≤ 1000000) }
-    ensures { Written out.old at (effect_print (kind_of kind) var (terms_at part.now from n) c) out.new result }
+fn put_kind(terms: &Terms, kind: u8, var: usize, c: i64, out: &mut [u8], at: usize) -> usize
+    requires { (SumAt terms.now.part.now terms.now.from terms.now.count) × (at ≤ 64000) × (kind ≤ 2) × (var < 16) × (nat_abs c ≤ 1000000) }
+    ensures { Written out.old at (effect_print (kind_of kind) var (terms_at terms.now.part.now terms.now.from terms.now.count) c) out.new result }
 {
     match kind {
-        0 => put_mirrored(part, from, n, false, 0, var, c, out, at),
-        1 => put_mirrored(part, from, n, false, 1, var, c, out, at),
-        _ => put_mirrored(part, from, n, true, 1, var, integer::neg(c), out, at),
+        0 => put_mirrored(terms, false, 0, var, c, out, at),
+        1 => put_mirrored(terms, false, 1, var, c, out, at),
+        _ => put_mirrored(terms, true, 1, var, -c, out, at),
     }
 }
 
@@ -90,24 +67,30 @@ fn put_item(part: &[u8], item: ItemAt, out: &mut [u8], at: usize) -> usize
     ensures { Written out.old at (print_of part.now item) out.new result }
 {
     match item {
-        ItemAt::Need { prop, after: _ } => output::put_pair(out, at, 0x50, prop as u8),
-        ItemAt::Add { prop, after: _ } => output::put_pair(out, at, 0x2B, prop as u8),
-        ItemAt::Delete { prop, after: _ } => output::put_pair(out, at, 0x2D, prop as u8),
+        ItemAt::Need { prop, .. } => output::put_pair(out, at, 0x50, prop as u8),
+        ItemAt::Add { prop, .. } => output::put_pair(out, at, 0x2B, prop as u8),
+        ItemAt::Delete { prop, .. } => output::put_pair(out, at, 0x2D, prop as u8),
         ItemAt::Condition {
             comparison,
             bound,
             from,
-            terms,
-            after: _,
-        } => { normal_condition::put_comparison(part, from, terms, comparison, bound, out, at) }
+            terms: count,
+            ..
+        } => {
+            let terms = Terms { part, from, count };
+            normal_condition::put_comparison(&terms, comparison, bound, out, at)
+        }
         ItemAt::Effect {
             kind,
             var,
             base,
             from,
-            terms,
-            after: _,
-        } => { put_kind(part, from, terms, kind, var, base, out, at) }
+            terms: count,
+            ..
+        } => {
+            let terms = Terms { part, from, count };
+            put_kind(&terms, kind, var, base, out, at)
+        }
         ItemAt::End => at,
     }
 }

@@ -22,11 +22,7 @@ pub fn byte(table: &[u8], at: usize) -> usize
 fn between(low: i64, z: i64, high: i64) -> bool
     ensures { result ≡ between low z high }
 {
-    if integer::at_most(low, z) {
-        integer::at_most(z, high)
-    } else {
-        false
-    }
+    low <= z && z <= high
 }
 
 // "V 0..16 variables"; "N even, 0..32"
@@ -35,12 +31,7 @@ fn vars_in_range(form: Form, n: usize) -> bool
 {
     match form {
         Form::Written => n <= 16,
-        Form::Normal => {
-            if n > 32 {
-                return false;
-            }
-            n % 2 == 0
-        }
+        Form::Normal => n <= 32 && n % 2 == 0,
     }
 }
 
@@ -186,15 +177,12 @@ pub fn wrong_operand(
 {
     match command {
         Command::Head(kind) => head_operand(table, at, kind),
-        Command::OpenMove => 0,
-        Command::OpenGoal => 0,
-        Command::EndTable => 0,
-        Command::NeedProp => prop_operand(table, at, props),
-        Command::AddProp => prop_operand(table, at, props),
-        Command::DeleteProp => prop_operand(table, at, props),
+        Command::NeedProp | Command::AddProp | Command::DeleteProp => {
+            prop_operand(table, at, props)
+        }
         Command::Term => term_operand(table, at, form, vars),
         Command::CloseCondition => condition_operand(table, at, form),
         Command::CloseEffect => effect_operand(table, at, form, vars),
-        Command::Unknown => 0,
+        Command::OpenMove | Command::OpenGoal | Command::EndTable | Command::Unknown => 0,
     }
 }

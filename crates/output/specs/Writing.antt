@@ -1,9 +1,8 @@
 -- Bytes written into a lent output, one store behind the other. A store answers the offset behind its bytes, and writes them only
 -- where they fit: so one walk answers the length over an output of no bytes, and writes over one that is long enough.
 -- Assumes nothing.
-use Rattle.std.specs.Prelude.{ℕ, suc, ◌+◌, ◌^◌, ◌≤◌, ◌<◌, ◌≡◌, refl, List, [], ◌∷◌, ◌++◌, length, get_or, set, take}
-use Rattle.std.proofs.Common.{add-one, arith, sym, ap, ap₂, ◌∙◌, subst, append_assoc, append-nil, length-append, length-set, take-suc}
-use Rattle.std.proofs.Math.Seq.{take-length}
+use Rattle.std.specs.Prelude.{ℕ, suc, ◌+◌, ◌^◌, ◌≤◌, ◌<◌, ◌≡◌, refl, List, [], ◌∷◌, ◌++◌, length, set}
+use Rattle.std.proofs.Common.{arith, sym, ap, ap₂, ◌∙◌, subst, append_assoc, append-nil, length-append, length-set}
 use Rattle.integer.specs.Store.{put, put_nil, put_cons, put_append, length_put}
 use Rattle.model.specs.Memory.{overwrite}
 use Rattle.model.proofs.Theorems.Printing.Outputs.{put_first}
@@ -124,32 +123,3 @@ module _ {old : List ℕ} {at : ℕ} {bs new : List ℕ} {to : ℕ} where
 
   pub writing_end : Writing old at bs new to [] → Written old at bs new to
   writing_end p = written_same p.so_far (sym (p.whole ∙ append-nil p.done))
-
--- ---- a word, byte by byte: the first i bytes stand there
-
-pub record Copied (old : List ℕ) (at : ℕ) (word new : List ℕ) (i : ℕ) : Type 0 where
-  pub within : i ≤ length word
-  pub so_far : Written old at (take i word) new (at + i)
-
-pub copied_none : (old : List ℕ) (at : ℕ) (word : List ℕ) → Copied old at word old 0
-copied_none old at word =
-    let e : at + 0 ≡ at = omega arith in record { within = omega arith; so_far = rw e (written_none old at) }
-
-module _ {old : List ℕ} {at : ℕ} (word : List ℕ) {new : List ℕ} {i : ℕ} (c : Copied old at word new i) where
-  pub copied_next : at + length word ≤ length old → i < length word → Copied old at word (set new (at + i) (get_or word i 0)) (i + 1)
-  copied_next room h =
-      let b = get_or word i 0 in
-      let here : at + i < length new = omega (arith, c.so_far.kept) in
-      let e : at + i + 1 ≡ at + (i + 1) = omega arith in
-      let t : take i word ++ (b ∷ []) ≡ take (i + 1) word = rw (add-one i) (sym (take-suc word i 0 h)) in
-      record {
-        within = omega arith;
-        so_far = rw (← e, ← t) (written_join c.so_far (byte_written new (at + i) b here));
-      }
-
-  pub copied_all : length word ≤ i → {next : ℕ} → next ≡ at + length word → Written old at word new next
-  copied_all h {next} e =
-      let k : at + i ≡ next = omega (arith, c.within) in
-      let n : i ≡ length word = omega (arith, c.within) in
-      let t : take i word ≡ word = ap (λ (k : ℕ). take k word) n ∙ take-length word in
-      rw (← k) (written_same c.so_far t)

@@ -6,17 +6,25 @@ ghost use Rattle.integer.specs.BigEndian.{bytes, signed_bytes};
 ghost use Rattle.model.specs.Listing.{decimal};
 ghost use Rattle.output.specs.Writing.{Written};
 
+// Bytes: the store that those of a byte, of two bytes and of a word share.
+fn store(out: &mut [u8], at: usize, word: &[u8]) -> usize
+    requires { at + length word.now < 2 ^ 64 }
+    ensures { Written out.old at word.now out.new result }
+{
+    let next = at + word.len();
+    if out.len() < next {
+        return next;
+    }
+    out[at..next].copy_from_slice(word);
+    next
+}
+
 // One byte.
 pub fn put_byte(out: &mut [u8], at: usize, b: u8) -> usize
     requires { at < 2 ^ 63 }
     ensures { Written out.old at (b ∷ []) out.new result }
 {
-    let next = at + 1;
-    if out.len() < next {
-        return next;
-    }
-    out[at] = b;
-    next
+    store(out, at, &[b])
 }
 
 // Two bytes.
@@ -24,13 +32,7 @@ pub fn put_pair(out: &mut [u8], at: usize, a: u8, b: u8) -> usize
     requires { at < 2 ^ 62 }
     ensures { Written out.old at (a ∷ b ∷ []) out.new result }
 {
-    let next = at + 2;
-    if out.len() < next {
-        return next;
-    }
-    out[at] = a;
-    out[at + 1] = b;
-    next
+    store(out, at, &[a, b])
 }
 
 // A signed number as four bytes.
@@ -64,16 +66,7 @@ pub fn put_bytes(out: &mut [u8], at: usize, word: &[u8]) -> usize
     requires { at + length word.now < 2 ^ 63 }
     ensures { Written out.old at word.now out.new result }
 {
-    let next = at + word.len();
-    if out.len() < next {
-        return next;
-    }
-    let mut i = 0;
-    while i < word.len() {
-        out[at + i] = word[i];
-        i += 1;
-    }
-    next
+    store(out, at, word)
 }
 
 // How many decimal digits `n` has.
@@ -83,7 +76,7 @@ pub fn decimal_len(n: u64) -> usize
     let mut rest = n;
     let mut width: usize = 1;
     while rest >= 10 {
-        rest = rest / 10;
+        rest /= 10;
         width += 1;
     }
     width
@@ -103,7 +96,7 @@ pub fn put_decimal(out: &mut [u8], at: usize, n: u64) -> usize
     let mut nth = 1;
     while rest >= 10 {
         out[at + (width - nth)] = (48 + rest % 10) as u8;
-        rest = rest / 10;
+        rest /= 10;
         nth += 1;
     }
     out[at + (width - nth)] = (48 + rest) as u8;

@@ -8,6 +8,7 @@ ghost use Rattle.records.specs.Records.{kept_bytes};
 ghost use Rattle.passes.specs.Passes.{Begun, Surveyed, Writable, plan_records};
 ghost use Rattle.passes.specs.Keeping.{KeptWhole};
 
+use reader::Blocks;
 use records::RECORD_LEN;
 use targets::Targets;
 
@@ -22,42 +23,25 @@ pub struct Summary {
 // If there are `KEPT` records at most, they stand at the end of `kept`.
 pub fn survey(
     mut wants: Targets,
-    table: &[u8],
-    marks: &[usize],
+    blocks: &Blocks,
     layers: &[i64],
     start: &[i64],
-    props: usize,
-    vars: usize,
-    moves: usize,
     m: usize,
     kept: &mut [u8],
 ) -> Summary
-    requires { (Begun table.now marks.now layers.now start.now props vars moves m wants) × (kept_bytes ≡ length kept.old) }
-    ensures { (x : Begun table.now marks.now layers.now start.now props vars moves m wants) → (Surveyed x.stored result.records result.helpful) × KeptWhole x.stored result.records kept.new }
+    requires { (Begun blocks.now.table.now blocks.now.marks.now layers.now start.now blocks.now.props blocks.now.vars blocks.now.moves m wants) × (kept_bytes ≡ length kept.old) }
+    ensures { (x : Begun blocks.now.table.now blocks.now.marks.now layers.now start.now blocks.now.props blocks.now.vars blocks.now.moves m wants) → (Surveyed x.stored result.records result.helpful) × KeptWhole x.stored result.records kept.new }
 {
     let mut counts = taking::no_counts();
     let mut records = 0;
     let mut helpful = 0;
-    let mut t = m;
-    while t > 0 {
+    for t in (1..=m).rev() {
         if t == 1 {
-            helpful = helpful::helpful_moves(wants, table, marks, layers, props, moves);
+            helpful = helpful::helpful_moves(wants, blocks, layers);
         }
-        wants = descent::descend(
-            wants,
-            table,
-            marks,
-            layers,
-            start,
-            props,
-            vars,
-            moves,
-            t,
-            &mut counts,
-        );
-        t -= 1;
-        records += records::count_taken(&counts, moves);
-        records::keep_records(kept, records, &counts, moves);
+        wants = descent::descend(wants, blocks, layers, start, t, &mut counts);
+        records += records::count_taken(&counts, blocks.moves);
+        records::keep_records(kept, records, &counts, blocks.moves);
     }
     Summary { records, helpful }
 }
@@ -66,39 +50,22 @@ pub fn survey(
 // for all of them.
 pub fn write_plan(
     mut wants: Targets,
-    table: &[u8],
-    marks: &[usize],
+    blocks: &Blocks,
     layers: &[i64],
     start: &[i64],
-    props: usize,
-    vars: usize,
-    moves: usize,
     m: usize,
     records: usize,
     out: &mut [u8],
 )
-    requires { Writable table.now marks.now layers.now start.now props vars moves m wants records out.old }
-    ensures { (x : Writable table.now marks.now layers.now start.now props vars moves m wants records out.old)
+    requires { Writable blocks.now.table.now blocks.now.marks.now layers.now start.now blocks.now.props blocks.now.vars blocks.now.moves m wants records out.old }
+    ensures { (x : Writable blocks.now.table.now blocks.now.marks.now layers.now start.now blocks.now.props blocks.now.vars blocks.now.moves m wants records out.old)
         → out.new ≡ put out.old 0 (record_bytes (plan_records x.begun.stored)) }
 {
     let mut counts = taking::no_counts();
     let mut at = RECORD_LEN * records;
-    let mut t = m;
-    while t > 0 {
-        wants = descent::descend(
-            wants,
-            table,
-            marks,
-            layers,
-            start,
-            props,
-            vars,
-            moves,
-            t,
-            &mut counts,
-        );
-        t -= 1;
-        at -= RECORD_LEN * records::count_taken(&counts, moves);
-        records::write_records(out, at, &counts, moves);
+    for t in (1..=m).rev() {
+        wants = descent::descend(wants, blocks, layers, start, t, &mut counts);
+        at -= RECORD_LEN * records::count_taken(&counts, blocks.moves);
+        records::write_records(out, at, &counts, blocks.moves);
     }
 }

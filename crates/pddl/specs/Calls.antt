@@ -1,11 +1,9 @@
 -- The answer of the call that writes PDDL text, by its checks. Assumes nothing.
-use Rattle.std.specs.Prelude.{ℕ, ◌≡◌, List}
+use Rattle.std.specs.Prelude.{ℕ, ◌≡◌, List, Result, Err}
 use Rattle.std.proofs.Math.Path.{sym, ap, ap₂}
 use Rattle.std.proofs.Common.{◌∙◌}
 use Rattle.std.proofs.Math.Option.{none, some}
 use Rattle.model.specs.declared.Refusal.{Refusal}
-use Rattle.model.specs.declared.WriteAnswer.{WriteAnswer}
-use Rattle.model.specs.declared.WriteAnswer.TheVariants as write
 use Rattle.model.specs.Limits.{paper}
 use Rattle.model.specs.Task.{written, Task}
 use Rattle.model.specs.Reading.{Verdict, refused, only, reading}
@@ -38,7 +36,7 @@ module _ {t marks : List ℕ} {props vars moves : ℕ} (h : HeadRead written t m
 
 module _ (t bs : List ℕ) where
   pub pddl_answered :
-      {old new : List ℕ} {r : WriteAnswer}
+      {old new : List ℕ} {r : Result ℕ Refusal}
       → Answered (text_of paper (reading paper (only written) t) bs) old new r
       → (r ≡ pddl_answer paper t bs old) × (new ≡ pddl_out paper t bs old)
   unfolding pddl_answer pddl_out pddl_text
@@ -48,6 +46,6 @@ module _ (t bs : List ℕ) where
   pub pddl_refused :
       (old : List ℕ) {q : Refusal}
       → reading paper (only written) t ≡ refused q
-      → (◌≡◌ (write.Refused q) (pddl_answer paper t bs old)) × (old ≡ pddl_out paper t bs old)
+      → (Err q ≡ pddl_answer paper t bs old) × (old ≡ pddl_out paper t bs old)
   unfolding text_of
   pddl_refused old e = pddl_answered (answered_refused old (ap (λ (v : Verdict). text_of paper v bs) e))

@@ -1,9 +1,9 @@
 -- A walk over the items of a block that writes the text of each: `text` is what a block says, item by item. Assumes nothing.
 use Rattle.std.specs.Prelude.{ℕ, ◌≤◌, ◌<◌, ◌≡◌, List, [], ◌++◌, length}
-use Rattle.std.proofs.Common.{ap, ◌∙◌}
+use Rattle.std.proofs.Common.{ap, ◌∙◌, MutBor}
 use Rattle.model.specs.Task.{Block}
 use Rattle.block.specs.Items.{behind, Next}
-use Rattle.block.specs.Remaining.{items_of, Remaining, remaining_none, FirstItem, first_item}
+use Rattle.block.specs.Remaining.{items_of, Writable, Remaining, remaining_none, FirstItem, first_item}
 use Rattle.block.specs.declared.ItemAt.{ItemAt}
 use Rattle.output.specs.Writing.{Written, Room, Writing, writing_start, writing_rest, writing_room, writing_step, writing_end}
 
@@ -12,6 +12,24 @@ pub record Printable (text : Block → List ℕ) (part : List ℕ) (start : ℕ)
   pub block : Block
   pub remaining : Remaining part 1 block
   pub room : Room start (text block)
+
+-- `text` is what a call writes of each item, by what follows of the call
+pub record Puts (post : ItemAt → MutBor (List ℕ) → ℕ → ℕ → MutBor (List ℕ) → Type 0) (part : List ℕ) (text : Block → List ℕ) : Type 0 where
+  pub none : text [] ≡ []
+  pub append : (b d : Block) → text (b ++ d) ≡ text b ++ text d
+  pub writes : (i : ItemAt) (out : MutBor (List ℕ)) (at next : ℕ) (after : MutBor (List ℕ)) → post i out at next after → Written out.now at (text (items_of part i)) after.now next
+
+-- and the call may be made of each item of the block, where there is room for what it writes
+pub record ItemsPrintable
+    (pre : ItemAt → MutBor (List ℕ) → ℕ → Type 0)
+    (post : ItemAt → MutBor (List ℕ) → ℕ → ℕ → MutBor (List ℕ) → Type 0)
+    (part : List ℕ)
+    (start : ℕ)
+    : Type 0 where
+  pub text : Block → List ℕ
+  pub puts : Puts post part text
+  pub may : (i : ItemAt) (out : MutBor (List ℕ)) (at : ℕ) → Writable part i → Room at (text (items_of part i)) → pre i out at
+  pub printable : Printable text part start
 
 module _ (text : Block → List ℕ) where
   -- the items before `at` are written

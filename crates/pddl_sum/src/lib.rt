@@ -9,16 +9,19 @@ ghost use Rattle.output.specs.Writing.{Written, Room};
 ghost use Rattle.pddl_sum.specs.Names.{name_text, each, declared};
 ghost use Rattle.pddl_sum.specs.Sums.{term_text, term_texts, closes, TermHere};
 
+use block::Terms;
+
 // A number: a literal, -5 too.
 pub fn put_number(z: i64, out: &mut [u8], at: usize) -> usize
     requires { (nat_abs z < 2 ^ 63) × Room at (number_text z) }
     ensures { Written out.old at (number_text z) out.new result }
 {
+    let size = z.unsigned_abs();
     if z < 0 {
         let digits = output::put_byte(out, at, 0x2D);
-        return output::put_decimal(out, digits, integer::magnitude(z));
+        return output::put_decimal(out, digits, size);
     }
-    output::put_decimal(out, at, integer::magnitude(z))
+    output::put_decimal(out, at, size)
 }
 
 // A name: what opens it, its number and a closing bracket.
@@ -37,10 +40,8 @@ fn put_names(word: &[u8], n: usize, out: &mut [u8], at: usize) -> usize
     ensures { Written out.old at (each (name_text word.now) 0 n) out.new result }
 {
     let mut to = at;
-    let mut i = 0;
-    while i < n {
+    for i in 0..n {
         to = put_name(word, i, out, to);
-        i += 1;
     }
     to
 }
@@ -71,16 +72,15 @@ fn put_term(part: &[u8], term: usize, out: &mut [u8], at: usize) -> usize
     output::put_bytes(out, close, b") ")
 }
 
-// What opens a sum of the `n` terms from `from` on.
-fn put_terms(part: &[u8], from: usize, n: usize, out: &mut [u8], at: usize) -> usize
-    requires { (SumAt part.now from n) × Room at (term_texts (terms_at part.now from n)) }
-    ensures { Written out.old at (term_texts (terms_at part.now from n)) out.new result }
+// What opens a sum of these terms.
+fn put_terms(terms: &Terms, out: &mut [u8], at: usize) -> usize
+    requires { (SumAt terms.now.part.now terms.now.from terms.now.count)
+        × Room at (term_texts (terms_at terms.now.part.now terms.now.from terms.now.count)) }
+    ensures { Written out.old at (term_texts (terms_at terms.now.part.now terms.now.from terms.now.count)) out.new result }
 {
     let mut to = at;
-    let mut i = 0;
-    while i < n {
-        to = put_term(part, from + 4 * i, out, to);
-        i += 1;
+    for i in 0..terms.count {
+        to = put_term(terms.part, terms.from + 4 * i, out, to);
     }
     to
 }
@@ -91,20 +91,20 @@ fn put_closes(n: usize, out: &mut [u8], at: usize) -> usize
     ensures { Written out.old at (closes n) out.new result }
 {
     let mut to = at;
-    let mut i = 0;
-    while i < n {
+    for _ in 0..n {
         to = output::put_byte(out, to, 0x29);
-        i += 1;
     }
     to
 }
 
-// The sum of the `n` terms from `from` on and the constant `c`.
-pub fn put_sum(part: &[u8], from: usize, n: usize, c: i64, out: &mut [u8], at: usize) -> usize
-    requires { (SumAt part.now from n) × (nat_abs c < 2 ^ 63) × Room at (expression_text (sum_of (terms_at part.now from n) c)) }
-    ensures { Written out.old at (expression_text (sum_of (terms_at part.now from n) c)) out.new result }
+// The sum of these terms and a constant.
+pub fn put_sum(terms: &Terms, constant: i64, out: &mut [u8], at: usize) -> usize
+    requires { (SumAt terms.now.part.now terms.now.from terms.now.count)
+        × (nat_abs constant < 2 ^ 63)
+        × Room at (expression_text (sum_of (terms_at terms.now.part.now terms.now.from terms.now.count) constant)) }
+    ensures { Written out.old at (expression_text (sum_of (terms_at terms.now.part.now terms.now.from terms.now.count) constant)) out.new result }
 {
-    let constant = put_terms(part, from, n, out, at);
-    let close = put_number(c, out, constant);
-    put_closes(n, out, close)
+    let number = put_terms(terms, out, at);
+    let close = put_number(constant, out, number);
+    put_closes(terms.count, out, close)
 }

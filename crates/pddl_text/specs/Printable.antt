@@ -18,18 +18,11 @@ use Rattle.reader.specs.Written.{read_task, Source, task_is, head_source, head_s
 use Rattle.output.specs.Writing.{Room}
 use Rattle.pddl_text.specs.Documents.{action_row, domain_pieces, domain_pieces_lem, problem_pieces, problem_pieces_lem}
 
--- a block's items stand in the part, and there is room for its action; for the problem of which it is the goal
+-- a block's items stand in the part, and there is room for its action
 pub record ActionPrintable (part : List ℕ) (b at : ℕ) : Type 0 where
   pub block : Block
   pub remaining : Remaining part 1 block
   pub room : Room at (action_row b block)
-
-pub record ProblemPrintable (part bs : List ℕ) (props vars at : ℕ) : Type 0 where
-  pub block : Block
-  pub remaining : Remaining part 1 block
-  pub long : props + 4 * vars ≤ length bs
-  pub few : vars ≤ 16
-  pub room : Room at (problem_pieces (state_of props bs) props vars block)
 
 -- an accepted table and an accepted state
 pub record Printable (t marks : List ℕ) (props vars moves : ℕ) (bs : List ℕ) : Type 0 where

@@ -11,7 +11,9 @@ ghost use Rattle.reader.specs.Written.{read_task, Source};
 ghost use Rattle.output.specs.Writing.{Written, Room};
 ghost use Rattle.pddl_sum.specs.Names.{each};
 ghost use Rattle.pddl_text.specs.Documents.{truth_row, value_row, action_row, action_at, domain_pieces, problem_pieces};
-ghost use Rattle.pddl_text.specs.Printable.{ActionPrintable, ProblemPrintable, Printable};
+ghost use Rattle.pddl_text.specs.Printable.{ActionPrintable, Printable};
+
+use reader::Blocks;
 
 // Move `b` of these items as an action.
 fn put_action(part: &[u8], b: usize, out: &mut [u8], at: usize) -> usize
@@ -32,31 +34,23 @@ fn put_action(part: &[u8], b: usize, out: &mut [u8], at: usize) -> usize
 }
 
 // The moves as actions.
-fn put_actions(table: &[u8], marks: &[usize], moves: usize, out: &mut [u8], at: usize) -> usize
-    requires { (Source table.now marks.now moves) × Room at (each (action_at (read_task table.now)) 0 moves) }
-    ensures { Written out.old at (each (action_at (read_task table.now)) 0 moves) out.new result }
+fn put_actions(blocks: &Blocks, out: &mut [u8], at: usize) -> usize
+    requires { (Source blocks.now.table.now blocks.now.marks.now blocks.now.moves)
+        × Room at (each (action_at (read_task blocks.now.table.now)) 0 blocks.now.moves) }
+    ensures { Written out.old at (each (action_at (read_task blocks.now.table.now)) 0 blocks.now.moves) out.new result }
 {
     let mut to = at;
-    let mut b = 0;
-    while b < moves {
-        to = put_action(reader::part(table, marks, b), b, out, to);
-        b += 1;
+    for b in 0..blocks.moves {
+        to = put_action(blocks.part(b), b, out, to);
     }
     to
 }
 
 // The domain.
-fn put_domain(
-    table: &[u8],
-    marks: &[usize],
-    props: usize,
-    vars: usize,
-    moves: usize,
-    out: &mut [u8],
-    at: usize,
-) -> usize
-    requires { (Source table.now marks.now moves) × Room at (domain_pieces (read_task table.now) props vars moves) }
-    ensures { Written out.old at (domain_pieces (read_task table.now) props vars moves) out.new result }
+fn put_domain(blocks: &Blocks, out: &mut [u8], at: usize) -> usize
+    requires { (Source blocks.now.table.now blocks.now.marks.now blocks.now.moves)
+        × Room at (domain_pieces (read_task blocks.now.table.now) blocks.now.props blocks.now.vars blocks.now.moves) }
+    ensures { Written out.old at (domain_pieces (read_task blocks.now.table.now) blocks.now.props blocks.now.vars blocks.now.moves) out.new result }
 {
     let predicates = output::put_bytes(
         out,
@@ -66,24 +60,19 @@ fn put_domain(
     let functions = pddl_sum::put_declared(
         b"\n  (:predicates",
         b"\n    (p",
-        props,
+        blocks.props,
         out,
         predicates,
     );
-    let actions = pddl_sum::put_declared(b"\n  (:functions", b"\n    (v", vars, out, functions);
-    let close = put_actions(table, marks, moves, out, actions);
+    let actions = pddl_sum::put_declared(
+        b"\n  (:functions",
+        b"\n    (v",
+        blocks.vars,
+        out,
+        functions,
+    );
+    let close = put_actions(blocks, out, actions);
     output::put_bytes(out, close, b")\n")
-}
-
-// A proposition, if it is true.
-fn put_truth(state: &[u8], props: usize, p: usize, out: &mut [u8], at: usize) -> usize
-    requires { (p < length state.now) × Room at (truth_row (state_of props state.now) p) }
-    ensures { Written out.old at (truth_row (state_of props state.now) p) out.new result }
-{
-    if state[p] == 1 {
-        return pddl_sum::put_name(b"\n    (p", p, out, at);
-    }
-    at
 }
 
 // The true propositions.
@@ -92,10 +81,10 @@ fn put_truths(state: &[u8], props: usize, out: &mut [u8], at: usize) -> usize
     ensures { Written out.old at (each (truth_row (state_of props state.now)) 0 props) out.new result }
 {
     let mut to = at;
-    let mut p = 0;
-    while p < props {
-        to = put_truth(state, props, p, out, to);
-        p += 1;
+    for (p, truth) in state[..props].iter().enumerate() {
+        if *truth == 1 {
+            to = pddl_sum::put_name(b"\n    (p", p, out, to);
+        }
     }
     to
 }
@@ -118,52 +107,38 @@ fn put_values(state: &[u8], props: usize, vars: usize, out: &mut [u8], at: usize
     ensures { Written out.old at (each (value_row (state_of props state.now)) 0 vars) out.new result }
 {
     let mut to = at;
-    let mut v = 0;
-    while v < vars {
+    for v in 0..vars {
         to = put_value(state, props, v, out, to);
-        v += 1;
     }
     to
 }
 
-// The problem, whose goal is this part.
-fn put_problem(
-    goal: &[u8],
-    state: &[u8],
-    props: usize,
-    vars: usize,
-    out: &mut [u8],
-    at: usize,
-) -> usize
-    requires { ProblemPrintable goal.now state.now props vars at }
-    ensures { (b : Block) → Remaining goal.now 1 b → Written out.old at (problem_pieces (state_of props state.now) props vars b) out.new result }
+// The problem.
+fn put_problem(blocks: &Blocks, state: &[u8], out: &mut [u8], at: usize) -> usize
+    requires { (Printable blocks.now.table.now blocks.now.marks.now blocks.now.props blocks.now.vars blocks.now.moves state.now)
+        × Room at (problem_pieces (state_of blocks.now.props state.now) blocks.now.props blocks.now.vars (read_task blocks.now.table.now).goal) }
+    ensures { Written out.old at
+        (problem_pieces (state_of blocks.now.props state.now) blocks.now.props blocks.now.vars (read_task blocks.now.table.now).goal)
+        out.new result }
 {
     let truths = output::put_bytes(
         out,
         at,
         b"(define (problem start)\n  (:domain campaign)\n  (:init",
     );
-    let values = put_truths(state, props, out, truths);
-    let list = put_values(state, props, vars, out, values);
+    let values = put_truths(state, blocks.props, out, truths);
+    let list = put_values(state, blocks.props, blocks.vars, out, values);
     let conditions = output::put_bytes(out, list, b")\n  (:goal (and");
+    let goal = blocks.part(blocks.moves);
     let close = pddl_block::put_conditions(goal, b"\n    ", out, conditions);
     output::put_bytes(out, close, b")))\n")
 }
 
 // The domain, then the problem: their length.
-pub fn put_text(
-    table: &[u8],
-    marks: &[usize],
-    props: usize,
-    vars: usize,
-    moves: usize,
-    state: &[u8],
-    out: &mut [u8],
-) -> usize
-    requires { Printable table.now marks.now props vars moves state.now }
-    ensures { Written out.old 0 (task_text (read_task table.now) (state_of props state.now)) out.new result }
+pub fn put_text(blocks: &Blocks, state: &[u8], out: &mut [u8]) -> usize
+    requires { Printable blocks.now.table.now blocks.now.marks.now blocks.now.props blocks.now.vars blocks.now.moves state.now }
+    ensures { Written out.old 0 (task_text (read_task blocks.now.table.now) (state_of blocks.now.props state.now)) out.new result }
 {
-    let problem = put_domain(table, marks, props, vars, moves, out, 0);
-    let goal = reader::part(table, marks, moves);
-    put_problem(goal, state, props, vars, out, problem)
+    let problem = put_domain(blocks, out, 0);
+    put_problem(blocks, state, out, problem)
 }

@@ -1,12 +1,12 @@
 -- Earliest placing, and the call: each entry in its turn starts as early as can be (document 02, request 8). That this is the placement
 -- that the request asks for is proved in `Theorems`. Assumes nothing.
-use Rattle.std.specs.Prelude.{ℕ, suc, ◌+◌, true, false, cond, List, [], ◌∷◌, ◌++◌, leb, length}
+use Rattle.std.specs.Prelude.{ℕ, suc, ◌+◌, true, false, cond, List, [], ◌∷◌, ◌++◌, leb, length, Result, Ok, Err}
 use Rattle.std.proofs.Math.Option.{Option, none, some}
 use Rattle.integer.specs.BigEndian.{bytes}
 use Rattle.model.specs.Calls.{Output, writes, turns, fitted, output_after}
-use Rattle.placement.specs.declared.PlaceAnswer.{PlaceAnswer}
-use Rattle.placement.specs.declared.PlaceAnswer.TheVariants as place
+use Rattle.placement.specs.declared.Placed.{Placed as PlacedAnswer}
 use Rattle.placement.specs.Day.{Window, DayLimits, first_window, first_duration, windows_of, durations_of}
+use Rattle.model.specs.declared.Refusal.{Refusal}
 
 -- the earliest start in a window, from minute t on
 unfoldable pub start_in : ℕ → Window → ℕ
@@ -68,11 +68,11 @@ unfoldable pub placing : DayLimits → List ℕ → List ℕ → ℕ → Output
 placing L ws ds size = fitted size (checked (first_window L ws) (first_duration L ds) (starts_of (day_placed ws ds)))
 
 -- "the answer is the end minute", and it "carries the length written from the start"
-unfoldable pub answered : Placed → Output → PlaceAnswer
-answered r (writes bs) = place.Placed (end_minute r) (length bs)
-answered r (turns q) = place.Refused q
+unfoldable pub answered : Placed → Output → Result PlacedAnswer Refusal
+answered r (writes bs) = Ok (record { end = end_minute r; length = length bs })
+answered r (turns q) = Err q
 
-unfoldable pub place_answer : DayLimits → List ℕ → List ℕ → List ℕ → PlaceAnswer
+unfoldable pub place_answer : DayLimits → List ℕ → List ℕ → List ℕ → Result PlacedAnswer Refusal
 place_answer L ws ds out = answered (day_placed ws ds) (placing L ws ds (length out))
 
 unfoldable pub place_out : DayLimits → List ℕ → List ℕ → List ℕ → List ℕ

@@ -2,11 +2,9 @@
 // proved of it.
 #![tactic(auto)]
 
-use model::Refusal;
-
 // "written is each entry's start, and the answer is the end minute": with the length of the starts.
 #[derive(Clone, Copy)]
-pub enum PlaceAnswer {
-    Placed { end: u64, length: u64 },
-    Refused(Refusal),
+pub struct Placed {
+    pub end: u64,
+    pub length: u64,
 }

@@ -1,11 +1,10 @@
 -- The block reader's answer from what outline answers and the marks it leaves. Assumes nothing.
-use Rattle.std.specs.Prelude.{ℕ, suc, ◌-◌, ◌≤◌, ◌<◌, ◌≡◌, true, false, List, [], leb, get_or, take, drop}
+use Rattle.std.specs.Prelude.{ℕ, suc, ◌-◌, ◌≤◌, ◌<◌, ◌≡◌, true, false, List, [], leb, get_or, take, drop, Result, Ok, Err}
 use Rattle.std.proofs.Common.{arith, add-one, sym, ◌∙◌, le-leb}
 use Rattle.std.proofs.Math.Path.{refl}
 use Rattle.std.proofs.lemmas.Bool.{lt-leb}
 use Rattle.model.specs.declared.Refusal.{Refusal}
-use Rattle.model.specs.declared.ReadAnswer.{ReadAnswer}
-use Rattle.model.specs.declared.ReadAnswer.TheVariants as read
+use Rattle.model.specs.declared.Head.{Head}
 use Rattle.model.specs.Reading.{Table, Verdict, accepted, refused}
 use Rattle.model.specs.Calls.{part_of, start_of, no_block, refusal_number, refusal_place}
 use Rattle.table.specs.Answer.{Outlined, Accepted, answer_accepted, answer_refused}
@@ -39,22 +38,22 @@ verdict_found t b k e l =
       place_is = rw (e, no_block) refl;
     }
 
-module _ {t : List ℕ} {v : Verdict} {r : ReadAnswer} {m : List ℕ} (b : ℕ) (h : Outlined t v r m) where
-  pub part_refused : (x : Refusal) {part : List ℕ} → r ≡ read.Refused x → part ≡ [] → Handed t b v part 0 x.number x.place
+module _ {t : List ℕ} {v : Verdict} {r : Result Head Refusal} {m : List ℕ} (b : ℕ) (h : Outlined t v r m) where
+  pub part_refused : (x : Refusal) {part : List ℕ} → r ≡ Err x → part ≡ [] → Handed t b v part 0 x.number x.place
   part_refused x e p =
       let f : v ≡ refused x = answer_refused v x (sym h.answer ∙ e) in
       rw (f, p) (unfold part_of start_of no_block refusal_number refusal_place in (record { part_is = refl; from_is = refl; number_is = refl; place_is = refl }))
 
-  module _ (kind props vars moves : ℕ) (e : r ≡ read.Head kind props vars moves) where
-    found : Accepted v kind props vars moves
-    found = answer_accepted v kind props vars moves (sym h.answer ∙ e)
+  module _ (head : Head) (e : r ≡ Ok head) where
+    found : Accepted v head.kind head.props head.vars head.moves
+    found = answer_accepted v head (sym h.answer ∙ e)
 
-    pub part_beyond : {part : List ℕ} → moves < b → part ≡ [] → Handed t b v part 0 10 0
+    pub part_beyond : {part : List ℕ} → head.moves < b → part ≡ [] → Handed t b v part 0 10 0
     part_beyond l p =
         rw (found.is, p) (verdict_beyond t b found.table (lt-leb b found.table.header.moves (omega (arith, found.moves_is))))
 
     -- the two marks of a block lie in order inside the table
-    pub part_in : b ≤ moves → PartIn t m b
+    pub part_in : b ≤ head.moves → PartIn t m b
     part_in l =
         let rises : get_or m b 0 < get_or m (suc b) 0 = h.rising found.table found.is b (omega (arith, found.moves_is)) in
         record {
@@ -63,7 +62,7 @@ module _ {t : List ℕ} {v : Verdict} {r : ReadAnswer} {m : List ℕ} (b : ℕ) 
           within = rw (add-one b) (omega (arith, h.inside found.table found.is (suc b) (omega (arith, found.moves_is))));
         }
 
-    pub part_found : {part : List ℕ} → b ≤ moves → part ≡ part_at t m b → Handed t b v part (get_or m b 0) 0 0
+    pub part_found : {part : List ℕ} → b ≤ head.moves → part ≡ part_at t m b → Handed t b v part (get_or m b 0) 0 0
     part_found l p =
         let first : get_or m b 0 ≡ get_or found.table.marks b 0 = h.marks found.table found.is b (omega (arith, found.moves_is)) in
         let last : get_or m (suc b) 0 ≡ get_or found.table.marks (suc b) 0 = h.marks found.table found.is (suc b) (omega (arith, found.moves_is)) in

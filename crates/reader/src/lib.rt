@@ -1,6 +1,5 @@
 // "A reader stands on a table at one command": a table and the offset of a command in it. It hands back a part of its table,
-// "neither copy nor offsets". The functions on the struct are thin; `part` and `block_at` serve every other caller, with a plain
-// table.
+// "neither copy nor offsets". `Blocks` serves every crate above with the parts of an accepted table's blocks.
 #![tactic(auto)]
 
 ghost use Rattle.std.specs.Prelude.{◌≡◌, ◌≤◌, length, get_or};
@@ -8,6 +7,9 @@ ghost use Rattle.model.specs.Limits.{paper};
 ghost use Rattle.model.specs.Calls.{block_part, block_start, block_refusal, refusal_number, refusal_place};
 ghost use Rattle.table.specs.Outlines.{part_at};
 ghost use Rattle.reader.specs.Parts.{LiesAt, IsCut, PartIn};
+
+use model::{Head, Reason};
+use table::Wanted;
 
 #[derive(Clone, Copy)]
 struct Reader<'a> {
@@ -23,46 +25,63 @@ fn cut<'a>(table: &'a [u8], from: usize, to: usize) -> &'a [u8]
     &table[from..to]
 }
 
-// A reader on the command at an offset.
-fn placed<'a>(table: &'a [u8], at: usize) -> Reader<'a>
-    ensures { (result.table ≡ table.entry) × (result.at ≡ at) }
-{
-    Reader { table, at }
+impl<'a> Reader<'a> {
+    // A reader on the command at an offset.
+    fn on(table: &'a [u8], at: usize) -> Self
+        ensures { (result.table ≡ table.entry) × (result.at ≡ at) }
+    {
+        Reader { table, at }
+    }
+
+    // The bytes from the command that it stands on up to an offset, a part of its table.
+    fn block(self, to: usize) -> &'a [u8]
+        requires { (self.at ≤ to) × (to ≤ length self.table.now) }
+        ensures { IsCut self.entry.table self.entry.at to result }
+    {
+        cut(self.table, self.at, to)
+    }
 }
 
-// The bytes from the command that it stands on up to an offset, a part of its table.
-fn block<'a>(r: Reader<'a>, to: usize) -> &'a [u8]
-    requires { (r.at ≤ to) × (to ≤ length r.table.now) }
-    ensures { IsCut r.entry.table r.entry.at to result }
-{
-    cut(r.table, r.at, to)
-}
-
-// The same of a reader that is placed at an offset.
-fn part_from<'a>(table: &'a [u8], at: usize, to: usize) -> &'a [u8]
-    requires { (at ≤ to) × (to ≤ length table.now) }
-    ensures { IsCut table.entry at to result }
-{
-    block(placed(table, at), to)
-}
-
-// "hands back the bytes of one block as a part of the caller's table": block `b` of an accepted table, from the offsets that
-// `table::outline` left in `marks`.
-pub fn part<'a>(table: &'a [u8], marks: &[usize], b: usize) -> &'a [u8]
+// Block `b` of a table, from the offsets that `table::outline` left in `marks`.
+fn part<'a>(table: &'a [u8], marks: &[usize], b: usize) -> &'a [u8]
     requires { PartIn table.now marks.now b }
     ensures { (result.now ≡ part_at table.now marks.now b) × LiesAt table.entry (get_or marks.now b 0) result }
 {
-    let from = marks[b];
-    let to = marks[b + 1];
-    part_from(table, from, to)
+    Reader::on(table, marks[b]).block(marks[b + 1])
 }
 
-// The same, from all the offsets that `table::outline` leaves.
-fn marked<'a>(table: &'a [u8], marks: &[usize; 66], b: usize) -> &'a [u8]
-    requires { PartIn table.now marks.now b }
-    ensures { (result.now ≡ part_at table.now marks.now b) × LiesAt table.entry (get_or marks.now b 0) result }
-{
-    part(table, marks, b)
+// The blocks of an accepted table: its bytes, the offsets that `table::outline` left, and the counts of its head.
+#[derive(Clone, Copy)]
+pub struct Blocks<'t, 'm> {
+    pub table: &'t [u8],
+    pub marks: &'m [usize],
+    pub props: usize,
+    pub vars: usize,
+    pub moves: usize,
+}
+
+impl<'t, 'm> Blocks<'t, 'm> {
+    // Those of a table from what `table::outline` answers and leaves.
+    pub fn new(table: &'t [u8], marks: &'m [usize], head: Head) -> Self
+        ensures { result ≡ record { table = table.entry; marks = marks.entry; props = head.props; vars = head.vars; moves = head.moves } }
+    {
+        Blocks {
+            table,
+            marks,
+            props: head.props as usize,
+            vars: head.vars as usize,
+            moves: head.moves as usize,
+        }
+    }
+
+    // "hands back the bytes of one block as a part of the caller's table": those of block `b`.
+    pub fn part(&self, b: usize) -> &'t [u8]
+        requires { PartIn self.now.table.now self.now.marks.now b }
+        ensures { (result.now ≡ part_at self.now.table.now self.now.marks.now b)
+            × LiesAt self.entry.now.table (get_or self.now.marks.now b 0) result }
+    {
+        part(self.table, self.marks, b)
+    }
 }
 
 // The block reader: block b is move b, and block A the goal. "It makes all checks of read first; a refusal hands back an empty
@@ -74,27 +93,21 @@ pub fn block_at<'a>(table: &'a [u8], b: u64, number: &mut u64, place: &mut u64) 
         × LiesAt table.entry (block_start paper table.now b) result }
 {
     let mut marks = [0; 66];
-    let answer = table::outline(table, table::Wanted::Both, &mut marks);
-    match answer {
-        model::ReadAnswer::Refused(reason) => {
+    match table::outline(table, Wanted::Both, &mut marks) {
+        Err(reason) => {
             *number = reason.number;
             *place = reason.place;
             &table[0..0]
         }
-        model::ReadAnswer::Head {
-            kind: _,
-            props: _,
-            vars: _,
-            moves,
-        } => {
+        Ok(Head { moves, .. }) => {
             if moves < b {
-                *number = 10;
+                *number = Reason::Missing.number();
                 *place = 0;
                 return &table[0..0];
             }
             *number = 0;
             *place = 0;
-            marked(table, &marks, b as usize)
+            part(table, &marks, b as usize)
         }
     }
 }

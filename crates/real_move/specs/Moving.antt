@@ -1,5 +1,5 @@
--- One move on the state that two pairs of arrays hold: its conditions, its effects, the range of its values. Assumes nothing.
-use Rattle.std.specs.Prelude.{ℕ, ◌≤◌, ◌<◌, Bool, true, false, List, ℤ, pos, length, get_or}
+-- One move on a state that is held twice: its conditions, its effects, the range of its values. Assumes nothing.
+use Rattle.std.specs.Prelude.{ℕ, ◌≤◌, ◌<◌, Bool, true, false, List, ℤ, pos, length, get_or, Result, Ok, Err}
 use native.Mathlib.Omega.{arith}
 use Rattle.std.proofs.Math.Path.{◌≡◌, refl, sym, ap}
 use Rattle.std.proofs.Common.{◌∙◌}
@@ -17,8 +17,6 @@ use Rattle.schedule.specs.Check.{range_fault, block_fault}
 use Rattle.block.specs.Items.{Ranges, Left}
 use Rattle.block.specs.Sums.{Row}
 use Rattle.block.specs.Blocks.{StateRow, IsApplicable}
-use Rattle.real_move.specs.declared.Turn.{Turn}
-use Rattle.real_move.specs.declared.Turn.TheVariants as turn
 use Rattle.real_move.specs.Running.{Runs, Runnable, Ran, Reached}
 use Rattle.real_move.specs.Values.{all_in_range, all_small, all_same}
 
@@ -42,7 +40,7 @@ pub record Putable (props vars : ℕ) (has : List Bool) (values : List ℤ) : Ty
   pub state : State
   pub holds : Holds props vars has values state
 
--- two pairs of arrays hold it
+-- the state is held twice
 pub record Twice (props vars : ℕ) (had : List Bool) (values : List ℤ) (has : List Bool) (next : List ℤ) (s : State) : Type 0 where
   pub old : Holds props vars had values s
   pub new : Holds props vars has next s
@@ -71,9 +69,13 @@ pub record Movable (part : List ℕ) (props vars : ℕ) (had : List Bool) (value
   pub chosen : Chosen part props vars block
   pub holds : Twice props vars had values has next over
 
+-- what becomes of a move: it is made, or why not
+abbrev pub Turn : Type 0
+Turn = Result (Unit {0}) Fault
+
 unfoldable pub turn_fault : Turn → Option Fault
-turn_fault turn.Made = none
-turn_fault (turn.Fails f) = some f
+turn_fault (Ok made) = none
+turn_fault (Err f) = some f
 
 -- what became of block b in state s: its fault, or the arrays hold the state after it
 pub record Became (props vars : ℕ) (s : State) (b : Block) (o : Option Fault) (had : List Bool) (values : List ℤ) (has : List Bool) (next : List ℤ) (r : Turn) : Type 0 where
@@ -131,7 +133,7 @@ module _ {part : List ℕ} {props vars : ℕ} {had : List Bool} {values : List �
     tested {b} {s} c w = q.test.is (ranges_of props vars) b s c.left (holds_state w.old)
 
     -- "not allowed"
-    pub moved_refused : t ≡ false → {had'' : List Bool} {values'' : List ℤ} {has'' : List Bool} {next'' : List ℤ} → Moved part props vars had values has next had'' values'' has'' next'' (turn.Fails fault.NotAllowed)
+    pub moved_refused : t ≡ false → {had'' : List Bool} {values'' : List ℤ} {has'' : List Bool} {next'' : List ℤ} → Moved part props vars had values has next had'' values'' has'' next'' (Err fault.NotAllowed)
     unfolding turn_fault block_fault
     moved_refused e =
         record {
@@ -161,7 +163,7 @@ module _ {part : List ℕ} {props vars : ℕ} {had : List Bool} {values : List �
       fault_is c w = rw (block_fault, sym (tested c w) ∙ met, range_fault, sym (range_same c w)) refl
 
       -- "out of range"
-      pub moved_beyond : u ≡ false → {had'' : List Bool} {values'' : List ℤ} {has'' : List Bool} {next'' : List ℤ} → Moved part props vars had values has next had'' values'' has'' next'' (turn.Fails fault.OutOfRange)
+      pub moved_beyond : u ≡ false → {had'' : List Bool} {values'' : List ℤ} {has'' : List Bool} {next'' : List ℤ} → Moved part props vars had values has next had'' values'' has'' next'' (Err fault.OutOfRange)
       unfolding turn_fault
       moved_beyond e =
           record {
@@ -179,7 +181,7 @@ module _ {part : List ℕ} {props vars : ℕ} {had : List Bool} {values : List �
           → length values' ≡ length values
           → length has' ≡ length has
           → length next' ≡ length next
-          → Moved part props vars had values has next had' values' has' next' turn.Made
+          → Moved part props vars had values has next had' values' has' next' (Ok tt)
       unfolding turn_fault
       moved_made e {had'} truths lo lv ln lm =
           record {

@@ -1,4 +1,4 @@
--- A real move in two arrays, the propositions and the values: one item more is taken in. Assumes nothing.
+-- A real move on the copy that it changes: one item more is taken in. Assumes nothing.
 use Rattle.std.specs.Prelude.{ℕ, ◌≤◌, ◌<◌, ◌≡◌, Bool, not, ◌&&◌, List, [], ◌∷◌, T, ℤ, pos, length, get_or, set}
 use Rattle.std.proofs.Common.{arith, ◌∙◌, subst, get_or-set_same}
 use Rattle.std.proofs.Math.Decide.{ℕ_discrete}

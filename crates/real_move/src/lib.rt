@@ -1,20 +1,23 @@
-// One real move (document 01, "Moves") on the state that two pairs of arrays hold: conditions and sums read one, the effects change the other.
+// One real move (document 01, "Moves") on a state that is held twice: conditions and sums read one, the effects change the other.
 #![tactic(auto)]
 
 ghost use Rattle.std.specs.Prelude.{◌≡◌, false, ◌<◌, ◌≤◌, ℕ, length, get_or, nat_abs};
 ghost use Rattle.model.specs.Seen.{kind_of};
 ghost use Rattle.model.specs.Move.{changed};
-ghost use Rattle.model.specs.Limits.{largest_value};
+ghost use Rattle.std.specs.List.{list_all};
+ghost use Rattle.model.specs.Limits.{largest_value, paper};
+ghost use Rattle.model.specs.StateTable.{value_in_range};
 ghost use Rattle.real_move.specs.Walking.{Takable, Taken};
 ghost use Rattle.real_move.specs.Moving.{Triable, Tried, KeptValues, Movable, Moved};
 
+use block::Terms;
 use schedule::Fault;
 
-// What becomes of a move: it is made, or why not.
+// A state in arrays, the first of them in use: the truth of each proposition, the value of each variable.
 #[derive(Clone, Copy)]
-pub enum Turn {
-    Made,
-    Fails(Fault),
+pub struct RealState {
+    pub has: [bool; 120],
+    pub values: [i64; 16],
 }
 
 // "k is 0 := , 1 += , 2 −="
@@ -24,39 +27,32 @@ fn changed(kind: u8, old: i64, z: i64) -> i64
 {
     match kind {
         0 => z,
-        1 => integer::add(old, z),
-        _ => integer::sub(old, z),
+        1 => old + z,
+        _ => old - z,
     }
 }
 
-// Takes in the command behind the `n` terms from `from` on, which add up to `total`: a proposition is added or deleted, or an effect gives its
-// variable a new value. "all effects read the state before it" Returns the offset behind it.
-fn take_in(
-    part: &[u8],
-    from: usize,
-    n: usize,
-    total: i64,
-    values: &[i64],
-    has: &mut [bool],
-    next: &mut [i64],
-) -> usize
-    requires { Takable part.now from n total values.now has.old next.old }
-    ensures { Taken part.now from n total values.now has.old next.old has.new next.new result }
+// Takes in the command behind these terms, which add up to `total`: a proposition is added or deleted, or an effect gives its variable
+// a new value. "all effects read the state before it" Returns the offset behind it.
+fn take_in(terms: &Terms, total: i64, values: &[i64], next: &mut RealState) -> usize
+    requires { Takable terms.now.part.now terms.now.from terms.now.count total values.now next.old.has next.old.values }
+    ensures { Taken terms.now.part.now terms.now.from terms.now.count total values.now next.old.has next.old.values next.new.has next.new.values result }
 {
-    let at = from + 4 * n;
+    let part = terms.part;
+    let at = terms.from + 4 * terms.count;
     match part[at] {
         0x2B => {
-            has[part[at + 1] as usize] = true;
+            next.has[part[at + 1] as usize] = true;
             at + 2
         }
         0x2D => {
-            has[part[at + 1] as usize] = false;
+            next.has[part[at + 1] as usize] = false;
             at + 2
         }
         0x46 => {
             let var = part[at + 2] as usize;
-            let z = integer::add(total, integer::i32_at(part, at + 3));
-            next[var] = changed(part[at + 1], values[var], z);
+            let z = total + integer::i32_at(part, at + 3);
+            next.values[var] = changed(part[at + 1], values[var], z);
             at + 7
         }
         0x43 => at + 6,
@@ -64,39 +60,45 @@ fn take_in(
     }
 }
 
-// Takes the commands of a move's part in, one after the other, on `has` and `next`; conditions and sums read the state before it, `had` and
-// `values`. False where a condition fails; then nothing is said of `has` and `next`.
-fn run(part: &[u8], had: &[bool], values: &[i64], has: &mut [bool], next: &mut [i64]) -> bool
-    requires { Triable part.now had.now values.now has.old next.old }
-    ensures { Tried part.now had.now values.now has.old next.old has.new next.new result }
+// Takes the commands of a move's part in, one after the other, on `next`; conditions and sums read the state before it. False where a
+// condition fails; then nothing is said of `next`.
+fn run(part: &[u8], state: &RealState, next: &mut RealState) -> bool
+    requires { Triable part.now state.now.has state.now.values next.old.has next.old.values }
+    ensures { Tried part.now state.now.has state.now.values next.old.has next.old.values next.new.has next.new.values result }
 {
     let mut from = 1;
     while from < part.len() {
-        let sum = block::sum_at(part, from, values);
-        let n = sum.terms;
-        let total = sum.total;
-        if block::fails(part, from, n, total, had) {
+        let sum = block::sum_at(part, from, &state.values);
+        let terms = Terms {
+            part,
+            from,
+            count: sum.terms,
+        };
+        if block::fails(&terms, sum.total, &state.has) {
             return false;
         }
-        from = take_in(part, from, n, total, values, has, next);
+        from = take_in(&terms, sum.total, &state.values, next);
     }
     true
 }
 
-// Takes the new values over. False at the first that is not within ±1,000,000; then nothing is said of `values`.
+// Are all values within ±1,000,000?
+fn all_in_range(values: &[i64]) -> bool
+    ensures { result ≡ list_all (value_in_range paper) values.now }
+{
+    values.iter().all(|v| state::in_range(*v))
+}
+
+// Takes the new values over. False where one is not within ±1,000,000; then `values` stays as it is.
 fn keep_values(values: &mut [i64], next: &[i64], vars: usize) -> bool
     requires { (vars ≤ length values.old) × (vars ≤ length next.now) }
     ensures { KeptValues values.new next.now vars result }
 {
-    let mut v = 0;
-    while v < vars {
-        let x = next[v];
-        if !state::in_range(x) {
-            return false;
-        }
-        values[v] = x;
-        v += 1;
+    let new = &next[..vars];
+    if !all_in_range(new) {
+        return false;
     }
+    values[..vars].copy_from_slice(new);
     true
 }
 
@@ -105,33 +107,27 @@ fn keep_truths(had: &mut [bool], has: &[bool], props: usize)
     requires { (props ≤ length had.old) × (props ≤ length has.now) }
     ensures { (p : ℕ) → p < props → get_or had.new p false ≡ get_or has.now p false }
 {
-    let mut p = 0;
-    while p < props {
-        had[p] = has[p];
-        p += 1;
-    }
+    had[..props].copy_from_slice(&has[..props]);
 }
 
-// Makes the move of a part on the state that two pairs of arrays hold: "A real move needs its conditions true". Where it fails, nothing is said
-// of the arrays.
+// Makes the move of a part on a state that `next` holds too: "A real move needs its conditions true". Where it fails, nothing is said of
+// the two.
 pub fn make(
     part: &[u8],
     props: usize,
     vars: usize,
-    had: &mut [bool; 120],
-    values: &mut [i64; 16],
-    has: &mut [bool; 120],
-    next: &mut [i64; 16],
-) -> Turn
-    requires { Movable part.now props vars had.old values.old has.old next.old }
-    ensures { Moved part.now props vars had.old values.old has.old next.old had.new values.new has.new next.new result }
+    state: &mut RealState,
+    next: &mut RealState,
+) -> Result<(), Fault>
+    requires { Movable part.now props vars state.old.has state.old.values next.old.has next.old.values }
+    ensures { Moved part.now props vars state.old.has state.old.values next.old.has next.old.values state.new.has state.new.values next.new.has next.new.values result }
 {
-    if !run(part, had, values, has, next) {
-        return Turn::Fails(Fault::NotAllowed);
+    if !run(part, state, next) {
+        return Err(Fault::NotAllowed);
     }
-    if !keep_values(values, next, vars) {
-        return Turn::Fails(Fault::OutOfRange);
+    if !keep_values(&mut state.values, &next.values, vars) {
+        return Err(Fault::OutOfRange);
     }
-    keep_truths(had, has, props);
-    Turn::Made
+    keep_truths(&mut state.has, &next.has, props);
+    Ok(())
 }

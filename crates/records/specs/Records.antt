@@ -1,9 +1,9 @@
 -- The records of one layer from the counts in an array: how many, and their bytes (document 01, "Plan").
 -- Assumes nothing.
 use Prim.Native.Nat.{ℕ, zero, suc, ◌+◌, ◌*◌, ◌-◌, ◌≤◌, ◌<◌}
-use Rattle.std.proofs.Common.{add-one, ap₂, ◌∙◌, eq-eqb, ne_eqb}
+use Rattle.std.proofs.Common.{zero-add, add-one, lt-ltb, ap₂, ◌∙◌, eq-eqb, ne_eqb}
 use native.Mathlib.Omega.{arith}
-use Rattle.std.specs.Prelude.{◌≡◌, refl, true, false, eqb, length, get_or, set, take, drop}
+use Rattle.std.specs.Prelude.{◌≡◌, refl, true, false, eqb, ltb, filter, length, get_or, set, take, drop}
 use Rattle.std.proofs.Math.Path.{sym, ap}
 use mathlib.Core.List.{List, [], ◌∷◌, ◌++◌, append_assoc, append-nil}
 use Rattle.std.proofs.Math.ListN.{length-append}
@@ -56,25 +56,27 @@ records_same t f g b (suc n) h =
 
 -- ---- how many
 
-pub record Counting (f : ℕ → ℕ) (n b done : ℕ) : Type 0 where
-  pub total : length (layer_records 0 f 0 n) ≡ done + length (layer_records 0 f b (n - b))
-  pub few : done ≤ b
+-- as many as the counts that are not 0
+pub records_counted : (counts : List ℕ) (n : ℕ) → n ≤ length counts → length (filter (ltb 0) (take n counts)) ≡ length (layer_records 0 (count_at counts) 0 n)
+unfolding layer_records one_record count_at
+records_counted counts n h = go n counts 0 h (λ i. rw (zero-add i) refl)
+  where
+    step : (b x : ℕ) (xs : List ℕ) (rs : List Record) → length (filter (ltb 0) xs) ≡ length rs → length (filter (ltb 0) (x ∷ xs)) ≡ length (one_record 0 b x rs)
+    step b zero xs rs e = e
+    step b (suc x) xs rs e = rw (lt-ltb 0 (suc x) (omega arith), one_some 0 b x rs) (ap suc e)
 
-module _ (f : ℕ → ℕ) where
-  pub counting_start : (n : ℕ) → Counting f n 0 0
-  counting_start n =
-      let all : n ≡ n - 0 = omega arith in
-      record { total = omega (arith, ap (λ (i : ℕ). length (layer_records 0 f 0 i)) all); few = omega arith }
-
-  pub counting_skip : {n b done : ℕ} → b < n → f b ≡ 0 → Counting f n b done → Counting f n (b + 1) done
-  counting_skip {n} {b} {done} h e c = record { total = c.total ∙ ap (λ (rs : List Record). done + length rs) (records_skip 0 f h e); few = omega (arith, c.few) }
-
-  pub counting_take : {n b done : ℕ} → b < n → (f b ≡ 0 → ⊥) → Counting f n b done → Counting f n (b + 1) (done + 1)
-  counting_take {n} {b} {done} h e c =
-      record { total = omega (arith, c.total, ap length (records_take 0 f h e)); few = omega (arith, c.few) }
-
-  pub counting_end : {n b done : ℕ} → n ≤ b → Counting f n b done → done ≡ length (layer_records 0 f 0 n)
-  counting_end {n} {b} {done} h c = omega (arith, c.total, ap length (records_over 0 f h))
+    go :
+        (m : ℕ) (xs : List ℕ) (b : ℕ)
+        → m ≤ length xs
+        → ((i : ℕ) → get_or counts (b + i) 0 ≡ get_or xs i 0)
+        → length (filter (ltb 0) (take m xs)) ≡ length (layer_records 0 (count_at counts) b m)
+    go zero xs b k e = refl
+    go (suc m) [] b k e = absurd (omega arith)
+    go (suc m) (x ∷ xs) b k e =
+        let here : b + 0 ≡ b = omega arith in
+        ap (λ (y : ℕ). length (filter (ltb 0) (y ∷ take m xs))) (sym (rw here at (e 0)))
+        ∙ step b (get_or counts b 0) (take m xs) (layer_records 0 (count_at counts) (suc b) m)
+        (go m xs (suc b) (omega arith) (λ i. let next : suc b + i ≡ b + suc i = omega arith in rw next (e (suc i))))
 
 -- ---- bytes
 

@@ -21,17 +21,7 @@ pub fn count_taken(counts: &[u64], moves: usize) -> usize
     requires { moves ≤ length counts.now }
     ensures { (result ≡ length (layer_records 0 (count_at counts.now) 0 moves)) × (result ≤ moves) }
 {
-    let mut n = 0;
-    let mut b = 0;
-    while b < moves {
-        let count = counts[b];
-        b += 1;
-        if count == 0 {
-            continue;
-        }
-        n += 1;
-    }
-    n
+    counts[..moves].iter().filter(|n| **n > 0).count()
 }
 
 // "Record: 52, move (1 byte), count (8 bytes)".
@@ -50,16 +40,11 @@ pub fn write_records(out: &mut [u8], from: usize, counts: &[u64], moves: usize)
     ensures { out.new ≡ put out.old from (record_bytes (layer_records 0 (count_at counts.now) 0 moves)) }
 {
     let mut at = from;
-    let mut done = 0;
-    while done < moves {
-        let b = done;
-        let n = counts[b];
-        done += 1;
-        if n == 0 {
-            continue;
+    for (b, n) in counts[..moves].iter().enumerate() {
+        if *n > 0 {
+            put_record(out, at, b, *n);
+            at += RECORD_LEN;
         }
-        put_record(out, at, b, n);
-        at += RECORD_LEN;
     }
 }
 

@@ -1,5 +1,5 @@
 -- The answer of `plan` with what the two lent memories hold afterwards. Assumes nothing.
-use Rattle.std.specs.Prelude.{ℕ, ◌*◌, ◌≤◌, ◌<◌, ◌≡◌, refl, List, [], ℤ}
+use Rattle.std.specs.Prelude.{ℕ, ◌*◌, ◌≤◌, ◌<◌, ◌≡◌, refl, List, [], ℤ, Result, Ok, Err}
 use Rattle.std.proofs.Common.{arith, ◌∙◌, subst, le-ltb}
 use Rattle.std.proofs.Math.Path.{sym, ap}
 use Rattle.std.proofs.Math.ListN.{length}
@@ -43,7 +43,7 @@ outlined_parts {table} {marks} {k} o =
       goal = goal_left o.ok o.goal;
     }
 
-module _ {t bs marks : List ℕ} {props vars moves m : ℕ} {mem mem' : List ℤ} (r : ReadyIn t bs marks props vars moves) (b : IsBuilt r.task (start_of props bs) mem mem' (building.Reached m)) where
+module _ {t bs marks : List ℕ} {props vars moves m : ℕ} {mem mem' : List ℤ} (r : ReadyIn t bs marks props vars moves) (b : IsBuilt r.task (start_of props bs) mem mem' (Ok (building.Reached m))) where
   -- the memory holds the layers up to the answer layer
   pub built_stored : Stored t marks mem' props vars moves m
   unfolding built_of reported steps_of
@@ -57,16 +57,16 @@ module _ {t bs marks : List ℕ} {props vars moves m : ℕ} {mem mem' : List ℤ
 
 -- ---- what the call answers and leaves
 
-pub record Planned (t bs : List ℕ) (mem mem' : List ℤ) (out out' : List ℕ) (r : PlanAnswer) : Type 0 where
+pub record Planned (t bs : List ℕ) (mem mem' : List ℤ) (out out' : List ℕ) (r : Result PlanAnswer Refusal) : Type 0 where
   pub answers : r ≡ plan_answer paper t bs mem out
   pub leaves : mem' ≡ plan_memory paper t bs mem
   pub writes_is : out' ≡ plan_out paper t bs mem out
 
 -- "bounded by the formula": the reported layers are within (A + N + 1) × (N + 1), with the counts of the head
-pub planned_within : {t bs : List ℕ} {mem mem' : List ℤ} {out out' : List ℕ} {r : PlanAnswer} → Planned t bs mem mem' out out' r → LayersWithin t (plan_layers r)
-planned_within {t} {bs} {mem} {out = out} p = subst (λ (a : PlanAnswer). LayersWithin t (plan_layers a)) (sym p.answers) (plan_within t bs mem out)
+pub planned_within : {t bs : List ℕ} {mem mem' : List ℤ} {out out' : List ℕ} {r : Result PlanAnswer Refusal} → Planned t bs mem mem' out out' r → LayersWithin t (plan_layers r)
+planned_within {t} {bs} {mem} {out = out} p = subst (λ (a : Result PlanAnswer Refusal). LayersWithin t (plan_layers a)) (sym p.answers) (plan_within t bs mem out)
 
-pub planned_refused : (t bs : List ℕ) (mem : List ℤ) (out : List ℕ) {r : Refusal} → prepared paper t bs ≡ unready r → Planned t bs mem mem out out (plan.Refused r)
+pub planned_refused : (t bs : List ℕ) (mem : List ℤ) (out : List ℕ) {r : Refusal} → prepared paper t bs ≡ unready r → Planned t bs mem mem out out (Err r)
 unfolding plan_answer plan_of plan_memory decide_memory memory_of plan_out plan_out_of
 planned_refused t bs mem out e =
     record {
@@ -75,9 +75,9 @@ planned_refused t bs mem out e =
       writes_is = sym (ap (λ (x : Ready). plan_out_of paper (length mem) x out) e);
     }
 
-module _ (t bs : List ℕ) (mem mem' : List ℤ) (out : List ℕ) {k : Task} {s : State} {b : BuiltAnswer} (e : prepared paper t bs ≡ ready k s) (built : IsBuilt k s mem mem' b) where
+module _ (t bs : List ℕ) (mem mem' : List ℤ) (out : List ℕ) {k : Task} {s : State} {b : Result BuiltAnswer Refusal} (e : prepared paper t bs ≡ ready k s) (built : IsBuilt k s mem mem' b) where
   pub planned_built :
-      {out' : List ℕ} {r : PlanAnswer}
+      {out' : List ℕ} {r : Result PlanAnswer Refusal}
       → r ≡ plan_fitted (length out) k s (built_of b)
       → out' ≡ output_after (fitted (length out) (writes (record_bytes (plan_records k s (built_of b))))) out
       → Planned t bs mem mem' out out' r
@@ -104,18 +104,18 @@ none_out out = rw (le-ltb (length out) 0 (omega arith), fitted) refl
 
 module _ (t bs : List ℕ) (mem mem' : List ℤ) (out : List ℕ) {k : Task} {s : State} (e : prepared paper t bs ≡ ready k s) where
   -- "No plan" is no refusal: it writes no plan bytes and its set of helpful moves is empty.
-  pub planned_exhausted : {m : ℕ} → IsBuilt k s mem mem' (building.Exhausted m) → Planned t bs mem mem' out out (plan.NoPlan m 0 0)
+  pub planned_exhausted : {m : ℕ} → IsBuilt k s mem mem' (Ok (building.Exhausted m)) → Planned t bs mem mem' out out (Ok (plan.NoPlan m 0 0))
   unfolding built_of plan_records planned
   planned_exhausted {m} built =
       planned_built t bs mem mem' out e built (sym (none_fit (length out) k s (answered (exhausted m)) refl)) (none_out out)
 
-  pub planned_stopped : {n m : ℕ} → IsBuilt k s mem mem' (building.Stopped n m) → Planned t bs mem mem' out out (plan.Refused (record { number = n; place = m }))
+  pub planned_stopped : {r : Refusal} → IsBuilt k s mem mem' (Err r) → Planned t bs mem mem' out out (Err r)
   unfolding built_of plan_records planned
-  planned_stopped {n} {m} built = planned_built t bs mem mem' out e built (sym (none_fit (length out) k s (stopped n m) refl)) (none_out out)
+  planned_stopped {r} built = planned_built t bs mem mem' out e built (sym (none_fit (length out) k s (stopped r.number r.place) refl)) (none_out out)
 
 -- ---- the records of an answer layer
 
-pub record Extracted (k : Task) (s : State) (m : ℕ) (out out' : List ℕ) (r : PlanAnswer) : Type 0 where
+pub record Extracted (k : Task) (s : State) (m : ℕ) (out out' : List ℕ) (r : Result PlanAnswer Refusal) : Type 0 where
   pub answers : r ≡ plan_fitted (length out) k s (answered (reached m))
   pub writes_is : out' ≡ output_after (fitted (length out) (writes (record_bytes (records k s m)))) out
 
@@ -124,7 +124,7 @@ module _ (k : Task) (s : State) (m : ℕ) (out : List ℕ) {n set : ℕ} (total 
   bytes = record_bytes (records k s m)
 
   -- "13 | output shorter than the result | 0"
-  pub extracted_short : length out < 10 * n → Extracted k s m out out (plan.Refused (record { number = 13; place = 0 }))
+  pub extracted_short : length out < 10 * n → Extracted k s m out out (Err (record { number = 13; place = 0 }))
   unfolding output_after plan_records
   extracted_short h =
       let short : length out < length bytes = omega (arith, length_record_bytes (records k s m)) in
@@ -133,7 +133,7 @@ module _ (k : Task) (s : State) (m : ℕ) (out : List ℕ) {n set : ℕ} (total 
         writes_is = sym (ap (λ (o : Output). output_after o out) (fitted_short (length out) bytes short));
       }
 
-  pub extracted_written : {out' : List ℕ} → 10 * n ≤ length out → out' ≡ put out 0 bytes → Extracted k s m out out' (plan.Plan m m n set)
+  pub extracted_written : {out' : List ℕ} → 10 * n ≤ length out → out' ≡ put out 0 bytes → Extracted k s m out out' (Ok (plan.Plan m m n set))
   unfolding output_after planned plan_records
   extracted_written h e =
       let fits : length bytes ≤ length out = omega (arith, length_record_bytes (records k s m)) in
@@ -144,7 +144,7 @@ module _ (k : Task) (s : State) (m : ℕ) (out : List ℕ) {n set : ℕ} (total 
             ∙ sym (ap (λ (o : Output). output_after o out) (fitted_whole (length out) bytes fits));
       }
 
-module _ {t bs marks : List ℕ} {props vars moves m : ℕ} {mem mem' : List ℤ} (out : List ℕ) (r : ReadyIn t bs marks props vars moves) (b : IsBuilt r.task (start_of props bs) mem mem' (building.Reached m)) where
-  pub planned_reached : {out' : List ℕ} {a : PlanAnswer} → Extracted (built_stored r b).task (built_stored r b).start m out out' a → Planned t bs mem mem' out out' a
+module _ {t bs marks : List ℕ} {props vars moves m : ℕ} {mem mem' : List ℤ} (out : List ℕ) (r : ReadyIn t bs marks props vars moves) (b : IsBuilt r.task (start_of props bs) mem mem' (Ok (building.Reached m))) where
+  pub planned_reached : {out' : List ℕ} {a : Result PlanAnswer Refusal} → Extracted (built_stored r b).task (built_stored r b).start m out out' a → Planned t bs mem mem' out out' a
   unfolding built_of plan_records built_stored
   planned_reached x = planned_built t bs mem mem' out r.is b x.answers x.writes_is

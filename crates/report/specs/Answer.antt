@@ -1,32 +1,32 @@
 -- The text of plan's answer in a lent buffer. Assumes nothing.
-use Rattle.std.specs.Prelude.{ℕ, ◌+◌, ◌*◌, ◌^◌, ◌≤◌, ◌<◌, ◌≡◌, List, ◌++◌, length}
+use Rattle.std.specs.Prelude.{ℕ, ◌+◌, ◌*◌, ◌^◌, ◌≤◌, ◌<◌, ◌≡◌, List, ◌++◌, length, Result, Ok, Err}
 use Rattle.std.proofs.Common.{arith, subst}
 use Rattle.std.proofs.Math.Path.{ap}
 use Rattle.std.proofs.Math.ListN.{length-append}
 use Rattle.model.specs.declared.Refusal.{Refusal}
 use Rattle.model.specs.declared.PlanAnswer.{PlanAnswer}
-use Rattle.model.specs.declared.PlanAnswer.TheVariants.{Plan, NoPlan, Refused}
+use Rattle.model.specs.declared.PlanAnswer.TheVariants.{Plan, NoPlan}
 use Rattle.model.specs.Memory.{overwrite}
 use Rattle.model.specs.Plan.{Record}
 use Rattle.model.specs.Listing.{refusal_text, records_text, answer_text}
 use Rattle.output.specs.Writing.{Written, written_join, written_first}
-use Rattle.report.specs.Lines.{line_text, pair_text, plan_line, no_plan_text, no_plan_room, refusal_room}
+use Rattle.report.specs.Lines.{line_text, pair_text, plan_line, no_plan_text}
 use Rattle.report.specs.Records.{Planned, Listable, records_room}
 
 -- how many records are printed
-unfoldable pub record_count : PlanAnswer → ℕ
-record_count (Plan layer layers records firsts) = records
-record_count (NoPlan layers records firsts) = 0
-record_count (Refused r) = 0
+unfoldable pub record_count : Result PlanAnswer Refusal → ℕ
+record_count (Ok (Plan layer layers records firsts)) = records
+record_count (Ok (NoPlan layers records firsts)) = 0
+record_count (Err r) = 0
 
 -- rs are the records of an answer, and of the plan's bytes
-abbrev pub Lists : PlanAnswer → List ℕ → List Record → Type 0
-Lists (Plan layer layers records firsts) plan rs = Planned plan records rs
-Lists (NoPlan layers records firsts) plan rs = Unit {0}
-Lists (Refused r) plan rs = Unit {0}
+abbrev pub Lists : Result PlanAnswer Refusal → List ℕ → List Record → Type 0
+Lists (Ok (Plan layer layers records firsts)) plan rs = Planned plan records rs
+Lists (Ok (NoPlan layers records firsts)) plan rs = Unit {0}
+Lists (Err r) plan rs = Unit {0}
 
 -- what printing needs: the records' bytes, and room for the lines
-pub record Printable (a : PlanAnswer) (plan text : List ℕ) : Type 0 where
+pub record Printable (a : Result PlanAnswer Refusal) (plan text : List ℕ) : Type 0 where
   pub records : List Record
   pub lists : Lists a plan records
   pub room : 56 + 25 * record_count a ≤ length text
@@ -43,10 +43,10 @@ printed {bs} h w = record { is = written_first w (omega (arith, w.behind)); size
 
 -- ---- one law for each kind of answer
 
-module _ {plan text : List ℕ} {a : PlanAnswer} (p : Printable a plan text) where
-  module _ {layer layers records firsts : ℕ} (is : a ≡ Plan layer layers records firsts) where
+module _ {plan text : List ℕ} {a : Result PlanAnswer Refusal} (p : Printable a plan text) where
+  module _ {layer layers records firsts : ℕ} (is : a ≡ Ok (Plan layer layers records firsts)) where
     same_lists : (rs : List Record) → Lists a plan rs → Planned plan records rs
-    same_lists rs l = subst (λ (x : PlanAnswer). Lists x plan rs) is l
+    same_lists rs l = subst (λ (x : Result PlanAnswer Refusal). Lists x plan rs) is l
 
     same_count : record_count a ≡ records
     unfolding record_count
@@ -82,21 +82,20 @@ module _ {plan text : List ℕ} {a : PlanAnswer} (p : Printable a plan text) whe
 
   pub printed_no_plan :
       {layers records firsts : ℕ} {new : List ℕ} {next : ℕ}
-      → a ≡ NoPlan layers records firsts
-      → layers < 2 ^ 64
+      → a ≡ Ok (NoPlan layers records firsts)
       → Written text 0 (no_plan_text layers) new next
+      → length (no_plan_text layers) ≤ 36
       → (rs : List Record)
       → Printed text (answer_text a rs) new next
   unfolding answer_text no_plan_text line_text
-  printed_no_plan {layers} is h w rs = rw is (printed (omega (arith, no_plan_room layers h, p.room)) w)
+  printed_no_plan is w h rs = rw is (printed (omega (arith, h, p.room)) w)
 
   pub printed_refusal :
       {r : Refusal} {new : List ℕ} {next : ℕ}
-      → a ≡ Refused r
-      → r.number < 2 ^ 64
-      → r.place < 2 ^ 64
+      → a ≡ Err r
       → Written text 0 (refusal_text r) new next
+      → length (refusal_text r) ≤ 56
       → (rs : List Record)
       → Printed text (answer_text a rs) new next
   unfolding answer_text
-  printed_refusal {r} is h k w rs = rw is (printed (omega (arith, refusal_room r h k, p.room)) w)
+  printed_refusal is w h rs = rw is (printed (omega (arith, h, p.room)) w)

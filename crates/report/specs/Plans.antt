@@ -1,11 +1,10 @@
 -- What plan answers and writes can be printed, and is then what the listing prints.
 -- Assumes nothing.
-use Rattle.std.specs.Prelude.{ℕ, ◌*◌, ◌/◌, ◌≤◌, ◌≡◌, refl, List, [], ◌∷◌, ℤ, length, drop}
+use Rattle.std.specs.Prelude.{ℕ, ◌*◌, ◌/◌, ◌≤◌, ◌≡◌, refl, List, [], ◌∷◌, ℤ, length, drop, Result, Err}
 use Rattle.std.proofs.Common.{ap, arith}
 use Rattle.std.proofs.Math.Option.{Option, none, some}
 use Rattle.model.specs.declared.Refusal.{Refusal}
 use Rattle.model.specs.declared.PlanAnswer.{PlanAnswer}
-use Rattle.model.specs.declared.PlanAnswer.TheVariants as plan
 use Rattle.model.specs.Limits.{paper}
 use Rattle.model.specs.Task.{normal, Task}
 use Rattle.model.specs.Move.{State}
@@ -103,7 +102,7 @@ lists_ready (ready k s) old e small =
     let rs = plan_records k s b in
     rw e
     (fitted_cases listing_bytes (record_bytes rs)
-    (λ (o : Output). Lists (on_output o (λ bs. planned k s b) (λ r. plan.Refused r)) (output_after o old) rs)
+    (λ (o : Output). Lists (on_output o (λ bs. planned k s b) (λ r. Err r)) (output_after o old) rs)
     (λ whole. lists_built k s old b small) (λ short. tt))
 lists_ready (unready r) old e small = tt
 
@@ -118,7 +117,7 @@ few_ready : (q : Ready) (size room : ℕ) → 10 * record_count (plan_of paper s
 unfolding plan_of record_count
 few_ready (ready k s) size room =
     let b = build paper k s size in
-    plan_cases room k s b (λ (a : PlanAnswer). 10 * record_count a ≤ room)
+    plan_cases room k s b (λ (a : Result PlanAnswer Refusal). 10 * record_count a ≤ room)
     (λ whole. omega (arith, few_built k s b, length_record_bytes (plan_records k s b))) (omega arith)
 few_ready (unready r) size room = omega arith
 
@@ -152,6 +151,6 @@ module _ (t bs : List ℕ) (layers : List ℤ) (out : List ℕ) (length-layers :
         short = omega arith;
       }
 
-pub refused_printable : (r : Refusal) (planBytes text : List ℕ) → length text ≡ text_length → Printable (plan.Refused r) planBytes text
+pub refused_printable : (r : Refusal) (planBytes text : List ℕ) → length text ≡ text_length → Printable (Err r) planBytes text
 unfolding record_count text_length
 refused_printable r planBytes text h = record { records = []; lists = tt; room = omega arith; short = omega arith }

@@ -2,7 +2,7 @@
 // whole text of an answer.
 #![tactic(auto)]
 
-ghost use Rattle.std.specs.Prelude.{List, ◌+◌, ◌*◌, ◌^◌, ◌<◌, length};
+ghost use Rattle.std.specs.Prelude.{List, ◌+◌, ◌*◌, ◌^◌, ◌<◌, ◌≤◌, length};
 ghost use Rattle.model.specs.Listing.{refusal_text, records_text, answer_text};
 ghost use Rattle.model.specs.Plan.{Record};
 ghost use Rattle.output.specs.Writing.{Written};
@@ -10,7 +10,7 @@ ghost use Rattle.report.specs.Lines.{line_text, pair_text, plan_line, no_plan_te
 ghost use Rattle.report.specs.Records.{Planned, Listable};
 ghost use Rattle.report.specs.Answer.{Printable, Lists, Printed};
 
-use model::PlanAnswer;
+use model::{PlanAnswer, Refusal};
 
 // Writes a word and a number, and ends the line.
 fn put_line(text: &mut [u8], at: usize, word: &[u8], n: u64) -> usize
@@ -33,17 +33,24 @@ fn put_pair(text: &mut [u8], at: usize, first: &[u8], a: u64, second: &[u8], b: 
 }
 
 // "refusal", the number, "place" and the place.
-fn put_refusal(text: &mut [u8], at: usize, number: u64, place: u64) -> usize
+fn put_refusal(text: &mut [u8], at: usize, refusal: Refusal) -> usize
     requires { at < 2 ^ 62 }
-    ensures { Written text.old at (refusal_text (record { number = number; place = place })) text.new result }
+    ensures { Written text.old at (refusal_text refusal) text.new result × (length (refusal_text refusal) ≤ 56) }
 {
-    put_pair(text, at, b"refusal ", number, b" place ", place)
+    put_pair(
+        text,
+        at,
+        b"refusal ",
+        refusal.number,
+        b" place ",
+        refusal.place,
+    )
 }
 
 // "no plan layers" and the layers.
 fn put_no_plan(text: &mut [u8], at: usize, layers: u64) -> usize
     requires { at < 2 ^ 62 }
-    ensures { Written text.old at (no_plan_text layers) text.new result }
+    ensures { Written text.old at (no_plan_text layers) text.new result × (length (no_plan_text layers) ≤ 36) }
 {
     put_line(text, at, b"no plan layers ", layers)
 }
@@ -51,7 +58,7 @@ fn put_no_plan(text: &mut [u8], at: usize, layers: u64) -> usize
 // The first line of a plan: its records and layers.
 fn put_plan(text: &mut [u8], at: usize, records: u64, layers: u64) -> usize
     requires { at < 2 ^ 62 }
-    ensures { Written text.old at (plan_line records layers) text.new result }
+    ensures { Written text.old at (plan_line records layers) text.new result × (length (plan_line records layers) ≤ 54) }
 {
     put_pair(text, at, b"plan ", records, b" layers ", layers)
 }
@@ -70,37 +77,32 @@ fn put_records(text: &mut [u8], at: usize, plan: &[u8], n: usize) -> usize
     ensures { (rs : List Record) → Planned plan.now n rs → Written text.old at (records_text rs) text.new result }
 {
     let mut next = at;
-    let mut i = 0;
-    while i < n {
+    for i in 0..n {
         let from = 10 * i;
-        let chosen = integer::wide(plan[from + 1]);
+        let chosen = plan[from + 1] as u64;
         let count = integer::unsigned_at(plan, from + 2, 8);
         next = put_record(text, next, chosen, count);
-        i += 1;
     }
     next
 }
 
 // The text of plan's answer, from the start of the buffer; the result is its length. The records are read from the plan's bytes.
-pub fn listing_text(answer: PlanAnswer, plan: &[u8], text: &mut [u8]) -> usize
+pub fn listing_text(answer: Result<PlanAnswer, Refusal>, plan: &[u8], text: &mut [u8]) -> usize
     requires { Printable answer plan.now text.old }
     ensures { (rs : List Record) → Lists answer plan.now rs → Printed text.old (answer_text answer rs) text.new result }
 {
     match answer {
-        PlanAnswer::Plan {
-            layer: _,
-            layers,
-            records,
-            first_moves: _,
-        } => {
+        Ok(
+            PlanAnswer::Plan {
+                layers,
+                records,
+                ..
+            },
+        ) => {
             let next = put_plan(text, 0, records, layers);
             put_records(text, next, plan, records as usize)
         }
-        PlanAnswer::NoPlan {
-            layers,
-            records: _,
-            first_moves: _,
-        } => put_no_plan(text, 0, layers),
-        PlanAnswer::Refused(r) => put_refusal(text, 0, r.number, r.place),
+        Ok(PlanAnswer::NoPlan { layers, .. }) => put_no_plan(text, 0, layers),
+        Err(r) => put_refusal(text, 0, r),
     }
 }

@@ -102,6 +102,9 @@ module _ {t marks : List ℕ} {moves : ℕ} (s : Stored t marks moves) where
   pub table_size : length t ≡ 6 + length (moves_bytes (stored_task t).moves) + length (items_bytes (stored_task t).goal)
   table_size = ap length s.prints ∙ length_task (stored_form t) (stored_task t)
 
+  pub kept_short : length (moves_bytes (active_moves (stored_task t).moves)) ≤ 64_000
+  kept_short = omega (arith, kept_bytes (stored_task t).moves, table_size, short)
+
   pub not_longer : length (rewritten_bytes t) ≤ length t
   unfolding rewritten_bytes
   not_longer = omega (arith, rewritten_shorter (stored_task t) (stored_form t), ap length s.prints)

@@ -15,7 +15,8 @@ ghost use Rattle.rewrite.specs.Active.{IsActive, Kept, KeptCount};
 ghost use Rattle.rewrite.specs.Stored.{stored_task, rewritten_bytes, Stored};
 
 use block::ItemAt;
-use model::{ReadAnswer, Refusal, WriteAnswer};
+use model::{Reason, Refusal};
+use reader::Blocks;
 use table::Wanted;
 
 // Does the block of this part change something: has it a 2B, a 2D or a 46?
@@ -27,20 +28,7 @@ fn is_active(part: &[u8]) -> bool
     loop {
         let item = block::next(part, at);
         match item {
-            ItemAt::Add { prop: _, after: _ } => {
-                return true;
-            }
-            ItemAt::Delete { prop: _, after: _ } => {
-                return true;
-            }
-            ItemAt::Effect {
-                kind: _,
-                var: _,
-                base: _,
-                from: _,
-                terms: _,
-                after: _,
-            } => {
+            ItemAt::Add { .. } | ItemAt::Delete { .. } | ItemAt::Effect { .. } => {
                 return true;
             }
             ItemAt::End => {
@@ -57,22 +45,17 @@ fn count_kept(part: &[u8]) -> usize
     requires { Readable part.now 1 }
     ensures { KeptCount part.now result }
 {
-    if is_active(part) {
-        return 1;
-    }
-    0
+    if is_active(part) { 1 } else { 0 }
 }
 
 // How many moves are kept.
-fn count_moves(table: &[u8], marks: &[usize], moves: usize) -> usize
-    requires { Stored table.now marks.now moves }
-    ensures { result ≡ length (active_moves (stored_task table.now).moves) }
+fn count_moves(blocks: &Blocks) -> usize
+    requires { Stored blocks.now.table.now blocks.now.marks.now blocks.now.moves }
+    ensures { result ≡ length (active_moves (stored_task blocks.now.table.now).moves) }
 {
-    let mut b = 0;
     let mut kept = 0;
-    while b < moves {
-        kept = kept + count_kept(reader::part(table, marks, b));
-        b += 1;
+    for b in 0..blocks.moves {
+        kept += count_kept(blocks.part(b));
     }
     kept
 }
@@ -89,15 +72,13 @@ fn put_kept(part: &[u8], out: &mut [u8], at: usize) -> usize
 }
 
 // The moves that are kept, from `start` on: the offset behind them.
-fn put_moves(table: &[u8], marks: &[usize], moves: usize, out: &mut [u8], start: usize) -> usize
-    requires { (Stored table.now marks.now moves) × (start ≤ 4) }
-    ensures { Written out.old start (moves_bytes (active_moves (stored_task table.now).moves)) out.new result }
+fn put_moves(blocks: &Blocks, out: &mut [u8], start: usize) -> usize
+    requires { (Stored blocks.now.table.now blocks.now.marks.now blocks.now.moves) × (start ≤ 4) }
+    ensures { Written out.old start (moves_bytes (active_moves (stored_task blocks.now.table.now).moves)) out.new result }
 {
-    let mut b = 0;
     let mut to = start;
-    while b < moves {
-        to = put_kept(reader::part(table, marks, b), out, to);
-        b += 1;
+    for b in 0..blocks.moves {
+        to = put_kept(blocks.part(b), out, to);
     }
     to
 }
@@ -112,60 +93,51 @@ fn put_head(table: &[u8], kept: usize, out: &mut [u8]) -> usize
 }
 
 // The rewritten table: the offset behind it.
-fn put_table(table: &[u8], marks: &[usize], moves: usize, kept: usize, out: &mut [u8]) -> usize
-    requires { (Stored table.now marks.now moves) × (kept ≡ length (active_moves (stored_task table.now).moves)) }
-    ensures { Written out.old 0 (rewritten_bytes table.now) out.new result }
+fn put_table(blocks: &Blocks, kept: usize, out: &mut [u8]) -> usize
+    requires { (Stored blocks.now.table.now blocks.now.marks.now blocks.now.moves)
+        × (kept ≡ length (active_moves (stored_task blocks.now.table.now).moves)) }
+    ensures { Written out.old 0 (rewritten_bytes blocks.now.table.now) out.new result }
 {
-    let start = put_head(table, kept, out);
-    let goal = put_moves(table, marks, moves, out, start);
-    let end = output::put_bytes(out, goal, reader::part(table, marks, moves));
+    let start = put_head(blocks.table, kept, out);
+    let goal = put_moves(blocks, out, start);
+    let end = output::put_bytes(out, goal, blocks.part(blocks.moves));
     output::put_byte(out, end, 0x45)
 }
 
 // Is an output of `room` bytes too short for the rewritten table? One of the table's length is long enough; else a walk over no
 // bytes gives the length.
-fn too_short(table: &[u8], marks: &[usize], moves: usize, kept: usize, room: usize) -> bool
-    requires { (Stored table.now marks.now moves) × (kept ≡ length (active_moves (stored_task table.now).moves)) }
-    ensures { result ≡ ltb room (length (rewritten_bytes table.now)) }
+fn too_short(blocks: &Blocks, kept: usize, room: usize) -> bool
+    requires { (Stored blocks.now.table.now blocks.now.marks.now blocks.now.moves)
+        × (kept ≡ length (active_moves (stored_task blocks.now.table.now).moves)) }
+    ensures { result ≡ ltb room (length (rewritten_bytes blocks.now.table.now)) }
 {
-    if room >= table.len() {
+    if room >= blocks.table.len() {
         return false;
     }
     let mut nothing: [u8; 0] = [];
-    room < put_table(table, marks, moves, kept, &mut nothing)
+    room < put_table(blocks, kept, &mut nothing)
 }
 
 // Writes the rewritten table of an accepted one, if it fits.
-fn write(table: &[u8], marks: &[usize; 66], moves: usize, out: &mut [u8]) -> WriteAnswer
-    requires { Stored table.now marks.now moves }
-    ensures { Answered (writes (rewritten_bytes table.now)) out.old out.new result }
+fn write(blocks: &Blocks, out: &mut [u8]) -> Result<u64, Refusal>
+    requires { Stored blocks.now.table.now blocks.now.marks.now blocks.now.moves }
+    ensures { Answered (writes (rewritten_bytes blocks.now.table.now)) out.old out.new result }
 {
-    let kept = count_moves(table, marks, moves);
-    if too_short(table, marks, moves, kept, out.len()) {
-        return WriteAnswer::Refused(Refusal {
-            number: 13,
-            place: 0,
-        });
+    let kept = count_moves(blocks);
+    if too_short(blocks, kept, out.len()) {
+        return Err(Reason::OutputTooShort.at(0));
     }
-    let size = put_table(table, marks, moves, kept, out);
-    WriteAnswer::Written(size as u64)
+    Ok(put_table(blocks, kept, out) as u64)
 }
 
 // Writes a stored table without the moves that do nothing: the length of the new one, or why the call turns back. What is written is a
 // table that read takes, and lists solve the old table and it alike (`RewriteRight`).
-pub fn rewrite(table: &[u8], out: &mut [u8]) -> WriteAnswer
+pub fn rewrite(table: &[u8], out: &mut [u8]) -> Result<u64, Refusal>
     ensures { (result ≡ rewrite_answer paper table.now out.old)
         × (out.new ≡ rewrite_out paper table.now out.old)
         × RewriteRight paper table.now (length out.old) (rewrote paper table.now (length out.old)) }
 {
     let mut marks = [0; 66];
-    match table::outline(table, Wanted::Stored, &mut marks) {
-        ReadAnswer::Head {
-            kind: _,
-            props: _,
-            vars: _,
-            moves,
-        } => write(table, &marks, moves as usize, out),
-        ReadAnswer::Refused(r) => WriteAnswer::Refused(r),
-    }
+    let head = table::outline(table, Wanted::Stored, &mut marks)?;
+    write(&Blocks::new(table, &marks, head), out)
 }

@@ -1,11 +1,9 @@
 -- From what `campaign` does with the first numbers of a memory to what `rig_campaign` does. Assumes nothing.
-use Rattle.std.specs.Prelude.{◌≡◌, ℕ, List, ◌++◌, ℤ, take, drop}
+use Rattle.std.specs.Prelude.{◌≡◌, ℕ, List, ◌++◌, ℤ, take, drop, Result, Err}
 use Rattle.std.proofs.Common.{sym, ap, ap₂, ◌∙◌}
 use Rattle.model.specs.declared.Refusal.{Refusal}
 use Rattle.model.specs.declared.DecideAnswer.{DecideAnswer}
-use Rattle.model.specs.declared.DecideAnswer.TheVariants as decide
 use Rattle.model.specs.declared.PlanAnswer.{PlanAnswer}
-use Rattle.model.specs.declared.PlanAnswer.TheVariants as plan
 use Rattle.model.specs.Limits.{paper}
 use Rattle.model.specs.Task.{written}
 use Rattle.model.specs.Reading.{only, refused, reading}
@@ -22,7 +20,7 @@ use Rattle.ceiling.specs.Heads.{ceiling_of}
 use Rattle.ceiling.specs.Numbers.{Split}
 
 -- what it answers, d and p, and leaves in each memory, as equations, and demand 3 of it
-pub record Done (c : Ceiling) (t bs normal_form : List ℕ) (layers : List ℤ) (out normalFormAfter : List ℕ) (layersAfter : List ℤ) (outAfter : List ℕ) (d : DecideAnswer) (p : PlanAnswer) : Type 0 where
+pub record Done (c : Ceiling) (t bs normal_form : List ℕ) (layers : List ℤ) (out normalFormAfter : List ℕ) (layersAfter : List ℤ) (outAfter : List ℕ) (d : Result DecideAnswer Refusal) (p : Result PlanAnswer Refusal) : Type 0 where
   pub decision : d ≡ campaign_decision_under (ceiling_of c) paper t bs normal_form layers
   pub plan : p ≡ campaign_plan_under (ceiling_of c) paper t bs normal_form layers out
   pub normal : normalFormAfter ≡ normalise_out_under (ceiling_of c) paper t normal_form
@@ -33,7 +31,7 @@ pub record Done (c : Ceiling) (t bs normal_form : List ℕ) (layers : List ℤ) 
 module _ (c : Ceiling) (t bs normal_form : List ℕ) (layers : List ℤ) (out : List ℕ) where
   -- the equations give the promise
   done_by :
-      {normalFormAfter : List ℕ} {layersAfter : List ℤ} {outAfter : List ℕ} {d : DecideAnswer} {p : PlanAnswer}
+      {normalFormAfter : List ℕ} {layersAfter : List ℤ} {outAfter : List ℕ} {d : Result DecideAnswer Refusal} {p : Result PlanAnswer Refusal}
       → d ≡ campaign_decision_under (ceiling_of c) paper t bs normal_form layers
       → p ≡ campaign_plan_under (ceiling_of c) paper t bs normal_form layers out
       → normalFormAfter ≡ normalise_out_under (ceiling_of c) paper t normal_form
@@ -52,7 +50,7 @@ module _ (c : Ceiling) (t bs normal_form : List ℕ) (layers : List ℤ) (out : 
 
   -- the full call ran on the first numbers
   pub done_admitted :
-      {n : ℕ} {normalFormAfter : List ℕ} {new : List ℤ} {outAfter : List ℕ} {d : DecideAnswer} {p : PlanAnswer}
+      {n : ℕ} {normalFormAfter : List ℕ} {new : List ℤ} {outAfter : List ℕ} {d : Result DecideAnswer Refusal} {p : Result PlanAnswer Refusal}
       → Split c layers n
       → Beneath (ceiling_of c) (reading paper (only written) t)
       → full.Done t bs normal_form (take n layers) out normalFormAfter new outAfter d p
@@ -68,7 +66,7 @@ module _ (c : Ceiling) (t bs normal_form : List ℕ) (layers : List ℤ) (out : 
   -- the table was turned away
   pub done_turned :
       (r : Refusal) → reading_under (ceiling_of c) paper (only written) t ≡ refused r
-      → Done c t bs normal_form layers out normal_form layers out (decide.Refused r) (plan.Refused r)
+      → Done c t bs normal_form layers out normal_form layers out (Err r) (Err r)
   done_turned r u =
       let back = turned_campaign (ceiling_of c) t bs normal_form layers out r u in
       done_by (sym back.decides) (sym back.plans) (sym ((turned_writing (ceiling_of c) paper t r u).normal_form normal_form)) (sym back.leaves) (sym back.writes)

@@ -1,6 +1,7 @@
 -- Decide and plan on the first numbers of a memory, as the calls under a ceiling. Assumes nothing.
-use Rattle.std.specs.Prelude.{ℕ, ◌≡◌, List, ◌++◌, ℤ, take, drop}
+use Rattle.std.specs.Prelude.{ℕ, ◌≡◌, List, ◌++◌, ℤ, take, drop, Result}
 use Rattle.std.proofs.Common.{sym, ap, ap₂, ◌∙◌}
+use Rattle.model.specs.declared.Refusal.{Refusal}
 use Rattle.model.specs.declared.DecideAnswer.{DecideAnswer}
 use Rattle.model.specs.declared.PlanAnswer.{PlanAnswer}
 use Rattle.model.specs.Limits.{paper}
@@ -18,13 +19,13 @@ module _ (c : Ceiling) (t bs : List ℕ) (mem : List ℤ) {n : ℕ} (s : Split c
   same : SamePlanning (ceiling_of c) paper t bs mem
   same = same_planning (ceiling_of c) paper t h bs mem
 
-  pub decide_answers : {d : DecideAnswer} → d ≡ decide_answer paper t bs (take n mem) → d ≡ decide_answer_under (ceiling_of c) paper t bs mem
+  pub decide_answers : {d : Result DecideAnswer Refusal} → d ≡ decide_answer paper t bs (take n mem) → d ≡ decide_answer_under (ceiling_of c) paper t bs mem
   decide_answers e = e ∙ ap (decide_answer paper t bs) s.first ∙ sym same.decides
 
   pub decide_leaves : {new : List ℤ} → new ≡ decide_memory paper t bs (take n mem) → new ++ drop n mem ≡ decide_memory_under (ceiling_of c) paper t bs mem
   decide_leaves e = ap₂ ◌++◌ (e ∙ ap (decide_memory paper t bs) s.first) s.behind ∙ sym same.leaves
 
-  pub plan_answers : (out : List ℕ) {p : PlanAnswer} → p ≡ plan_answer paper t bs (take n mem) out → p ≡ plan_answer_under (ceiling_of c) paper t bs mem out
+  pub plan_answers : (out : List ℕ) {p : Result PlanAnswer Refusal} → p ≡ plan_answer paper t bs (take n mem) out → p ≡ plan_answer_under (ceiling_of c) paper t bs mem out
   plan_answers out e = e ∙ ap (λ (m : List ℤ). plan_answer paper t bs m out) s.first ∙ sym (same.plans out)
 
   pub plan_leaves_lem : {new : List ℤ} → new ≡ plan_memory paper t bs (take n mem) → new ++ drop n mem ≡ plan_memory_under (ceiling_of c) paper t bs mem

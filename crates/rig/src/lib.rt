@@ -15,45 +15,27 @@ ghost use Rattle.rig.specs.Campaign.{Done};
 
 use campaign::Answers;
 use ceiling::Ceiling;
-use model::{DecideAnswer, PlanAnswer, ReadAnswer, Refusal, WriteAnswer};
+use model::{DecideAnswer, Head, PlanAnswer, Reason, Refusal};
 use table::Wanted;
 
-// Whether a table goes on to the full call, which makes all its checks.
-#[derive(Clone, Copy)]
-pub enum Admission {
-    Admitted,
-    Refused(Refusal),
-}
-
-// "17, a head beyond the rig's limits, place 0, checked just after the table is accepted". Only a table with such a head is read here.
-fn admit(c: Ceiling, table: &[u8], wanted: Wanted) -> Admission
+// "17, a head beyond the rig's limits, place 0, checked just after the table is accepted". Only a table with such a head is read here. A table
+// that is admitted goes on to the full call, which makes all its checks.
+fn admit(c: Ceiling, table: &[u8], wanted: Wanted) -> Result<(), Refusal>
     ensures { Admits c (wanted_of wanted) table.now result }
 {
     if !ceiling::beyond(c, table) {
-        return Admission::Admitted;
+        return Ok(());
     }
     let mut marks = [0; 66];
-    match table::outline(table, wanted, &mut marks) {
-        ReadAnswer::Head {
-            kind: _,
-            props: _,
-            vars: _,
-            moves: _,
-        } => Admission::Refused(Refusal {
-            number: 17,
-            place: 0,
-        }),
-        ReadAnswer::Refused(r) => Admission::Refused(r),
-    }
+    table::outline(table, wanted, &mut marks)?;
+    Err(Reason::BeyondCeiling.at(0))
 }
 
-pub fn read(c: Ceiling, table: &[u8]) -> ReadAnswer
+pub fn read(c: Ceiling, table: &[u8]) -> Result<Head, Refusal>
     ensures { result ≡ read_answer_under (ceiling_of c) paper table.now }
 {
-    match admit(c, table, Wanted::Both) {
-        Admission::Admitted => table::read(table),
-        Admission::Refused(r) => ReadAnswer::Refused(r),
-    }
+    admit(c, table, Wanted::Both)?;
+    table::read(table)
 }
 
 // The block reader; `number` and `place` are those of a refusal, or 0.
@@ -70,8 +52,8 @@ pub fn block_at<'a>(
         × LiesAt table.entry (block_start_under (ceiling_of c) paper table.now b) result }
 {
     match admit(c, table, Wanted::Both) {
-        Admission::Admitted => reader::block_at(table, b, number, place),
-        Admission::Refused(r) => {
+        Ok(()) => reader::block_at(table, b, number, place),
+        Err(r) => {
             *number = r.number;
             *place = r.place;
             &table[0..0]
@@ -79,39 +61,42 @@ pub fn block_at<'a>(
     }
 }
 
-pub fn normalise(c: Ceiling, table: &[u8], out: &mut [u8]) -> WriteAnswer
+pub fn normalise(c: Ceiling, table: &[u8], out: &mut [u8]) -> Result<u64, Refusal>
     ensures { (result ≡ normalise_answer_under (ceiling_of c) paper table.now out.old)
         × (out.new ≡ normalise_out_under (ceiling_of c) paper table.now out.old) }
 {
-    match admit(c, table, Wanted::Written) {
-        Admission::Admitted => normal::normalise(table, out),
-        Admission::Refused(r) => WriteAnswer::Refused(r),
-    }
+    admit(c, table, Wanted::Written)?;
+    normal::normalise(table, out)
 }
 
-pub fn step(c: Ceiling, table: &[u8], state: &[u8], chosen: u64, out: &mut [u8]) -> WriteAnswer
+pub fn step(
+    c: Ceiling,
+    table: &[u8],
+    state: &[u8],
+    chosen: u64,
+    out: &mut [u8],
+) -> Result<u64, Refusal>
     ensures { (result ≡ step_answer_under (ceiling_of c) paper table.now state.now chosen out.old)
         × (out.new ≡ step_out_under (ceiling_of c) paper table.now state.now chosen out.old) }
 {
-    match admit(c, table, Wanted::Written) {
-        Admission::Admitted => transition::step(table, state, chosen, out),
-        Admission::Refused(r) => WriteAnswer::Refused(r),
-    }
+    admit(c, table, Wanted::Written)?;
+    transition::step(table, state, chosen, out)
 }
 
 // Decide on the numbers that the ceiling leaves; those behind them are kept.
-pub fn decide(c: Ceiling, table: &[u8], state: &[u8], layers: &mut [i64]) -> DecideAnswer
+pub fn decide(
+    c: Ceiling,
+    table: &[u8],
+    state: &[u8],
+    layers: &mut [i64],
+) -> Result<DecideAnswer, Refusal>
     ensures { (result ≡ decide_answer_under (ceiling_of c) paper table.now state.now layers.old)
         × (layers.new ≡ decide_memory_under (ceiling_of c) paper table.now state.now layers.old)
         × LayersWithin table.now (decide_layers result) }
 {
-    match admit(c, table, Wanted::Normal) {
-        Admission::Admitted => {
-            let n = ceiling::used(c, layers.len());
-            layers::decide(table, state, &mut layers[..n])
-        }
-        Admission::Refused(r) => DecideAnswer::Refused(r),
-    }
+    admit(c, table, Wanted::Normal)?;
+    let n = ceiling::used(c, layers.len());
+    layers::decide(table, state, &mut layers[..n])
 }
 
 pub fn plan(
@@ -120,19 +105,15 @@ pub fn plan(
     state: &[u8],
     layers: &mut [i64],
     out: &mut [u8],
-) -> PlanAnswer
+) -> Result<PlanAnswer, Refusal>
     ensures { (result ≡ plan_answer_under (ceiling_of c) paper table.now state.now layers.old out.old)
         × (layers.new ≡ plan_memory_under (ceiling_of c) paper table.now state.now layers.old)
         × (out.new ≡ plan_out_under (ceiling_of c) paper table.now state.now layers.old out.old)
         × LayersWithin table.now (plan_layers result) }
 {
-    match admit(c, table, Wanted::Normal) {
-        Admission::Admitted => {
-            let n = ceiling::used(c, layers.len());
-            relaxed_plan::plan(table, state, &mut layers[..n], out)
-        }
-        Admission::Refused(r) => PlanAnswer::Refused(r),
-    }
+    admit(c, table, Wanted::Normal)?;
+    let n = ceiling::used(c, layers.len());
+    relaxed_plan::plan(table, state, &mut layers[..n], out)
 }
 
 // Normalise, decide and plan in one call. Its promise is demand 3 (specs/Campaign.antt).
@@ -148,13 +129,13 @@ pub fn rig_campaign(
         normal.new layers.new out.new result.decision result.plan }
 {
     match admit(c, table, Wanted::Written) {
-        Admission::Admitted => {
+        Ok(()) => {
             let n = ceiling::used(c, layers.len());
             campaign::campaign(table, state, normal, &mut layers[..n], out)
         }
-        Admission::Refused(r) => Answers {
-            decision: DecideAnswer::Refused(r),
-            plan: PlanAnswer::Refused(r),
+        Err(r) => Answers {
+            decision: Err(r),
+            plan: Err(r),
         },
     }
 }

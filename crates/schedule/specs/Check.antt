@@ -1,6 +1,6 @@
 -- Checking a list of moves against a written table and a state (document 02, request 9): the answer and what the output holds afterwards.
 -- That a yes means what the request says is proved in `Theorems`. Assumes nothing.
-use Rattle.std.specs.Prelude.{ℕ, suc, true, false, List, [], ◌∷◌, ltb, length}
+use Rattle.std.specs.Prelude.{ℕ, suc, true, false, List, [], ◌∷◌, ltb, length, Result, Ok, Err}
 use Rattle.std.proofs.Math.Option.{Option, none, some}
 use Rattle.model.specs.declared.Refusal.{Refusal}
 use Rattle.model.specs.Limits.{Limits}
@@ -61,39 +61,39 @@ check_from L k i s (b ∷ bs) = check_move i (fault_of L k s b) (check_from L k 
 -- yes with the bytes of the end state, or another answer: "Only a yes writes the end state"
 pub data Reply : Type 0 where
   yes_with : List ℕ → Reply
-  other : CheckAnswer → Reply
+  other : Result CheckAnswer Refusal → Reply
 
 unfoldable pub reply_of : Task → Checked → Reply
 reply_of k (passes s) = yes_with (state_bytes k.props k.vars s)
-reply_of k (fails i f) = other (check.Fails i f)
-reply_of k unmet = other check.GoalNotMet
+reply_of k (fails i f) = other (Ok (check.Fails i f))
+reply_of k unmet = other (Ok check.GoalNotMet)
 
 unfoldable pub check_state : Limits → Task → List ℕ → List ℕ → Option Refusal → Reply
-check_state L k bs ms (some r) = other (check.Refused r)
+check_state L k bs ms (some r) = other (Err r)
 check_state L k bs ms none = reply_of k (check_from L k 0 (state_of k.props bs) ms)
 
 -- "a written table, a state and a list of move bytes"
 unfoldable pub check_table : Limits → Verdict → List ℕ → List ℕ → Reply
-check_table L (refused r) bs ms = other (check.Refused r)
+check_table L (refused r) bs ms = other (Err r)
 check_table L (accepted k) bs ms = check_state L k.task bs ms (state_refusal L k.task.props k.task.vars bs)
 
 -- "too short a buffer for it is 13, last"
 unfoldable pub fitted_reply : ℕ → Reply → Reply
-fitted_reply size (yes_with bs) = on_output (fitted size (writes bs)) yes_with (λ r. other (check.Refused r))
+fitted_reply size (yes_with bs) = on_output (fitted size (writes bs)) yes_with (λ r. other (Err r))
 fitted_reply size (other a) = other a
 
 unfoldable pub checking : Limits → List ℕ → List ℕ → List ℕ → ℕ → Reply
 checking L t bs ms size = fitted_reply size (check_table L (reading L (only written) t) bs ms)
 
-unfoldable pub reply_answer : Reply → CheckAnswer
-reply_answer (yes_with bs) = check.Yes (length bs)
+unfoldable pub reply_answer : Reply → Result CheckAnswer Refusal
+reply_answer (yes_with bs) = Ok (check.Yes (length bs))
 reply_answer (other a) = a
 
 unfoldable pub reply_out : Reply → List ℕ → List ℕ
 reply_out (yes_with bs) out = overwrite bs out
 reply_out (other a) out = out
 
-unfoldable pub check_answer : Limits → List ℕ → List ℕ → List ℕ → List ℕ → CheckAnswer
+unfoldable pub check_answer : Limits → List ℕ → List ℕ → List ℕ → List ℕ → Result CheckAnswer Refusal
 check_answer L t bs ms out = reply_answer (checking L t bs ms (length out))
 
 unfoldable pub check_out : Limits → List ℕ → List ℕ → List ℕ → List ℕ → List ℕ

@@ -5,8 +5,6 @@
 ghost use Rattle.std.specs.Prelude.{◌≡◌};
 ghost use Rattle.schedule.specs.Check.{fault_number};
 
-use model::Refusal;
-
 // Why a move of a list cannot be made: it is "missing, not allowed or out of range", step's 10, 11 and 12.
 #[derive(Clone, Copy)]
 pub enum Fault {
@@ -22,7 +20,6 @@ pub enum CheckAnswer {
     Yes { length: u64 },
     Fails { index: u64, fault: Fault },
     GoalNotMet,
-    Refused(Refusal),
 }
 
 // The number that step refuses such a move with.

@@ -1,6 +1,6 @@
 -- The answer of a state's check as an optional refusal; the search of the first wrong place; what is accepted.
 -- Assumes nothing.
-use Rattle.std.specs.Prelude.{ℕ, suc, ◌+◌, ◌-◌, ◌*◌, ◌≤◌, ◌<◌, ◌≡◌, Bool, true, false, List, leb, ℤ, pos, negsuc, nat_abs, length, get_or, ◌≤ℤ◌, ◌<ℤ◌}
+use Rattle.std.specs.Prelude.{ℕ, suc, ◌+◌, ◌*◌, ◌≤◌, ◌<◌, ◌≡◌, Bool, true, false, List, leb, ℤ, pos, negsuc, nat_abs, length, get_or, ◌≤ℤ◌, ◌<ℤ◌, Result, Ok, Err}
 use Rattle.std.proofs.Common.{arith, sym, ◌∙◌}
 use Rattle.std.proofs.Math.Path.{refl, ap}
 use Rattle.std.proofs.Math.Bool.{not}
@@ -8,8 +8,6 @@ use Rattle.std.proofs.Math.Option.{Option, none, some}
 use borrow.Author.Tests.{leb-true, le-leb, lt-leb, eq-eqb, ne_eqb}
 use Rattle.std.specs.Int.Signed.{le_z}
 use Rattle.integer.specs.Linear.{le_in, lt_in}
-use Rattle.state.specs.declared.StateCheck.{StateCheck}
-use Rattle.state.specs.declared.StateCheck.TheVariants.{Accepted, Refused}
 use Rattle.model.specs.declared.Refusal.{Refusal}
 use Rattle.model.specs.Limits.{paper}
 use Rattle.model.specs.Lists.{first_from}
@@ -18,16 +16,16 @@ use Rattle.model.proofs.Theorems.Laws.Booleans.{false_not}
 use Rattle.model.proofs.Theorems.Laws.Searching.{first_from_cases}
 use Rattle.model.specs.Theorems.Reading.States.{AcceptedState}
 
-unfoldable pub check_of : StateCheck → Option Refusal
-check_of Accepted = none
-check_of (Refused r) = some r
+unfoldable pub check_of : Result Unit Refusal → Option Refusal
+check_of (Ok _) = none
+check_of (Err r) = some r
 
 -- what a check's outcome says of the refusal that it equals
-pub check_accepted : {c : StateCheck} {o : Option Refusal} → check_of c ≡ o → c ≡ Accepted → o ≡ none
+pub check_accepted : {c : Result Unit Refusal} {o : Option Refusal} → check_of c ≡ o → c ≡ Ok tt → o ≡ none
 unfolding check_of
 check_accepted e a = sym e ∙ ap check_of a
 
-pub check_refused : {c : StateCheck} {o : Option Refusal} {r : Refusal} → check_of c ≡ o → c ≡ Refused r → o ≡ some r
+pub check_refused : {c : Result Unit Refusal} {o : Option Refusal} {r : Refusal} → check_of c ≡ o → c ≡ Err r → o ≡ some r
 unfolding check_of
 check_refused e a = sym e ∙ ap check_of a
 

@@ -1,12 +1,11 @@
 -- A layer as it stands in layer memory: its propositions and usable moves from the entries, its values, and the low values beside
 -- the state's. Assumes nothing.
-use Rattle.std.specs.Prelude.{ℕ, ◌+◌, ◌*◌, ◌≤◌, ◌<◌, ◌≡◌, refl, Bool, true, false, cond, ◌&&◌, List, ℤ, pos, nat_abs, ◌<ℤ◌, ◌≤ℤ◌, set}
+use Rattle.std.specs.Prelude.{ℕ, ◌+◌, ◌*◌, ◌≤◌, ◌<◌, ◌≡◌, refl, Bool, true, false, cond, ◌&&◌, List, ◌++◌, ℤ, pos, nat_abs, set}
 use native.Mathlib.Omega.{arith}
 use Rattle.std.proofs.Math.Path.{sym, ap}
-use Rattle.std.proofs.Common.{◌∙◌, subst, length-set, get_or-set_same, get_or-set_other}
+use Rattle.std.proofs.Common.{◌∙◌, subst, length-set, get_or-set_same, get_or-set_other, length-append, length-drop}
 use Rattle.std.specs.Int.Signed.{le_z}
-use Rattle.std.proofs.Math.ListN.{length, get_or}
-use Rattle.integer.specs.Linear.{le_le_z, lt_le_z}
+use Rattle.std.proofs.Math.ListN.{length, get_or, drop, get_or-append}
 use Rattle.model.specs.Limits.{paper, largest_value}
 use Rattle.model.specs.Task.{normal, Task}
 use Rattle.model.specs.Move.{State, move_at}
@@ -18,7 +17,7 @@ use Rattle.model.proofs.Theorems.Layers.Order.{usable_mono}
 use Rattle.model.specs.Theorems.Reading.WellFormed.{TaskOk}
 use Rattle.model.proofs.Theorems.Layers.NextLayer.{layer_mono, move_ok}
 use Rattle.model.proofs.Theorems.Layers.Entries.{entry_says}
-use Rattle.model.specs.Theorems.Layers.Memories.{Holds, size}
+use Rattle.model.specs.Theorems.Layers.Memories.{Holds}
 use Rattle.model.proofs.Theorems.Sizes.Bounds.{between_size}
 use Rattle.model.specs.Theorems.Sizes.States.{SmallState}
 use Rattle.model.specs.Theorems.Sizes.Layers.{SmallLayer, FiniteBetween}
@@ -46,6 +45,14 @@ module _ {A : Type 0} {d : A} {g : ℕ → A} {size : ℕ} where
             (λ q. subst (λ (m : ℕ). get_or (set l i x) m d ≡ g m) (sym q) (get_or-set_same l i x d (omega (arith, f.long)) ∙ e));
       }
 
+  -- a copy into the first n
+  pub filled_front : (l s : List A) {n : ℕ} → length l ≡ size → n ≤ size → length s ≡ n → ((i : ℕ) → i < n → get_or s i d ≡ g i) → Filled d g n size (s ++ drop n l)
+  filled_front l s {n} e h k f =
+      record {
+        long = omega (arith, length-append s (drop n l), length-drop n l);
+        done = λ i b. get_or-append s (drop n l) d i (omega arith) ∙ f i b;
+      }
+
   pub filled_end : {l : List A} {i n : ℕ} → i ≤ n → n ≤ i → Filled d g i size l → Filled d g n size l
   filled_end {l} {i} {n} h k f = let e : i ≡ n = omega arith in subst (λ (m : ℕ). Filled d g m size l) e f
 
@@ -57,14 +64,6 @@ held_by e t = le_z (pos 0) e && le_z e (pos t)
 
 unfoldable pub held_at : List ℤ → ℕ → ℕ → ℕ → Bool
 held_at mem from t i = held_by (get_or mem (from + i) (pos 0)) t
-
-pub held_never : (e : ℤ) (t : ℕ) → e <ℤ pos 0 → false ≡ held_by e t
-unfolding held_by
-held_never e t h = ap (λ (b : Bool). b && le_z e (pos t)) (sym (lt_le_z {a = pos 0} {b = e} h))
-
-pub held_since : (e : ℤ) (t : ℕ) → pos 0 ≤ℤ e → le_z e (pos t) ≡ held_by e t
-unfolding held_by
-held_since e t h = ap (λ (b : Bool). b && le_z e (pos t)) (sym (le_le_z {a = pos 0} {b = e} h))
 
 -- ---- rows
 

@@ -9,10 +9,7 @@ pub fn held(entry: i64, t: usize) -> bool
     requires { t < 2 ^ 63 }
     ensures { result ≡ held_by entry t }
 {
-    if entry < 0 {
-        return false;
-    }
-    integer::at_most(entry, t as i64)
+    0 <= entry && entry <= t as i64
 }
 
 // Of the `n` entries from `from` on, which layer `t` has.
@@ -20,11 +17,8 @@ pub fn read_entries(layers: &[i64], from: usize, n: usize, t: usize, flags: &mut
     requires { (from + n ≤ length layers.now) × (n ≤ 120) × (t < 2 ^ 63) × (length flags.old ≡ 120) }
     ensures { Filled false (held_at layers.now from t) n 120 flags.new }
 {
-    let mut i = 0;
-    while i < n {
-        let e = layers[from + i];
-        flags[i] = held(e, t);
-        i += 1;
+    for i in 0..n {
+        flags[i] = held(layers[from + i], t);
     }
 }
 
@@ -33,21 +27,17 @@ pub fn read_row(layers: &[i64], from: usize, n: usize, row: &mut [i64; 32])
     requires { (from + n ≤ length layers.now) × (n ≤ 32) × (length row.old ≡ 32) }
     ensures { Filled (pos 0) (number_at layers.now from) n 32 row.new }
 {
-    let mut i = 0;
-    while i < n {
-        let x = layers[from + i];
-        row[i] = x;
-        i += 1;
-    }
+    row[..n].copy_from_slice(&layers[from..from + n]);
 }
 
 fn low(value: i64, old: i64) -> i64
     ensures { result ≡ low_by value old }
 {
     if block::is_unbounded(value) {
-        return old;
+        old
+    } else {
+        value
     }
-    value
 }
 
 // "layer values for finite and state values for other unbounded ones".
@@ -55,11 +45,7 @@ pub fn low_row(row: &[i64], start: &[i64], n: usize, lows: &mut [i64; 32])
     requires { (n ≤ length row.now) × (n ≤ length start.now) × (n ≤ 32) × (length lows.old ≡ 32) }
     ensures { Filled (pos 0) (low_at row.now start.now) n 32 lows.new }
 {
-    let mut v = 0;
-    while v < n {
-        let x = row[v];
-        let y = start[v];
-        lows[v] = low(x, y);
-        v += 1;
+    for v in 0..n {
+        lows[v] = low(row[v], start[v]);
     }
 }

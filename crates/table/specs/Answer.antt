@@ -2,7 +2,7 @@
 -- Assumes nothing.
 use Prim.Native.Nat.{ℕ, zero, suc, ◌+◌, ◌-◌, ◌≤◌, ◌<◌}
 use native.Mathlib.Omega.{arith}
-use Rattle.std.specs.Prelude.{◌≡◌, Bool, true, replicate}
+use Rattle.std.specs.Prelude.{◌≡◌, Bool, true, replicate, Result, Ok, Err}
 use Rattle.std.proofs.Math.Path.{refl, sym, ap, subst}
 use Rattle.std.proofs.Common.{◌∙◌, lt-ltb, le-ltb, eq-eqb, ne_eqb}
 use Rattle.std.proofs.Math.Bool.{false}
@@ -12,22 +12,18 @@ use Rattle.std.proofs.Math.Dec.{leb-zero}
 use Rattle.std.proofs.Math.ListN.{length, get_or}
 use Rattle.std.proofs.lemmas.List.{length-replicate}
 use Rattle.model.specs.declared.Refusal.{Refusal}
-use Rattle.model.specs.declared.ReadAnswer.{ReadAnswer}
-use Rattle.model.specs.declared.ReadAnswer.TheVariants as read
+use Rattle.model.specs.declared.Head.{Head as ReadHead}
 use Rattle.model.specs.Limits.{paper}
 use Rattle.model.specs.Lists.{all, any, any_below}
 use Rattle.model.specs.Task.{written, kept, Item, Block}
-use Rattle.model.specs.Task as task
 use Rattle.model.specs.Circle.{item_edge, edge, circular}
 use Rattle.model.specs.Command.{Command, head, code_of, command_of, Place, start, preamble, in_move, in_goal, finished}
 use Rattle.model.specs.Seen.{Head, Seen, nothing_seen, closed, advance}
 use Rattle.model.specs.Reading.{Table, Verdict, accepted, refused, Wanted, opened, refusal, table_of, verdict_of, at_end, Step, more, done, step_with, read_command, continue, read_from, length_limit, reading}
 use Rattle.model.specs.Calls.{read_of}
 use Rattle.cursor.specs.declared.Cursor.{Cursor}
-use Rattle.command.specs.declared.Form.TheVariants as form
 use Rattle.command.specs.declared.Place as code
 use Rattle.command.specs.declared.Place.TheVariants.{Start, Preamble, InMove, InGoal, Finished}
-use Rattle.cursor.specs.declared.Check.TheVariants.{Passes, Refused}
 use Rattle.command.specs.Names.{form_of, place_of}
 use Rattle.cursor.specs.State.{start_cursor, Stage, Valid, cursor_refusal, check_of}
 use Rattle.cursor.proofs.State.{passes_none}
@@ -120,7 +116,7 @@ reach_start w t mk h e =
 -- ---- the answer
 
 -- what outline answers, and the marks it leaves
-pub record Outlined (t : List ℕ) (v : Verdict) (r : ReadAnswer) (m : List ℕ) : Type 0 where
+pub record Outlined (t : List ℕ) (v : Verdict) (r : Result ReadHead Refusal) (m : List ℕ) : Type 0 where
   pub answer : r ≡ read_of v
   pub marks : (k : Table) → v ≡ accepted k → (b : ℕ) → b ≤ k.header.moves + 1 → get_or m b 0 ≡ get_or k.marks b 0
   pub few : (k : Table) → v ≡ accepted k → k.header.moves ≤ 64
@@ -130,7 +126,7 @@ pub record Outlined (t : List ℕ) (v : Verdict) (r : ReadAnswer) (m : List ℕ)
 not_accepted : {X : Type 0} (r : Refusal) (k : Table) → refused r ≡ accepted k → X
 not_accepted r k e = let z : ◌≡◌ {A = ℕ} 0 1 = cc in absurd (omega arith)
 
-outlined_refused : (t : List ℕ) (v : Verdict) (r : Refusal) (m : List ℕ) → v ≡ refused r → Outlined t v (read.Refused r) m
+outlined_refused : (t : List ℕ) (v : Verdict) (r : Refusal) (m : List ℕ) → v ≡ refused r → Outlined t v (Err r) m
 outlined_refused t v r m e =
     rw e
     (record {
@@ -141,7 +137,7 @@ outlined_refused t v r m e =
       inside = λ k f. not_accepted r k f;
     })
 
-pub outlined_long : (w : Wanted) (t : List ℕ) (r : Refusal) (m : List ℕ) → length_limit paper w t < length t → r ≡ record { number = 1; place = 0 } → Outlined t (reading paper w t) (read.Refused r) m
+pub outlined_long : (w : Wanted) (t : List ℕ) (r : Refusal) (m : List ℕ) → length_limit paper w t < length t → r ≡ record { number = 1; place = 0 } → Outlined t (reading paper w t) (Err r) m
 unfolding reading
 outlined_long w t r m h e =
     outlined_refused t (reading paper w t) r m (rw (e, lt-ltb (length_limit paper w t) (length t) h, reading) refl)
@@ -162,7 +158,7 @@ module _ (w : Wanted) (t : List ℕ) (s : Seen) where
   unroll zero x h e = absurd (omega arith)
   unroll (suc n) x h e = let m : n ≡ suc n - 1 = omega arith in rw e (ap (λ (i : ℕ). continue (λ d. read_from paper w t i d) x) m)
 
-refused_some : (x : Option Refusal) (r : Refusal) → Refused r ≡ check_of x → x ≡ some r
+refused_some : (x : Option Refusal) (r : Refusal) → Err r ≡ check_of x → x ≡ some r
 unfolding check_of
 refused_some none r e = let z : ◌≡◌ {A = ℕ} 0 1 = cc in absurd (omega arith)
 refused_some (some q) r e = let z : q ≡ r = cc in ap some z
@@ -176,7 +172,7 @@ module _ {w : Wanted} {t : List ℕ} {c : Cursor} {nd ch af : List ℕ} {es : Li
       (k : Command) {c' : Cursor} {nd' ch' af' : List ℕ} {es' : List Bool} {mk' : List ℕ}
       → c.at < length t
       → k ≡ command_of (get_or t c.at 0)
-      → Passes ≡ check_of (cursor_refusal w t c nd ch af k)
+      → Ok tt ≡ check_of (cursor_refusal w t c nd ch af k)
       → Advanced t c k nd ch af es mk c' nd' ch' af' es' mk'
       → Reach w t c' nd' ch' af' es' mk'
   unfolding step_with continue
@@ -204,8 +200,8 @@ module _ {w : Wanted} {t : List ℕ} {c : Cursor} {nd ch af : List ℕ} {es : Li
       (k : Command) (r : Refusal)
       → c.at < length t
       → k ≡ command_of (get_or t c.at 0)
-      → Refused r ≡ check_of (cursor_refusal w t c nd ch af k)
-      → Outlined t (reading paper w t) (read.Refused r) mk
+      → Err r ≡ check_of (cursor_refusal w t c nd ch af k)
+      → Outlined t (reading paper w t) (Err r) mk
   unfolding step_with continue
   reach_refused k r inside e refuse =
       outlined_refused t (reading paper w t) r mk
@@ -226,21 +222,21 @@ module _ {w : Wanted} {t : List ℕ} {c : Cursor} {nd ch af : List ℕ} {es : Li
 
 -- ---- the end
 
-unfoldable pub accepted_answer : Bool → Cursor → ReadAnswer
-accepted_answer true c = read.Refused (record { number = 7; place = 0 })
-accepted_answer false c = read.Head (code_of (head (form_of c.form))) c.props c.vars c.moves
+unfoldable pub accepted_answer : Bool → Cursor → Result ReadHead Refusal
+accepted_answer true c = Err (record { number = 7; place = 0 })
+accepted_answer false c = Ok (record { kind = code_of (head (form_of c.form)); props = c.props; vars = c.vars; moves = c.moves })
 
-unfoldable pub end_answer : ℕ → code.Place → Cursor → List Bool → ReadAnswer
-end_answer n Start c es = read.Refused (record { number = 2; place = n })
-end_answer n Preamble c es = read.Refused (record { number = 2; place = n })
-end_answer n InMove c es = read.Refused (record { number = 2; place = n })
-end_answer n InGoal c es = read.Refused (record { number = 2; place = n })
+unfoldable pub end_answer : ℕ → code.Place → Cursor → List Bool → Result ReadHead Refusal
+end_answer n Start c es = Err (record { number = 2; place = n })
+end_answer n Preamble c es = Err (record { number = 2; place = n })
+end_answer n InMove c es = Err (record { number = 2; place = n })
+end_answer n InGoal c es = Err (record { number = 2; place = n })
 end_answer n Finished c es = accepted_answer (circular_in es c.vars) c
 
 module _ {t : List ℕ} {c : Cursor} {nd ch af : List ℕ} {es : List Bool} {mk : List ℕ} {s : Seen} (v : Valid t c) (h : Tracks t c nd ch af es mk s) (over : s.place ≡ finished) (stage : Stage Finished c.opened c.moves c.marked) where
   header_is : (b : Bool) → b ≡ false → accepted_answer b c ≡ read_of (accepted (table_of s))
   unfolding accepted_answer read_of table_of head_of
-  header_is b e = rw e (ap (λ (x : Head). read.Head (code_of (head x.form)) x.props x.vars x.moves) h.header)
+  header_is b e = rw e (ap (λ (x : Head). Ok (record { kind = code_of (head x.form); props = x.props; vars = x.vars; moves = x.moves })) h.header)
 
   vars_are : c.vars ≡ s.header.vars
   unfolding head_of
@@ -294,7 +290,7 @@ reach_end :
 unfolding end_answer
 reach_end {w} {t} {c} {nd} {ch} {af} {es} {mk} h past = go c.place h.tracks.place h.valid.stage
   where
-    early : (p : Place) → at_end t h.seen p ≡ refused (record { number = 2; place = length t }) → p ≡ h.seen.place → Outlined t (reading paper w t) (read.Refused (record { number = 2; place = length t })) mk
+    early : (p : Place) → at_end t h.seen p ≡ refused (record { number = 2; place = length t }) → p ≡ h.seen.place → Outlined t (reading paper w t) (Err (record { number = 2; place = length t })) mk
     early p e f = outlined_refused t (reading paper w t) (record { number = 2; place = length t }) mk (ended h past ∙ ap (at_end t h.seen) (sym f) ∙ e)
 
     go : (p : code.Place) → place_of p ≡ h.seen.place → Stage p c.opened c.moves c.marked → Outlined t (reading paper w t) (end_answer (length t) p c es) mk
@@ -335,7 +331,7 @@ pub reach_begin :
 reach_begin w t mk h e e1 e2 e3 e4 e5 = rw (e1, e2, e3, e4, e5) (reach_start w t mk h e)
 
 pub reach_finish :
-    {w : Wanted} {t : List ℕ} {c : Cursor} {nd ch af : List ℕ} {es : List Bool} {mk : List ℕ} {r : ReadAnswer} → Reach w t c nd ch af es mk
+    {w : Wanted} {t : List ℕ} {c : Cursor} {nd ch af : List ℕ} {es : List Bool} {mk : List ℕ} {r : Result ReadHead Refusal} → Reach w t c nd ch af es mk
     → length t ≤ c.at
     → r ≡ end_answer (length t) c.place c es
     → Outlined t (reading paper w t) r mk
@@ -351,14 +347,21 @@ pub record Accepted (v : Verdict) (kind props vars moves : ℕ) : Type 0 where
   pub vars_is : table.header.vars ≡ vars
   pub moves_is : table.header.moves ≡ moves
 
-pub answer_accepted :
-    (v : Verdict) (kind props vars moves : ℕ) → read_of v ≡ read.Head kind props vars moves → Accepted v kind props vars moves
+pub answer_accepted : (v : Verdict) (h : ReadHead) → read_of v ≡ Ok h → Accepted v h.kind h.props h.vars h.moves
 unfolding read_of
-answer_accepted (accepted k) kind props vars moves e =
-    record { table = k; is = refl; kind_is = cc; props_is = cc; vars_is = cc; moves_is = cc }
-answer_accepted (refused r) kind props vars moves e = let z : ◌≡◌ {A = ℕ} 0 1 = cc in absurd (omega arith)
+answer_accepted (accepted k) h e =
+    let same : record { kind = code_of (head k.header.form); props = k.header.props; vars = k.header.vars; moves = k.header.moves } ≡ h = cc in
+    record {
+      table = k;
+      is = refl;
+      kind_is = ap (λ (x : ReadHead). x.kind) same;
+      props_is = ap (λ (x : ReadHead). x.props) same;
+      vars_is = ap (λ (x : ReadHead). x.vars) same;
+      moves_is = ap (λ (x : ReadHead). x.moves) same;
+    }
+answer_accepted (refused r) h e = let z : ◌≡◌ {A = ℕ} 0 1 = cc in absurd (omega arith)
 
-pub answer_refused : (v : Verdict) (r : Refusal) → read_of v ≡ read.Refused r → v ≡ refused r
+pub answer_refused : (v : Verdict) (r : Refusal) → read_of v ≡ Err r → v ≡ refused r
 unfolding read_of
 answer_refused (accepted k) r e = let z : ◌≡◌ {A = ℕ} 0 1 = cc in absurd (omega arith)
 answer_refused (refused q) r e = let z : q ≡ r = cc in ap refused z

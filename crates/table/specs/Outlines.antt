@@ -1,12 +1,11 @@
 -- An accepted table with its head and the offsets of its blocks, each block's part being its print; or the refusal.
 -- Assumes nothing.
-use Rattle.std.specs.Prelude.{ℕ, zero, suc, ◌+◌, ◌-◌, ◌≤◌, ◌<◌, ◌≡◌, refl, List, [], ◌∷◌, ◌++◌, length, get_or, take, drop}
+use Rattle.std.specs.Prelude.{ℕ, zero, suc, ◌+◌, ◌-◌, ◌≤◌, ◌<◌, ◌≡◌, refl, List, [], ◌∷◌, ◌++◌, length, get_or, take, drop, Result, Ok, Err}
 use Rattle.std.proofs.Common.{add-one, arith, sym, ap, ap₂, ◌∙◌, subst, length-append}
 use Rattle.std.proofs.Math.Seq.{slice, take-nil, take-append_seam}
 use Rattle.integer.specs.BigEndian.{AllBytes}
 use Rattle.model.specs.declared.Refusal.{Refusal}
-use Rattle.model.specs.declared.ReadAnswer.{ReadAnswer}
-use Rattle.model.specs.declared.ReadAnswer.TheVariants as read
+use Rattle.model.specs.declared.Head.{Head}
 use Rattle.model.specs.Limits.{paper}
 use Rattle.model.specs.Task.{Form, Block, Task}
 use Rattle.model.specs.Command.{open_move, open_goal, code_of, items_bytes, moves_bytes, task_bytes}
@@ -113,26 +112,26 @@ pub record HeadRead (f : Form) (t marks : List ℕ) (props vars moves : ℕ) : T
   pub vars_is : vars ≡ table.task.vars
   pub count : moves ≡ length table.task.moves
 
-module _ (f : Form) {t marks : List ℕ} {r : ReadAnswer} (o : Outlined t (reading paper (only f) t) r marks) where
+module _ (f : Form) {t marks : List ℕ} {r : Result Head Refusal} (o : Outlined t (reading paper (only f) t) r marks) where
   pub head_read :
-      {kind props vars moves : ℕ}
-      → r ≡ read.Head kind props vars moves
+      {h : Head}
+      → r ≡ Ok h
       → AllBytes t
-      → HeadRead f t marks props vars moves
-  head_read {kind} {props} {vars} {moves} e all =
-      let a = answer_accepted (reading paper (only f) t) kind props vars moves (sym o.answer ∙ e) in
+      → HeadRead f t marks h.props h.vars h.moves
+  head_read {h} e all =
+      let a = answer_accepted (reading paper (only f) t) h (sym o.answer ∙ e) in
       let k = a.table in
-      let h = reading_head paper (only f) t a.is in
+      let sizes = reading_head paper (only f) t a.is in
       record {
         table = k;
         is = a.is;
         outline = outline_of (only f) f t marks k a.is (reading_form paper f t a.is) refl all (o.marks k a.is) (o.rising k a.is) (o.inside k a.is);
-        props_is = sym a.props_is ∙ h.0;
-        vars_is = sym a.vars_is ∙ h.1;
-        count = sym a.moves_is ∙ h.2;
+        props_is = sym a.props_is ∙ sizes.0;
+        vars_is = sym a.vars_is ∙ sizes.1;
+        count = sym a.moves_is ∙ sizes.2;
       }
 
-  pub head_refused : {q : Refusal} → r ≡ read.Refused q → reading paper (only f) t ≡ refused q
+  pub head_refused : {q : Refusal} → r ≡ Err q → reading paper (only f) t ≡ refused q
   head_refused {q} e = answer_refused (reading paper (only f) t) q (sym o.answer ∙ e)
 
 -- ---- a stored table, of either form
@@ -145,13 +144,13 @@ pub record StoredRead (t marks : List ℕ) (moves : ℕ) : Type 0 where
   pub count : moves ≡ length table.task.moves
 
 pub stored_read :
-    {t marks : List ℕ} {r : ReadAnswer} {kind props vars moves : ℕ}
+    {t marks : List ℕ} {r : Result Head Refusal} {h : Head}
     → Outlined t (reading paper stored t) r marks
-    → r ≡ read.Head kind props vars moves
+    → r ≡ Ok h
     → AllBytes t
-    → StoredRead t marks moves
-stored_read {t} {marks} {kind = kind} {props} {vars} {moves} o e all =
-    let a = answer_accepted (reading paper stored t) kind props vars moves (sym o.answer ∙ e) in
+    → StoredRead t marks h.moves
+stored_read {t} {marks} {h = h} o e all =
+    let a = answer_accepted (reading paper stored t) h (sym o.answer ∙ e) in
     let k = a.table in
     let f = k.header.form in
     let prints = reading_canonical paper stored t a.is all in

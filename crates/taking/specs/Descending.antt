@@ -11,11 +11,10 @@ use Rattle.model.specs.Move.{State}
 use Rattle.model.specs.Layer.{Value, Layer, reaches}
 use Rattle.model.specs.Memory.{encode}
 use Rattle.model.specs.Plan.{least, Wants, low, Descent, carried, carried_down, take_prop, take_target, take_value}
-use Rattle.model.specs.Theorems.Plans.Targets.{EachTarget}
 use Rattle.block.specs.Sums.{Row, LayerRow}
 use Rattle.targets.specs.declared.Targets.{Targets}
 use Rattle.targets.specs.Encoding.{code, target_limit, SmallTarget, Encodes, is_free, free_yes, free_no}
-use Rattle.achievers.specs.Search.{Searchable}
+use Rattle.achievers.specs.Search.{Searchable, Achievable}
 use Rattle.taking.specs.Taking.{EncodesTaken, Takeable, AdderTaken, AchieverTaken}
 
 -- what is carried, and no move counted
@@ -115,6 +114,9 @@ module _ {table marks : List ℕ} {used : List Bool} {row lows start : List ℤ}
 
   pub values_end : {n : ℕ} {t : Targets} {counts : List ℕ} → n ≤ vars → vars ≤ n → ValuesTaken x n t counts → ValuesTaken x vars t counts
   values_end {n} {t} {counts} h i d = let e : n ≡ vars = omega arith in subst (λ (m : ℕ). ValuesTaken x m t counts) e d
+
+  abbrev pub achievable : Achievable table marks used row moves
+  achievable = record { search = x.scene.search; values = x.scene.values }
 
   pub value_room : {v : ℕ} → v < vars → v < 32
   value_room h = omega (arith, x.taken.wants.few_vars, x.many)

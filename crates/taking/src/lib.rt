@@ -1,20 +1,23 @@
 // The moves taken in one layer for what is wanted above it, and their counts (document 01, "Plan").
 #![tactic(auto)]
 
-ghost use Rattle.std.specs.Prelude.{◌≡◌, ◌<◌, ◌≤◌, max, replicate, nat_abs};
-ghost use Rattle.integer.specs.Linear.{up};
+ghost use Rattle.std.specs.Prelude.{◌≡◌, ◌<◌, ◌≤◌, replicate, nat_abs};
 ghost use Rattle.model.specs.Limits.{largest_value};
 ghost use Rattle.targets.specs.Encoding.{target_limit};
 ghost use Rattle.taking.specs.Taking.{counted_at, Above0, IsStep, IsRuns};
 ghost use Rattle.taking.specs.Descending.{PropsTakeable, PropsTaken, ValuesTakeable, ValuesTaken};
 
-use achievers::{Achiever, Adder};
+use block::Terms;
+use reader::Blocks;
 use targets::Targets;
 
-fn larger_count(a: u64, b: u64) -> u64
-    ensures { result ≡ max a b }
-{
-    if a < b { b } else { a }
+// A stored layer as it is read back: its propositions and usable moves, its values, and the low values beside the state's.
+#[derive(Clone, Copy)]
+pub struct Below<'a> {
+    pub has: &'a [bool],
+    pub used: &'a [bool],
+    pub row: &'a [i64],
+    pub lows: &'a [i64],
 }
 
 // "A move taken twice in a layer keeps its larger count."
@@ -22,8 +25,7 @@ fn recount(counts: &mut [u64; 64], b: usize, n: u64)
     requires { b < 64 }
     ensures { counts.new ≡ counted_at counts.old b n }
 {
-    let old = counts[b];
-    counts[b] = larger_count(old, n);
+    counts[b] = counts[b].max(n);
 }
 
 // No move is taken.
@@ -44,15 +46,6 @@ fn step_size(value: i64) -> u64
     value as u64
 }
 
-fn at_least_zero(z: i64) -> u64
-    ensures { result ≡ up z }
-{
-    if z < 0 {
-        return 0;
-    }
-    z as u64
-}
-
 // "Count: 1; for += (T − state value of v)/d rounded up".
 fn runs(kind: u8, target: i64, old: i64, value: i64) -> u64
     requires { (nat_abs target ≤ target_limit) × (nat_abs old ≤ largest_value) × ((kind ≡ 0 → ⊥) → Above0 value) }
@@ -62,7 +55,7 @@ fn runs(kind: u8, target: i64, old: i64, value: i64) -> u64
         return 1;
     }
     let d = step_size(value);
-    at_least_zero(integer::ceil_div(integer::sub(target, old), d))
+    integer::ceil_div(target - old, d).max(0) as u64
 }
 
 // "For any other, try the moves": for each proposition wanted above that the layer lacks, the first move that adds it is counted once,
@@ -70,36 +63,27 @@ fn runs(kind: u8, target: i64, old: i64, value: i64) -> u64
 pub fn take_props(
     mut wants: Targets,
     wanted: &[bool; 120],
-    table: &[u8],
-    marks: &[usize],
-    has: &[bool],
-    used: &[bool],
-    row: &[i64],
-    lows: &[i64],
-    moves: usize,
-    props: usize,
+    blocks: &Blocks,
+    below: &Below,
     counts: &mut [u64; 64],
 ) -> Targets
-    requires { PropsTakeable table.now marks.now has.now used.now row.now lows.now moves props wanted.now wants }
-    ensures { (x : PropsTakeable table.now marks.now has.now used.now row.now lows.now moves props wanted.now wants)
-        → PropsTaken x props result counts.new }
+    requires { PropsTakeable blocks.now.table.now blocks.now.marks.now below.now.has.now below.now.used.now below.now.row.now below.now.lows.now blocks.now.moves blocks.now.props wanted.now wants }
+    ensures { (x : PropsTakeable blocks.now.table.now blocks.now.marks.now below.now.has.now below.now.used.now below.now.row.now below.now.lows.now blocks.now.moves blocks.now.props wanted.now wants)
+        → PropsTaken x blocks.now.props result counts.new }
 {
     *counts = no_counts();
-    let mut done = 0;
-    while done < props {
-        let p = done;
-        done += 1;
+    for p in 0..blocks.props {
         if !wanted[p] {
             continue;
         }
-        if has[p] {
+        if below.has[p] {
             continue;
         }
-        let Adder::Move(b) = achievers::find_adder(table, marks, used, moves, p) else {
+        let Some(b) = achievers::find_adder(blocks, below.used, p) else {
             continue;
         };
         recount(counts, b, 1);
-        wants = wants.want_block(reader::part(table, marks, b), row, lows);
+        wants = wants.want_block(blocks.part(b), below.row, below.lows);
     }
     wants
 }
@@ -109,49 +93,38 @@ pub fn take_props(
 pub fn take_values(
     mut wants: Targets,
     wanted: &[i64; 32],
-    table: &[u8],
-    marks: &[usize],
-    used: &[bool],
-    row: &[i64],
-    lows: &[i64],
+    blocks: &Blocks,
+    below: &Below,
     start: &[i64],
-    moves: usize,
-    vars: usize,
     counts: &mut [u64; 64],
 ) -> Targets
-    requires { ValuesTakeable table.now marks.now used.now row.now lows.now start.now moves vars wanted.now wants counts.old }
-    ensures { (x : ValuesTakeable table.now marks.now used.now row.now lows.now start.now moves vars wanted.now wants counts.old)
-        → ValuesTaken x vars result counts.new }
+    requires { ValuesTakeable blocks.now.table.now blocks.now.marks.now below.now.used.now below.now.row.now below.now.lows.now start.now blocks.now.moves blocks.now.vars wanted.now wants counts.old }
+    ensures { (x : ValuesTakeable blocks.now.table.now blocks.now.marks.now below.now.used.now below.now.row.now below.now.lows.now start.now blocks.now.moves blocks.now.vars wanted.now wants counts.old)
+        → ValuesTaken x blocks.now.vars result counts.new }
 {
-    let mut done = 0;
-    while done < vars {
-        let v = done;
-        done += 1;
+    for v in 0..blocks.vars {
         let target = wanted[v];
         if targets::is_free(target) {
             continue;
         }
-        let x = row[v];
+        let x = below.row[v];
         if block::reaches(x, target) {
             continue;
         }
         let old = start[v];
-        let Achiever::Effect {
-            index,
-            kind,
-            base,
-            from,
-            terms,
-            value,
-        } = achievers::find_achiever(table, marks, used, row, moves, v, target)
-        else {
+        let Some(a) = achievers::find_achiever(blocks, below.used, below.row, v, target) else {
             continue;
         };
-        recount(counts, index, runs(kind, target, old, value));
-        let part = reader::part(table, marks, index);
-        let c = integer::sub(achievers::demand(kind, target), base);
-        wants = wants.want_block(part, row, lows);
-        wants = wants.want_sum(part, from, terms, c, row, lows);
+        recount(counts, a.index, runs(a.kind, target, old, a.value));
+        let part = blocks.part(a.index);
+        let c = achievers::demand(a.kind, target) - a.base;
+        wants = wants.want_block(part, below.row, below.lows);
+        let terms = Terms {
+            part,
+            from: a.from,
+            count: a.terms,
+        };
+        wants = wants.want_sum(&terms, c, below.row, below.lows);
     }
     wants
 }

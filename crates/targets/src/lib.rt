@@ -11,10 +11,10 @@ ghost use Rattle.targets.specs.Blocks.{BlockWantable, BlockWanted};
 ghost use Rattle.targets.specs.Carrying.{Mapped, held_in, kept_by, kept_at, Carriable, Carried};
 ghost use Rattle.targets.specs.Encoding.{fresh, holding, is_free, raised_at, Added, Encodes};
 
-use block::ItemAt;
+use block::{ItemAt, Terms};
 
 // The least 64-bit number stands for "no target".
-const NO_TARGET: i64 = -9223372036854775808;
+const NO_TARGET: i64 = i64::MIN;
 
 // "keep wanted propositions and one target (the largest) a variable".
 #[derive(Clone, Copy)]
@@ -44,19 +44,11 @@ impl Targets {
     }
 
     // "To want "sum ≥ c" in layer t".
-    pub fn want_sum(
-        mut self,
-        part: &[u8],
-        from: usize,
-        n: usize,
-        c: i64,
-        row: &[i64],
-        lows: &[i64],
-    ) -> Self
-        requires { (Wantable part.now from n row.now lows.now self) × (nat_abs c ≤ sum_limit) }
-        ensures { (x : Wantable part.now from n row.now lows.now self) → Wanted x c result }
+    pub fn want_sum(mut self, terms: &Terms, c: i64, row: &[i64], lows: &[i64]) -> Self
+        requires { (Wantable terms.now.part.now terms.now.from terms.now.count row.now lows.now self) × (nat_abs c ≤ sum_limit) }
+        ensures { (x : Wantable terms.now.part.now terms.now.from terms.now.count row.now lows.now self) → Wanted x c result }
     {
-        raise_sum(&mut self.target, part, from, n, c, row, lows);
+        raise_sum(&mut self.target, terms, c, row, lows);
         self
     }
 
@@ -79,17 +71,17 @@ impl Targets {
         loop {
             let item = block::next(part, at);
             match item {
-                ItemAt::Need { prop, after: _ } => {
+                ItemAt::Need { prop, .. } => {
                     self = self.want_prop(prop);
                 }
                 ItemAt::Condition {
-                    comparison: _,
                     bound,
                     from,
-                    terms,
-                    after: _,
+                    terms: count,
+                    ..
                 } => {
-                    self = self.want_sum(part, from, terms, bound, row, lows);
+                    let terms = Terms { part, from, count };
+                    self = self.want_sum(&terms, bound, row, lows);
                 }
                 ItemAt::End => {
                     return self;
@@ -101,22 +93,13 @@ impl Targets {
     }
 }
 
-fn both(a: bool, b: bool) -> bool
-    ensures { result ≡ (a && b) }
-{
-    if a { b } else { false }
-}
-
 // Of the propositions that are wanted, those that the layer has.
 fn keep_props(wanted: &mut [bool; 120], has: &[bool], props: usize)
     requires { (props ≤ length has.now) × (props ≤ 120) × (length wanted.old ≡ 120) }
     ensures { Mapped false (held_in has.now) props wanted.old wanted.new }
 {
-    let mut p = 0;
-    while p < props {
-        let old = wanted[p];
-        wanted[p] = both(old, has[p]);
-        p += 1;
+    for p in 0..props {
+        wanted[p] = wanted[p] && has[p];
     }
 }
 
@@ -135,12 +118,10 @@ fn keep_targets(target: &mut [i64; 32], row: &[i64], vars: usize)
     requires { (vars ≤ length row.now) × (vars ≤ 32) × (length target.old ≡ 32) }
     ensures { (f : ℕ → Value) → LayerRow vars row.now f → Mapped (pos 0) (kept_at f) vars target.old target.new }
 {
-    let mut v = 0;
-    while v < vars {
+    for v in 0..vars {
         let old = target[v];
         let value = row[v];
         target[v] = kept_target(old, value);
-        v += 1;
     }
 }
 
@@ -152,20 +133,18 @@ fn raise_target(target: &mut [i64; 32], v: usize, z: i64)
     ensures { target.new ≡ raised_at target.old v z }
 {
     let old = target[v];
-    target[v] = integer::larger(old, z);
+    target[v] = old.max(z);
 }
 
-// "each finite variable's target is its layer value": of the `n` terms from `from` on.
-fn raise_finite(target: &mut [i64; 32], part: &[u8], from: usize, n: usize, row: &[i64])
-    requires { FinitelyIn part.now from n row.now target.old }
-    ensures { (ps : List Bool) (x : Finitely part.now from n row.now (holding ps target.old))
+// "each finite variable's target is its layer value": of the variables of these terms.
+fn raise_finite(target: &mut [i64; 32], terms: &Terms, row: &[i64])
+    requires { FinitelyIn terms.now.part.now terms.now.from terms.now.count row.now target.old }
+    ensures { (ps : List Bool) (x : Finitely terms.now.part.now terms.now.from terms.now.count row.now (holding ps target.old))
         → Encodes x.ranges.props x.ranges.vars (holding ps target.new) (want_finite x.over x.wants x.ts) }
 {
-    let mut i = 0;
-    while i < n {
-        let v = block::variable(part, from + 4 * i);
+    for i in 0..terms.count {
+        let v = block::variable(terms.part, terms.from + 4 * i);
         let x = row[v];
-        i += 1;
         if block::is_unbounded(x) {
             continue;
         }
@@ -173,53 +152,55 @@ fn raise_finite(target: &mut [i64; 32], part: &[u8], from: usize, n: usize, row:
     }
 }
 
-// The target of the lowest unbounded variable `v`, whose term stands at `at`, and those of the terms behind it.
+// The target of the lowest unbounded variable `v`, that of the first of these terms, and those of the terms behind it.
 fn raise_unbounded(
     target: &mut [i64; 32],
-    part: &[u8],
-    at: usize,
-    n: usize,
+    terms: &Terms,
     v: usize,
     c: i64,
     row: &[i64],
     lows: &[i64],
 )
-    requires { UnboundedIn part.now at n v c row.now lows.now target.old }
-    ensures { (ps : List Bool) (x : Wantable part.now at n row.now lows.now (holding ps target.old))
+    requires { UnboundedIn terms.now.part.now terms.now.from terms.now.count v c row.now lows.now target.old }
+    ensures { (ps : List Bool) (x : Wantable terms.now.part.now terms.now.from terms.now.count row.now lows.now (holding ps target.old))
         → Wanted x c (holding ps target.new) }
 {
-    raise_finite(target, part, at + 4, n - 1, row);
-    let rest = integer::sub(c, block::sum_real(part, at + 4, n - 1, lows));
-    raise_target(target, v, integer::ceil_div(rest, divisor(part, at)));
+    let others = Terms {
+        part: terms.part,
+        from: terms.from + 4,
+        count: terms.count - 1,
+    };
+    raise_finite(target, &others, row);
+    let rest = c - block::sum_real(&others, lows);
+    raise_target(
+        target,
+        v,
+        integer::ceil_div(rest, divisor(terms.part, terms.from)),
+    );
 }
 
-// The sum of the `n` terms from `from` on is wanted to be `c` or larger, over the layer's row and the row of low values.
-fn raise_sum(
-    target: &mut [i64; 32],
-    part: &[u8],
-    from: usize,
-    n: usize,
-    c: i64,
-    row: &[i64],
-    lows: &[i64],
-)
-    requires { (WantableIn part.now from n row.now lows.now target.old) × (nat_abs c ≤ sum_limit) }
-    ensures { (ps : List Bool) (x : Wantable part.now from n row.now lows.now (holding ps target.old))
+// The sum of these terms is wanted to be `c` or larger, over the layer's row and the row of low values.
+fn raise_sum(target: &mut [i64; 32], terms: &Terms, c: i64, row: &[i64], lows: &[i64])
+    requires { (WantableIn terms.now.part.now terms.now.from terms.now.count row.now lows.now target.old) × (nat_abs c ≤ sum_limit) }
+    ensures { (ps : List Bool) (x : Wantable terms.now.part.now terms.now.from terms.now.count row.now lows.now (holding ps target.old))
         → Wanted x c (holding ps target.new) }
 {
     let mut left = c;
-    let mut i = 0;
-    while i < n {
-        let at = from + 4 * i;
-        let v = block::variable(part, at);
+    for i in 0..terms.count {
+        let at = terms.from + 4 * i;
+        let v = block::variable(terms.part, at);
         let x = row[v];
         if block::is_unbounded(x) {
-            raise_unbounded(target, part, at, n - i, v, left, row, lows);
+            let rest = Terms {
+                part: terms.part,
+                from: at,
+                count: terms.count - i,
+            };
+            raise_unbounded(target, &rest, v, left, row, lows);
             return;
         }
-        left = integer::sub(left, block::scaled(part, at, x));
+        left -= block::scaled(terms.part, at, x);
         raise_target(target, v, x);
-        i += 1;
     }
 }
 
@@ -236,5 +217,5 @@ fn divisor(part: &[u8], at: usize) -> u64
 pub fn is_free(target: i64) -> bool
     ensures { result ≡ is_free target }
 {
-    integer::at_most(target, NO_TARGET)
+    target == NO_TARGET
 }

@@ -1,5 +1,5 @@
--- The moves of a list, one after the other: on the state that two pairs of arrays hold, and from the bytes of a state. Assumes nothing.
-use Rattle.std.specs.Prelude.{ℕ, ◌+◌, ◌≤◌, ◌<◌, ◌≡◌, Bool, List, [], ◌∷◌, ℤ, length, get_or, take}
+-- The moves of a list, one after the other: on a state that is held twice, and from the bytes of a state. Assumes nothing.
+use Rattle.std.specs.Prelude.{ℕ, ◌+◌, ◌≤◌, ◌<◌, ◌≡◌, Bool, List, [], ◌∷◌, ℤ, length, get_or, take, Result, Ok, Err}
 use Rattle.std.proofs.Common.{not-suc-le-zero, add-one, arith, ◌∙◌, take_all}
 use Rattle.std.proofs.Math.Path.{sym, ap, subst}
 use Rattle.std.proofs.Math.Option.{Option, none, some}
@@ -13,11 +13,9 @@ use Rattle.schedule.specs.Run.{state_after}
 use Rattle.schedule.specs.Check.{fault_of}
 use Rattle.schedule.specs.Theorems.Lists.{fault_at, Made, FirstFault}
 use Rattle.schedule.proofs.Theorems.Steps.{state_next}
-use Rattle.real_move.specs.declared.Turn.{Turn}
-use Rattle.real_move.specs.declared.Turn.TheVariants as turn
-use Rattle.transition.specs.declared.Walked.{Walked}
-use Rattle.transition.specs.declared.Walked.TheVariants as walked
-use Rattle.real_move.specs.Moving.{Holds, Twice, turn_fault}
+use Rattle.real_move.specs.declared.RealState.{RealState}
+use Rattle.transition.specs.declared.Stop.{Stop}
+use Rattle.real_move.specs.Moving.{Holds, Twice, Turn, turn_fault}
 use Rattle.transition.specs.Turns.{Read, Turnable, Turned}
 
 -- every move is made, and the arrays hold the state after them
@@ -25,9 +23,13 @@ pub record AllMade (props vars : ℕ) (k : Task) (s : State) (list : List ℕ) (
   pub made : Made paper k s list (length list)
   pub holds : Holds props vars has values (state_after k s list)
 
+-- what becomes of a list: every move of it is made, or the first that cannot be
+abbrev pub Walked : Type 0
+Walked = Result (Unit {0}) Stop
+
 abbrev pub WalkRight : ℕ → ℕ → Task → State → List ℕ → List Bool → List ℤ → Walked → Type 0
-WalkRight props vars k s list has values walked.Ended = AllMade props vars k s list has values
-WalkRight props vars k s list has values (walked.Stopped i f) = FirstFault paper k s list i f
+WalkRight props vars k s list has values (Ok done) = AllMade props vars k s list has values
+WalkRight props vars k s list has values (Err stop) = FirstFault paper k s list stop.index stop.fault
 
 -- in every reading of the table, and for every state that the arrays held
 module _ (t marks : List ℕ) (props vars moves : ℕ) (list : List ℕ) (had : List Bool) (values : List ℤ) (has : List Bool) (next : List ℤ) where
@@ -49,7 +51,7 @@ module _ (t marks : List ℕ) (props vars moves : ℕ) (list : List ℕ) (had : 
     making_turnable m = record { read = m.read; over = _; holds = w.holds m.read m.over m.holds }
 
     -- nothing is left
-    pub making_ended : length list ≤ i → MovesMade had' values' walked.Ended
+    pub making_ended : length list ≤ i → MovesMade had' values' (Ok tt)
     making_ended l =
         record {
           is = λ h s v.
@@ -67,7 +69,7 @@ module _ (t marks : List ℕ) (props vars moves : ℕ) (list : List ℕ) (had : 
         unfolding fault_at
         entry_fault h s v f = sym (q.is h _ (w.holds h s v)).fault ∙ f
 
-        pub making_made : r ≡ turn.Made → Making (i + 1) had'' values'' has'' next''
+        pub making_made : r ≡ Ok tt → Making (i + 1) had'' values'' has'' next''
         unfolding turn_fault
         making_made e =
             record {
@@ -78,22 +80,27 @@ module _ (t marks : List ℕ) (props vars moves : ℕ) (list : List ℕ) (had : 
                   ((q.is h _ (w.holds h s v)).after (ap turn_fault e));
             }
 
-        pub making_fails : {f : Fault} → r ≡ turn.Fails f → {had''' : List Bool} {values''' : List ℤ} → MovesMade had''' values''' (walked.Stopped i f)
+        pub making_fails : {f : Fault} → r ≡ Err f → {had''' : List Bool} {values''' : List ℤ} → MovesMade had''' values''' (Err (record { index = i; fault = f }))
         unfolding turn_fault
         making_fails e = record { is = λ h s v. record { inside = l; fault = entry_fault h s v (ap turn_fault e); before = w.made h s v } }
 
--- from the bytes of a state, in every reading of the table
+-- what becomes of a list from the bytes of a state: the state after it, or the first move that cannot be made
+abbrev pub EndRight : ℕ → ℕ → Task → State → List ℕ → Result RealState Stop → Type 0
+EndRight props vars k s list (Ok after) = AllMade props vars k s list after.has after.values
+EndRight props vars k s list (Err stop) = FirstFault paper k s list stop.index stop.fault
+
+-- in every reading of the table
 module _ (t marks : List ℕ) (props vars moves : ℕ) (bs list : List ℕ) where
-  pub record WalkedOut (has : List Bool) (values : List ℤ) (r : Walked) : Type 0 where
-    pub is : (h : Read t marks props vars moves) → WalkRight props vars h.table.task (state_of props bs) list has values r
+  pub record WalkedOut (r : Result RealState Stop) : Type 0 where
+    pub is : (h : Read t marks props vars moves) → EndRight props vars h.table.task (state_of props bs) list r
 
   -- what a walk to the end says, and one that stops
-  module _ {has : List Bool} {values : List ℤ} {r : Walked} (q : WalkedOut has values r) (h : Read t marks props vars moves) where
-    pub walked_ended : r ≡ walked.Ended → AllMade props vars h.table.task (state_of props bs) list has values
-    walked_ended e = subst (WalkRight props vars h.table.task (state_of props bs) list has values) e (q.is h)
+  module _ {r : Result RealState Stop} (q : WalkedOut r) (h : Read t marks props vars moves) where
+    pub walked_ended : {after : RealState} → r ≡ Ok after → AllMade props vars h.table.task (state_of props bs) list after.has after.values
+    walked_ended e = subst (EndRight props vars h.table.task (state_of props bs) list) e (q.is h)
 
-    pub walked_stopped : {i : ℕ} {f : Fault} → r ≡ walked.Stopped i f → FirstFault paper h.table.task (state_of props bs) list i f
-    walked_stopped e = subst (WalkRight props vars h.table.task (state_of props bs) list has values) e (q.is h)
+    pub walked_stopped : {stop : Stop} → r ≡ Err stop → FirstFault paper h.table.task (state_of props bs) list stop.index stop.fault
+    walked_stopped e = subst (EndRight props vars h.table.task (state_of props bs) list) e (q.is h)
 
 -- ---- a list of one move
 

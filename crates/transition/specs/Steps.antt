@@ -1,11 +1,9 @@
 -- The answer of a step, by its checks: the table's, the state's, and what keeps the move from being made. Assumes nothing.
-use Rattle.std.specs.Prelude.{ℕ, ◌≤◌, ◌<◌, ◌≡◌, Bool, false, List, [], ◌∷◌, ℤ, pos, length, get_or}
+use Rattle.std.specs.Prelude.{ℕ, ◌≤◌, ◌<◌, ◌≡◌, Bool, false, List, [], ◌∷◌, ℤ, pos, length, get_or, Result, Ok, Err, MatchResult, IsErrAnd}
 use Rattle.std.proofs.Common.{arith, ◌∙◌}
 use Rattle.std.proofs.Math.Path.{sym, ap, ap₂}
 use Rattle.std.proofs.Math.Option.{Option, none, some}
 use Rattle.model.specs.declared.Refusal.{Refusal}
-use Rattle.model.specs.declared.WriteAnswer.{WriteAnswer}
-use Rattle.model.specs.declared.WriteAnswer.TheVariants as write
 use Rattle.model.specs.Limits.{paper}
 use Rattle.model.specs.Task.{written}
 use Rattle.model.specs.Move.{State, real, move_at}
@@ -25,7 +23,10 @@ use Rattle.state.specs.Storing.{state_in}
 use Rattle.output.specs.Answers.{Answered}
 use Rattle.real_move.specs.Moving.{Holds}
 use Rattle.transition.specs.Turns.{Read, missing}
-use Rattle.transition.specs.Entries.{AllMade, one_made, one_holds}
+use Rattle.model.proofs.Theorems.Laws.Booleans.{clash}
+use Rattle.real_move.specs.declared.RealState.{RealState}
+use Rattle.transition.specs.declared.Stop.{Stop}
+use Rattle.transition.specs.Entries.{AllMade, WalkedOut, one_fault, one_made, one_holds}
 
 -- ---- loading
 
@@ -73,6 +74,18 @@ pub put_same :
 unfolding state_in
 put_same {props} {vars} {has} {values} {s} w = state_bytes_same props vars (state_in has values) s w.truths w.same
 
+-- the refusal of a move
+abbrev pub refusal_of : Fault → Refusal
+refusal_of f = record { number = fault_number f; place = 0 }
+
+-- what a walk answers, with the fault of a stop refused
+abbrev StopRefused : Result RealState Stop → Result RealState Refusal → Type 0
+StopRefused r m = MatchResult r (λ after. m ≡ Ok after) (λ stop. IsErrAnd m (λ q. q ≡ refusal_of stop.fault))
+
+pub not_stopped : (r : Result RealState Stop) {m : Result RealState Refusal} {after : RealState} → StopRefused r m → m ≡ Ok after → r ≡ Ok after
+not_stopped (Ok other) {m} {after} is e = let same : other ≡ after = cc in ap Ok same
+not_stopped (Err stop) is e = absurd (rw e at is)
+
 module _ {t marks : List ℕ} {props vars moves : ℕ} (h : Read t marks props vars moves) (bs : List ℕ) (b : ℕ) where
   -- what the call answers on an accepted table
   answer_is : step_of paper (reading paper (only written) t) bs b ≡ step_with_state paper h.table.task bs b (state_refusal paper props vars bs)
@@ -100,12 +113,21 @@ module _ {t marks : List ℕ} {props vars moves : ℕ} (h : Read t marks props v
         ∙ ap₂ (λ (p n : ℕ). step_output (fault_of paper k (state_of p bs) b) (state_bytes p n (real (move_at k b) (state_of p bs)))) (sym h.props_is) (sym h.vars_is)
         ∙ ap (λ (x : Option Fault). step_output x (state_bytes props vars (real (move_at k b) (state_of props bs)))) f
 
-    pub step_fails : {f : Fault} → fault_of paper h.table.task (state_of props bs) b ≡ some f → step_of paper (reading paper (only written) t) bs b ≡ turns (record { number = fault_number f; place = 0 })
+    pub step_fails : {f : Fault} → fault_of paper h.table.task (state_of props bs) b ≡ some f → step_of paper (reading paper (only written) t) bs b ≡ turns (refusal_of f)
     unfolding step_output
     step_fails f = by_fault f
 
-    pub step_missing : moves ≤ b → step_of paper (reading paper (only written) t) bs b ≡ turns (record { number = fault_number fault.Missing; place = 0 })
+    pub step_missing : moves ≤ b → step_of paper (reading paper (only written) t) bs b ≡ turns (refusal_of fault.Missing)
     step_missing l = step_fails (missing h (state_of props bs) l)
+
+    pub step_stopped :
+        (r : Result RealState Stop) {m : Result RealState Refusal} {q : Refusal}
+        → StopRefused r m
+        → m ≡ Err q
+        → WalkedOut t marks props vars moves bs (b ∷ []) r
+        → step_of paper (reading paper (only written) t) bs b ≡ turns q
+    step_stopped (Ok after) is s w = clash cc
+    step_stopped (Err stop) is s w = rw (rw s at is) (step_fails (one_fault (w.is h)))
 
     pub step_made : {has : List Bool} {values : List ℤ} → AllMade props vars h.table.task (state_of props bs) (b ∷ []) has values → writes (state_bytes props vars (state_in has values)) ≡ step_of paper (reading paper (only written) t) bs b
     unfolding step_output
@@ -113,12 +135,8 @@ module _ {t marks : List ℕ} {props vars moves : ℕ} (h : Read t marks props v
 
 -- ---- the call
 
--- the refusal of a move
-abbrev pub refusal_of : Fault → WriteAnswer
-refusal_of f = write.Refused (record { number = fault_number f; place = 0 })
-
 pub step_answered :
-    (t bs : List ℕ) (b : ℕ) {old new : List ℕ} {r : WriteAnswer}
+    (t bs : List ℕ) (b : ℕ) {old new : List ℕ} {r : Result ℕ Refusal}
     → Answered (step_of paper (reading paper (only written) t) bs b) old new r
     → (r ≡ step_answer paper t bs b old) × (new ≡ step_out paper t bs b old)
 unfolding step_answer step_out stepped

@@ -1,5 +1,5 @@
--- One move of an accepted table on the state that two arrays hold. Assumes nothing.
-use Rattle.std.specs.Prelude.{ℕ, ◌≤◌, ◌<◌, Bool, List, ℤ}
+-- One move of an accepted table on a state that is held twice. Assumes nothing.
+use Rattle.std.specs.Prelude.{ℕ, ◌≤◌, ◌<◌, Bool, List, ℤ, Err}
 use native.Mathlib.Omega.{arith}
 use Rattle.std.proofs.Math.Path.{◌≡◌, refl, sym, ap}
 use Rattle.std.proofs.Common.{◌∙◌}
@@ -15,9 +15,7 @@ use Rattle.schedule.specs.Check.{block_fault, fault_of}
 use Rattle.table.specs.Outlines.{part_at, HeadRead}
 use Rattle.reader.specs.Parts.{PartIn, outline_part}
 use Rattle.block.specs.Parts.{move_left}
-use Rattle.real_move.specs.declared.Turn.{Turn}
-use Rattle.real_move.specs.declared.Turn.TheVariants as turn
-use Rattle.real_move.specs.Moving.{Twice, Chosen, Movable, turn_fault, Became, Moved}
+use Rattle.real_move.specs.Moving.{Twice, Chosen, Movable, Turn, turn_fault, Became, Moved}
 
 -- an accepted written table, with the offsets of its blocks
 abbrev pub Read : List ℕ → List ℕ → ℕ → ℕ → ℕ → Type 0
@@ -71,7 +69,7 @@ module _ {t marks : List ℕ} {props vars moves : ℕ} (h : Read t marks props v
 
 module _ {t marks : List ℕ} {props vars moves b : ℕ} {had : List Bool} {values : List ℤ} {has : List Bool} {next : List ℤ} where
   -- "missing"
-  pub turned_missing : moves ≤ b → {had' : List Bool} {values' : List ℤ} {has' : List Bool} {next' : List ℤ} → Turned t marks props vars moves b had values has next had' values' has' next' (turn.Fails fault.Missing)
+  pub turned_missing : moves ≤ b → {had' : List Bool} {values' : List ℤ} {has' : List Bool} {next' : List ℤ} → Turned t marks props vars moves b had values has next had' values' has' next' (Err fault.Missing)
   unfolding turn_fault fault_of
   turned_missing l =
       record {

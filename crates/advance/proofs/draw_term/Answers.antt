@@ -1,21 +1,31 @@
 -- `draw_term` meets its contract: a term of weight 0 draws nothing. Assumes nothing.
-use Prim.Native.Nat.{ℕ, ◌+◌, ◌*◌, ◌<◌}
+use Prim.Native.Nat.{ℕ, ◌+◌, ◌*◌, ◌^◌, ◌<◌}
 use native.Mathlib.Omega.{arith}
 use mathlib.Core.Path.{◌≡◌, sym, ap, ◌∙◌}
 use mathlib.Core.Bool.{true}
-use borrow.Author.Rules.{rules}
+use mathlib.Core.List.{List}
 use lib.Dec.{eqb}
 use lib.IntN.{ℤ, nat_abs}
-use lib.ListN.{set}
-use Rattle.integer.specs.Linear.{back}
+use lib.ListN.{set, take, drop}
+use lib.Signed.{mag}
+use mir.Syntax.{w64}
+use mir.Val.{of_z}
+use Rattle.std.proofs.lemmas.Bool.{eq-eqb, ne_eqb}
+use Rattle.integer.specs.BigEndian.{signed}
+use Rattle.integer.proofs.Operators.{zero_test}
 use Rattle.advance.specs.Edges.{weightless, draw_weightless, draw_weight}
 use Rattle.advance.proofs.draw_term.Goals as goal
 
-pub returns-then-is_zero : goal.returns-then-is_zero
+-- the test on the signed local is the test on the weight's bytes
+weight_test :
+    (t : List ℕ) (at : ℕ) (w : ℤ) → mag w < 2 ^ 63 → w ≡ signed (take 2 (drop (at + 2) t)) → weightless t at ≡ eqb (of_z w64 w) 0
 unfolding weightless
-returns-then-is_zero c =
-    let is-weightless : weightless c.args.table.now c.args.at ≡ c.is_zero.result = sym (c.is_zero.ensures ∙ ap (λ (z : ℤ). eqb (nat_abs z) 0) (back _ c.i16_at.type_inv ∙ c.i16_at.ensures.0)) in
-    draw_weightless _ _ _ _ (is-weightless ∙ c.if-is_zero.true)
+weight_test t at w h e = ap (λ (z : ℤ). eqb (nat_abs z) 0) (sym e) ∙ sym (zero_test w h)
+
+pub returns-then-i16_at-eq0 : goal.returns-then-i16_at-eq0
+returns-then-i16_at-eq0 c =
+    let a = c.args in
+    draw_weightless _ _ _ _ (weight_test a.table.now a.at c.i16_at.result c.i16_at.type_inv c.i16_at.ensures.0 ∙ eq-eqb _ _ c.if-i16_at-eq0.true)
 
 pub overflow_mul-edges : goal.overflow_mul-edges
 overflow_mul-edges c =
@@ -33,8 +43,8 @@ bounds-edges-source c =
     omega (arith, source)
 
 pub returns : goal.returns
-unfolding weightless
 returns c =
-    let is-weightless : weightless c.args.table.now c.args.at ≡ c.is_zero.result = sym (c.is_zero.ensures ∙ ap (λ (z : ℤ). eqb (nat_abs z) 0) (back _ c.i16_at.type_inv ∙ c.i16_at.ensures.0)) in
-    ap (λ (x : ℕ). set c.args.edges.now (x * 32 + c.args.var) true) c.byte-source.ensures.0
-    ∙ draw_weight c.args.table.now c.args.at c.args.var c.args.edges.now (is-weightless ∙ c.if-is_zero.false)
+    let a = c.args in
+    ap (λ (x : ℕ). set a.edges.now (x * 32 + a.var) true) c.byte-source.ensures.0
+    ∙ draw_weight a.table.now a.at a.var a.edges.now
+    (weight_test a.table.now a.at c.i16_at.result c.i16_at.type_inv c.i16_at.ensures.0 ∙ ne_eqb _ _ c.if-i16_at-eq0.false)

@@ -1,7 +1,6 @@
 -- `with_item` meets its contract.
 -- Assumes nothing.
 use mathlib.Core.Path.{refl}
-use borrow.Author.Rules.{rules}
 use Rattle.cursor.specs.State.{item_cursor}
 use Rattle.advance.proofs.with_item.Goals as goal
 

@@ -1,7 +1,6 @@
 -- `with_mark` meets its contract.
 -- Assumes nothing.
 use mathlib.Core.Path.{refl}
-use borrow.Author.Rules.{rules}
 use Rattle.cursor.specs.State.{mark_cursor}
 use Rattle.advance.proofs.with_mark.Goals as goal
 

@@ -1,7 +1,6 @@
 -- `with_term` meets its contract.
 -- Assumes nothing.
 use mathlib.Core.Path.{refl}
-use borrow.Author.Rules.{rules}
 use Rattle.model.specs.Command.{width}
 use Rattle.cursor.specs.State.{term_cursor}
 use Rattle.advance.proofs.with_term.Goals as goal

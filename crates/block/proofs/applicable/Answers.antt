@@ -1,9 +1,8 @@
 -- `applicable` meets its contract. The invariant: the items that are left decide. The measure is what is left of the part.
 -- Assumes nothing.
-use Prim.Native.Nat.{◌+◌, ◌-◌, ◌*◌, ◌≤◌, ◌<◌}
+use Prim.Native.Nat.{◌+◌, ◌*◌, ◌≤◌, ◌<◌}
 use native.Mathlib.Omega.{arith}
 use mathlib.Core.Path.{◌≡◌, refl, sym}
-use borrow.Author.Rules.{rules}
 use lib.ListN.{length, get_or}
 use mir.Syntax.{w64}
 use mir.Val.{to_z, of_z}
@@ -11,7 +10,7 @@ use Rattle.integer.specs.Linear.{back_small}
 use Rattle.model.specs.Lists.{all}
 use Rattle.model.specs.Move.{applicable}
 use Rattle.block.specs.Items.{Next, next_ahead}
-use Rattle.block.specs.Blocks.{Walk, walk_start, walk_next, walk_stop, walk_done}
+use Rattle.block.specs.Blocks.{walk_start, walk_next, walk_stop, walk_done}
 use Rattle.block.specs.Streams.{Addable, width_by, item_by, sum_item, sum_behind, Over, Asked, Judged, Verdict, judged_room}
 use Rattle.block.proofs.applicable.Goals as goal
 
@@ -64,8 +63,8 @@ overflow_add-from c =
     record { values = c.args.values.now; addable = left_here; sum = c.sum_at-sum.ensures; over = p.over; row = p.row } in
     omega (arith, judged_room (judged))
 
-pub overflow_mul-n : goal.overflow_mul-n
-overflow_mul-n c =
+pub overflow_mul-count : goal.overflow_mul-count
+overflow_mul-count c =
     let left_here : Addable c.args.part.now c.loop-from.from c.args.values.now = let p = c.requires in
     let r = c.loop-from.invariant.reading p.ranges p.block p.over p.left p.row in
     record { inside = c.loop-from-test.true; ranges = p.ranges; rest = r.rest; left = r.left; val = p.over.val; row = p.row.row } in

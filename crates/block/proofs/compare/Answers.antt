@@ -6,11 +6,12 @@ use lib.Signed.{le_z, lt_z}
 use mir.Syntax.{w64}
 use mir.Val.{to_z, of_z}
 use Rattle.integer.specs.Linear.{back}
+use Rattle.integer.proofs.Operators.{equal_test}
 use Rattle.model.specs.Task.{Comparison, written}
 use Rattle.model.specs.Command.{comparison_code}
 use Rattle.model.proofs.Theorems.Reading.Ranges.{one_of_five}
 use Rattle.model.proofs.Theorems.Printing.Operands.{comparison_range}
-use Rattle.block.specs.Sums.{compares_by, compares_code, both_first, both_second}
+use Rattle.block.specs.Sums.{compares_by, compares_code}
 use Rattle.block.proofs.compare.Goals as goal
 
 small : (o : Comparison) → comparison_code o ≤ 4
@@ -21,43 +22,31 @@ unfolding compares_by
 returns-in-0 c o e =
     let bound : to_z w64 (of_z w64 c.args.c) ≡ c.args.c = back c.args.c c.ranges.c.sfits in
     let total : to_z w64 (of_z w64 c.args.total) ≡ c.args.total = back c.args.total c.ranges.total.sfits in
-    c.at_most.ensures ∙ ap₂ le_z (bound) (total) ∙ compares_code o 0 c.args.total c.args.c (e ∙ c.in-0.is)
+    ap₂ le_z (bound) (total) ∙ compares_code o 0 c.args.total c.args.c (e ∙ c.in-0.is)
 
 pub returns-in-1 : goal.returns-in-1
 unfolding compares_by
 returns-in-1 c o e =
     let bound : to_z w64 (of_z w64 c.args.c) ≡ c.args.c = back c.args.c c.ranges.c.sfits in
     let total : to_z w64 (of_z w64 c.args.total) ≡ c.args.total = back c.args.total c.ranges.total.sfits in
-    c.less.ensures ∙ ap₂ lt_z (bound) (total) ∙ compares_code o 1 c.args.total c.args.c (e ∙ c.in-1.is)
+    ap₂ lt_z (bound) (total) ∙ compares_code o 1 c.args.total c.args.c (e ∙ c.in-1.is)
 
 pub returns-in-2 : goal.returns-in-2
 unfolding compares_by
 returns-in-2 c o e =
     let total : to_z w64 (of_z w64 c.args.total) ≡ c.args.total = back c.args.total c.ranges.total.sfits in
     let bound : to_z w64 (of_z w64 c.args.c) ≡ c.args.c = back c.args.c c.ranges.c.sfits in
-    c.at_most-in-2.ensures ∙ ap₂ le_z (total) (bound) ∙ compares_code o 2 c.args.total c.args.c (e ∙ c.in-2.is)
+    ap₂ le_z (total) (bound) ∙ compares_code o 2 c.args.total c.args.c (e ∙ c.in-2.is)
 
 pub returns-in-3 : goal.returns-in-3
 unfolding compares_by
 returns-in-3 c o e =
     let total : to_z w64 (of_z w64 c.args.total) ≡ c.args.total = back c.args.total c.ranges.total.sfits in
     let bound : to_z w64 (of_z w64 c.args.c) ≡ c.args.c = back c.args.c c.ranges.c.sfits in
-    c.less-in-3.ensures ∙ ap₂ lt_z (total) (bound) ∙ compares_code o 3 c.args.total c.args.c (e ∙ c.in-3.is)
+    ap₂ lt_z (total) (bound) ∙ compares_code o 3 c.args.total c.args.c (e ∙ c.in-3.is)
 
-pub returns-then-at_most : goal.returns-then-at_most
+pub returns-in_default : goal.returns-in_default
 unfolding compares_by
-returns-then-at_most c o e =
-    let bound : to_z w64 (of_z w64 c.args.c) ≡ c.args.c = back c.args.c c.ranges.c.sfits in
-    let total : to_z w64 (of_z w64 c.args.total) ≡ c.args.total = back c.args.total c.ranges.total.sfits in
+returns-in_default c o e =
     let four : comparison_code o ≡ 4 = omega (arith, small o) in
-    both_second (c.at_most-in_default.ensures ∙ ap₂ le_z (bound) (total)) c.if-at_most.true (c.at_most-then-at_most.ensures ∙ ap₂ le_z (total) (bound))
-    ∙ compares_code o 4 c.args.total c.args.c four
-
-pub returns-else-at_most : goal.returns-else-at_most
-unfolding compares_by
-returns-else-at_most c o e =
-    let bound : to_z w64 (of_z w64 c.args.c) ≡ c.args.c = back c.args.c c.ranges.c.sfits in
-    let total : to_z w64 (of_z w64 c.args.total) ≡ c.args.total = back c.args.total c.ranges.total.sfits in
-    let four : comparison_code o ≡ 4 = omega (arith, small o) in
-    both_first (le_z c.args.total c.args.c) (c.at_most-in_default.ensures ∙ ap₂ le_z (bound) (total)) c.if-at_most.false
-    ∙ compares_code o 4 c.args.total c.args.c four
+    equal_test c.args.total c.args.c c.ranges.total.sfits c.ranges.c.sfits ∙ compares_code o 4 c.args.total c.args.c four

@@ -1,10 +1,7 @@
 -- `fails` meets its contract: a proposition that is false, a sum that does not compare so, or no condition. Assumes nothing.
 use native.Mathlib.Omega.{arith}
-use Prim.Native.Nat.{ℕ}
 use mathlib.Core.Path.{◌≡◌, refl, ap, ◌∙◌}
 use mathlib.Core.Bool.{Bool, true, false, not}
-use borrow.Author.Rules.{rules}
-use lib.ListN.{get_or}
 use Rattle.integer.specs.Linear.{back}
 use Rattle.model.specs.Move.{compares}
 use Rattle.block.specs.Streams.{judged_room, need_within, need_room, condition_within, judge_need, judge_condition, judge_other}
@@ -19,14 +16,14 @@ overflow_add-at c = omega (arith, judged_room c.requires)
 pub bounds-part-at : goal.bounds-part-at
 bounds-part-at c = judged_room c.requires
 
-pub overflow_add-at-in-80 : goal.overflow_add-at-in-80
-overflow_add-at-in-80 c = omega (arith, need_within c.requires c.in-80.is)
+pub overflow_add-result : goal.overflow_add-result
+overflow_add-result c = omega (arith, need_within c.requires c.in-80.is)
 
 pub bounds-part-at-in-80 : goal.bounds-part-at-in-80
 bounds-part-at-in-80 c = omega (arith, need_within c.requires c.in-80.is)
 
-pub bounds-has-index : goal.bounds-has-index
-bounds-has-index c = rw c.index.ensures (need_room c.requires c.in-80.is)
+pub bounds-has-part : goal.bounds-has-part
+bounds-has-part c = need_room c.requires c.in-80.is
 
 pub overflow_add-at-in-67 : goal.overflow_add-at-in-67
 overflow_add-at-in-67 c = omega (arith, condition_within c.requires c.in-67.is)
@@ -45,7 +42,7 @@ twice true = refl
 twice false = refl
 
 pub returns-in-80 : goal.returns-in-80
-returns-in-80 c = judge_need c.in-80.is (twice _ ∙ ap (λ (p : ℕ). get_or c.args.has.now p false) c.index.ensures)
+returns-in-80 c = judge_need c.in-80.is (twice _)
 
 pub returns-in-67 : goal.returns-in-67
 returns-in-67 c =

@@ -1,12 +1,8 @@
 -- `sum_at` meets its contract. The invariant: in every reading, `n` terms are passed and added up. The measure is what is left of the part.
 -- Assumes nothing.
 use Prim.Native.Nat.{◌+◌, ◌*◌, ◌-◌}
-use native.Mathlib.Omega.{arith}
 use lib.ListN.{length}
-use mir.Syntax.{w64}
-use mir.Val.{to_z}
-use Rattle.integer.specs.Linear.{back}
-use Rattle.block.specs.Streams.{Summing, summing_start, summing_term, summing_room, summing_value, summing_more, summing_end}
+use Rattle.block.specs.Streams.{Summing}
 use Rattle.block.proofs.sum_at.Given as goal
 
 abbrev pub invariant-loop-n : goal.invariant-loop-n

@@ -1,66 +1,65 @@
 -- `sum_real` meets its contract. The invariant: in every reading, the first `i` terms are added up, each at most 10 ^ 15 in size.
--- The measure is the number of terms that are left. Assumes nothing.
-use Prim.Native.Nat.{ℕ, ◌+◌, ◌*◌, ◌-◌, ◌≤◌}
+-- Assumes nothing.
+use Prim.Native.Nat.{◌+◌, ◌*◌, ◌≤◌}
 use native.Mathlib.Omega.{arith}
-use mathlib.Core.Path.{◌≡◌}
-use mathlib.Core.List.{List}
-use lib.IntN.{ℤ, nat_abs, ◌+ℤ◌}
+use lib.IntN.{nat_abs, ◌+ℤ◌}
 use mir.Syntax.{w64}
 use mir.Val.{to_z}
-use Rattle.integer.specs.Linear.{back}
-use Rattle.model.specs.Task.{Term}
-use Rattle.block.specs.Items.{Ranges, Terms}
-use Rattle.block.specs.Sums.{Row, Adding, few_terms, adding_start, adding_term, adding_room, adding_small, adding_step, adding_end}
+use Rattle.integer.specs.Linear.{back, back_small, small_fits, abs_sum}
+use Rattle.block.specs.Sums.{Adding, few_terms, adding_start, adding_term, adding_room, adding_small, adding_step, adding_end}
 use Rattle.block.proofs.sum_real.Goals as goal
+use Rattle.block.proofs.sum_real.Goals.{In-loop-i}
 
 pub loop-i-init : goal.loop-i-init
-loop-i-init c = (omega arith, few_terms c.requires.terms, omega arith, λ k ts f h r. adding_start f h)
+loop-i-init c = (few_terms c.requires.terms, omega arith, λ k ts f h r. adding_start f h)
+
+-- the reading that the caller has
+own : (c : In-loop-i) → Adding c.requires.ranges c.args.terms.now.part.now c.args.terms.now.from c.args.terms.now.count c.requires.val c.requires.ts c.loop-i.i (to_z w64 c.loop-i.total-bits)
+own c = let p = c.requires in c.loop-i.invariant.2 p.ranges p.ts p.val p.terms p.row
 
 pub overflow_add-at : goal.overflow_add-at
 overflow_add-at c =
-    let own : Adding c.requires.ranges c.args.part.now c.args.from c.args.n c.requires.val c.requires.ts c.loop-i.i (to_z w64 c.loop-i.total-bits) = let p = c.requires in c.loop-i.invariant.3 p.ranges p.ts p.val p.terms p.row in
-    omega (arith, (own).terms.bytes.within)
+    omega (arith, (own (goal.at.overflow_add-at c).In-loop-i).terms.bytes.within)
 
 pub variable-v-requires : goal.variable-v-requires
 variable-v-requires c =
-    let own : Adding c.requires.ranges c.args.part.now c.args.from c.args.n c.requires.val c.requires.ts c.loop-i.i (to_z w64 c.loop-i.total-bits) = let p = c.requires in c.loop-i.invariant.3 p.ranges p.ts p.val p.terms p.row in
-    adding_term c.loop-i-test.true (own)
+    adding_term c.loop-i-test.true (own (goal.at.variable-v-requires c).In-loop-i)
 
 pub bounds-values-v : goal.bounds-values-v
 bounds-values-v c =
-    let own : Adding c.requires.ranges c.args.part.now c.args.from c.args.n c.requires.val c.requires.ts c.loop-i.i (to_z w64 c.loop-i.total-bits) = let p = c.requires in c.loop-i.invariant.3 p.ranges p.ts p.val p.terms p.row in
-    adding_room c.loop-i-test.true (own) c.requires.row c.variable-v.ensures
+    adding_room c.loop-i-test.true (own (goal.at.bounds-values-v c).In-loop-i) c.requires.row c.variable-v.ensures
 
 pub offset_bounds-values-v : goal.offset_bounds-values-v
 offset_bounds-values-v c = omega (arith, bounds-values-v c)
 
-pub scaled-requires : goal.scaled-requires
-scaled-requires c =
-    let own : Adding c.requires.ranges c.args.part.now c.args.from c.args.n c.requires.val c.requires.ts c.loop-i.i (to_z w64 c.loop-i.total-bits) = let p = c.requires in c.loop-i.invariant.3 p.ranges p.ts p.val p.terms p.row in
+pub scaled-total-requires : goal.scaled-total-requires
+scaled-total-requires c =
     rw (back _ c.x-1.given) (
-      adding_term c.loop-i-test.true (own),
-      adding_small c.loop-i-test.true (own) c.requires.row c.variable-v.ensures,
+      adding_term c.loop-i-test.true (own (goal.at.scaled-total-requires c).In-loop-i),
+      adding_small c.loop-i-test.true (own (goal.at.scaled-total-requires c).In-loop-i) c.requires.row c.variable-v.ensures,
     )
 
-pub add-total-requires : goal.add-total-requires
-add-total-requires c = rw (back c.scaled.result c.scaled.type_inv) (omega (arith, c.scaled.ensures.small))
+pub overflow_add-total : goal.overflow_add-total
+overflow_add-total c =
+    let t = to_z w64 c.loop-i.total-bits in
+    let s = c.scaled-total.result in
+    rw (back s c.scaled-total.type_inv) (small_fits (t +ℤ s) (omega (arith, abs_sum t s, c.scaled-total.ensures.small)))
 
 pub loop-i-preserved : goal.loop-i-preserved
 loop-i-preserved c =
-    let told : (c.add-total.result ≡ to_z w64 c.loop-i.total-bits +ℤ c.scaled.result) × (nat_abs c.add-total.result ≤ nat_abs (to_z w64 c.loop-i.total-bits) + nat_abs c.scaled.result) =
-    rw (back c.scaled.result c.scaled.type_inv) at c.add-total.ensures in
-    let more = rw (back _ c.x-1.given) at c.scaled.ensures in (
+    let t = to_z w64 c.loop-i.total-bits in
+    let s = c.scaled-total.result in
+    let size : nat_abs (t +ℤ s) ≤ (c.loop-i.i + 1) * 1000000000000000 = omega (arith, abs_sum t s, c.scaled-total.ensures.small) in
+    let more = rw (back _ c.x-1.given) at c.scaled-total.ensures in
+    rw (back s c.scaled-total.type_inv, back_small (t +ℤ s) (omega (arith, size))) (
       omega arith,
-      omega arith,
-      rw (back c.add-total.result c.add-total.type_inv) (omega (arith, told.1, c.scaled.ensures.small)),
-      λ k ts f h r.
-          rw (back c.add-total.result c.add-total.type_inv, told.0)
-          (adding_step c.loop-i-test.true (c.loop-i.invariant.3 k ts f h r) r c.variable-v.ensures more),
+      size,
+      λ k ts f h r. adding_step c.loop-i-test.true (c.loop-i.invariant.2 k ts f h r) r c.variable-v.ensures more,
     )
 
 pub returns : goal.returns
 returns c =
     record {
-      is = λ k ts f h r. adding_end c.loop-i-test.false (c.loop-i.invariant.3 k ts f h r);
+      is = λ k ts f h r. adding_end c.loop-i-test.false (c.loop-i.invariant.2 k ts f h r);
       small = omega arith;
     }

@@ -1,23 +1,14 @@
 -- `sum_real` meets its contract. The invariant: in every reading, the first `i` terms are added up, each at most 10 ^ 15 in size.
--- The measure is the number of terms that are left. Assumes nothing.
-use Prim.Native.Nat.{ℕ, ◌+◌, ◌*◌, ◌-◌, ◌≤◌}
-use native.Mathlib.Omega.{arith}
-use mathlib.Core.Path.{◌≡◌}
+-- Assumes nothing.
+use Prim.Native.Nat.{ℕ, ◌*◌, ◌≤◌}
 use mathlib.Core.List.{List}
-use lib.IntN.{ℤ, nat_abs, ◌+ℤ◌}
-use mir.Syntax.{w64}
-use mir.Val.{to_z}
-use Rattle.integer.specs.Linear.{back}
+use lib.IntN.{ℤ, nat_abs}
 use Rattle.model.specs.Task.{Term}
 use Rattle.block.specs.Items.{Ranges, Terms}
-use Rattle.block.specs.Sums.{Row, Adding, few_terms, adding_start, adding_term, adding_room, adding_small, adding_step, adding_end}
+use Rattle.block.specs.Sums.{Row, Adding}
 use Rattle.block.proofs.sum_real.Given as goal
 
 abbrev pub invariant-loop-i : goal.invariant-loop-i
-invariant-loop-i l = (l.i ≤ l.n)
-    × (l.n ≤ 8)
+invariant-loop-i l = (l.terms.count ≤ 8)
     × (nat_abs l.total ≤ l.i * 1000000000000000)
-    × ((k : Ranges) (ts : List Term) (f : ℕ → ℤ) → Terms k l.part l.from l.n ts → Row k.vars l.values f → Adding k l.part l.from l.n f ts l.i l.total)
-
-abbrev pub decreases-loop-i : goal.decreases-loop-i
-decreases-loop-i l = l.n - l.i
+    × ((k : Ranges) (ts : List Term) (f : ℕ → ℤ) → Terms k l.terms.part.now l.terms.from l.terms.count ts → Row k.vars l.values f → Adding k l.terms.part.now l.terms.from l.terms.count f ts l.i l.total)

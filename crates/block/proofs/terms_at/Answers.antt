@@ -1,8 +1,7 @@
 -- `terms_at` meets its contract. The invariant: in every reading of the part, `n` terms of the first item are passed.
 -- The measure is what is left of the part. Assumes nothing.
-use Prim.Native.Nat.{◌+◌, ◌*◌, ◌-◌, ◌<◌}
+use Prim.Native.Nat.{◌+◌}
 use native.Mathlib.Omega.{arith}
-use lib.ListN.{length}
 use Rattle.model.specs.Task.{Block}
 use Rattle.block.specs.Items.{Ranges, Left}
 use Rattle.block.specs.Closing.{Passed, pass_start, pass_room, pass_step, pass_end}

@@ -1,11 +1,10 @@
 -- `terms_at` meets its contract. The invariant: in every reading of the part, `n` terms of the first item are passed.
 -- The measure is what is left of the part. Assumes nothing.
 use Prim.Native.Nat.{◌+◌, ◌*◌, ◌-◌, ◌<◌}
-use native.Mathlib.Omega.{arith}
 use lib.ListN.{length}
 use Rattle.model.specs.Task.{Block}
 use Rattle.block.specs.Items.{Ranges, Left}
-use Rattle.block.specs.Closing.{Passed, pass_start, pass_room, pass_step, pass_end}
+use Rattle.block.specs.Closing.{Passed}
 use Rattle.block.proofs.terms_at.Given as goal
 
 abbrev pub invariant-loop-n : goal.invariant-loop-n

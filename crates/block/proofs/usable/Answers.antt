@@ -1,6 +1,5 @@
 -- `usable` meets its contract. Assumes nothing.
 use mathlib.Core.Path.{refl}
-use borrow.Author.Rules.{rules}
 use Rattle.block.specs.Unmet.{usable_met}
 use Rattle.block.proofs.usable.Goals as goal
 

@@ -1,7 +1,6 @@
 -- `part_offset` meets its contract. Assumes nothing.
 use native.Mathlib.Omega.{arith}
 use mathlib.Core.Path.{refl}
-use borrow.Author.Rules.{rules}
 use Rattle.stored_layer.specs.Stored.{stored_props, stored_vars, stored_entries, stored_room}
 use Rattle.layers.specs.Goal.{goal_part, goal_testable}
 use Rattle.blocking.specs.Unmet.{goal_read, part_inside, is_part}
@@ -21,20 +20,20 @@ overflow_add-props-2 c = omega (arith, stored_room c.requires.memory {t = c.args
 pub read_row-requires : goal.read_row-requires
 read_row-requires c = let x = c.requires.memory in (stored_room x (omega arith), stored_vars x, refl)
 
-pub part-part-requires : goal.part-part-requires
-part-part-requires c =
+pub part-requires : goal.part-requires
+part-requires c =
     let p = c.requires in
     goal_part (goal_read p.outlined p.memory c.read_entries.ensures c.read_row.ensures)
 
 pub unmet-requires : goal.unmet-requires
 unmet-requires c =
     let p = c.requires in
-    goal_testable (goal_read p.outlined p.memory c.read_entries.ensures c.read_row.ensures) c.part-part.ensures.0
+    goal_testable (goal_read p.outlined p.memory c.read_entries.ensures c.read_row.ensures) c.part.ensures.0
 
 pub overflow_add-offset : goal.overflow_add-offset
 overflow_add-offset c =
     let p = c.requires in
-    omega (arith, part_inside p.outlined p.memory c.read_entries.ensures c.read_row.ensures c.part-part.ensures.0 c.unmet.ensures)
+    omega (arith, part_inside p.outlined p.memory c.read_entries.ensures c.read_row.ensures c.part.ensures.0 c.unmet.ensures)
 
 pub returns : goal.returns
-returns c = is_part c.read_entries.ensures c.read_row.ensures c.part-part.ensures.0 c.unmet.ensures
+returns c = is_part c.read_entries.ensures c.read_row.ensures c.part.ensures.0 c.unmet.ensures

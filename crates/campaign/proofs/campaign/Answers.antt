@@ -4,7 +4,6 @@ use mathlib.Core.Path.{◌≡◌, refl, sym, subst, ◌∙◌}
 use mathlib.Core.List.{List}
 use lib.ListN.{length}
 use lib.Seq.{length-take-le}
-use Rattle.model.specs.declared.WriteAnswer.TheVariants as write
 use Rattle.model.specs.Limits.{paper}
 use Rattle.model.specs.Calls.{normalise_answer}
 use Rattle.model.proofs.Theorems.Campaigns.Demand2.{written_hands}
@@ -13,20 +12,20 @@ use Rattle.campaign.proofs.campaign.Goals as goal
 
 pub slice_bounds-decided_and_planned-end : goal.slice_bounds-decided_and_planned-end
 slice_bounds-decided_and_planned-end c =
-    let inside : c.in-Written.n ≤ length c.normalise.new.out =
-    subst (λ (l : List ℕ). c.in-Written.n ≤ length l) (sym c.normalise.ensures.1) (written_hands _ _ _ (sym c.normalise.ensures.0 ∙ c.in-Written.is)).inside in
+    let inside : c.in-Ok.n ≤ length c.normalise.new.out =
+    subst (λ (l : List ℕ). c.in-Ok.n ≤ length l) (sym c.normalise.ensures.1) (written_hands _ _ _ (sym c.normalise.ensures.0 ∙ c.in-Ok.is)).inside in
     inside
 
-pub slice_bounds-decided_and_planned-end-in-Written : goal.slice_bounds-decided_and_planned-end-in-Written
-slice_bounds-decided_and_planned-end-in-Written c =
-    let inside : c.in-Written.n ≤ length c.normalise.new.out =
-    subst (λ (l : List ℕ). c.in-Written.n ≤ length l) (sym c.normalise.ensures.1) (written_hands _ _ _ (sym c.normalise.ensures.0 ∙ c.in-Written.is)).inside in
-    sym (length-take-le c.in-Written.n c.normalise.new.out inside)
+pub slice_bounds-decided_and_planned-end-in-Ok : goal.slice_bounds-decided_and_planned-end-in-Ok
+slice_bounds-decided_and_planned-end-in-Ok c =
+    let inside : c.in-Ok.n ≤ length c.normalise.new.out =
+    subst (λ (l : List ℕ). c.in-Ok.n ≤ length l) (sym c.normalise.ensures.1) (written_hands _ _ _ (sym c.normalise.ensures.0 ∙ c.in-Ok.is)).inside in
+    sym (length-take-le c.in-Ok.n c.normalise.new.out inside)
 
-pub returns-in-Written : goal.returns-in-Written
-returns-in-Written c =
-    done_written _ _ _ _ _ _ _ _ _ _ _ _ (sym c.normalise.ensures.0 ∙ c.in-Written.is) c.normalise.ensures.1 refl
+pub returns-in-Ok : goal.returns-in-Ok
+returns-in-Ok c =
+    done_written _ _ _ _ _ _ _ _ _ _ _ _ (sym c.normalise.ensures.0 ∙ c.in-Ok.is) c.normalise.ensures.1 refl
     c.decided_and_planned.ensures.0 c.decided_and_planned.ensures.1 c.decided_and_planned.ensures.2 c.decided_and_planned.ensures.3
 
-pub returns-in-Refused : goal.returns-in-Refused
-returns-in-Refused c = done_refused _ _ _ _ _ _ _ (sym c.normalise.ensures.0 ∙ c.in-Refused.is) c.normalise.ensures.1
+pub returns-in-Err : goal.returns-in-Err
+returns-in-Err c = done_refused _ _ _ _ _ _ _ (sym c.normalise.ensures.0 ∙ c.in-Err.is) c.normalise.ensures.1

@@ -1,18 +1,15 @@
 -- The rig's board: 2,048 numbers hold layers up to 118 of every table; no answer reports more than 225 layers. With all of them lent, a table
 -- of at most four written variables never meets 14, and any other at layer 119 or later, if at all; 36,000 bytes hold every plan. Assumes
 -- nothing.
-use Rattle.std.specs.Prelude.{ℕ, ◌+◌, ◌*◌, ◌<◌, ◌≤◌, ◌≡◌, List, ltb, ℤ}
+use Rattle.std.specs.Prelude.{ℕ, ◌+◌, ◌*◌, ◌<◌, ◌≤◌, ◌≡◌, List, ltb, ℤ, Result, Err}
 use Rattle.std.proofs.Math.Nat.{mul-le-mul, mul-le-mul_right}
 use native.Mathlib.Omega.{arith}
 use Rattle.std.proofs.Math.Path.{refl, ap, subst}
 use Rattle.std.proofs.Common.{sym, ◌∙◌, nltb→le}
-use Rattle.std.proofs.Math.Option.{Option, none, some}
 use Rattle.std.proofs.Math.Dec.{ltb→lt, not_T}
 use Rattle.std.proofs.Math.ListN.{length, length-take}
 use Rattle.model.specs.declared.Refusal.{Refusal}
-use Rattle.model.specs.declared.DecideAnswer.TheVariants as decide
 use Rattle.model.specs.declared.PlanAnswer.{PlanAnswer}
-use Rattle.model.specs.declared.PlanAnswer.TheVariants as plan
 use Rattle.model.specs.Limits.{paper}
 use Rattle.model.specs.Task.{normal, Task}
 use Rattle.model.specs.Move.{State}
@@ -28,7 +25,6 @@ use Rattle.model.proofs.Theorems.Layers.Answer.{reported_bound}
 use Rattle.model.proofs.Theorems.Layers.Building.{built_outcome}
 use Rattle.model.proofs.Theorems.Plans.Records.{records_length, length_record_bytes}
 use Rattle.model.specs.Theorems.Campaigns.Demand3.{decide_layers, plan_layers}
-use Rattle.ceiling.specs.Theorems.Fitting.{last_fitting}
 use Rattle.ceiling.proofs.Theorems.Fitting.{first_unfitting, StoppedShort, stopped_short, answered_fits, prepared_under_cases}
 use Rattle.ceiling.specs.Theorems.Board.{Late, LayersAtMost}
 
@@ -151,7 +147,7 @@ module _ (t bs : List ℕ) (layers : List ℤ) where
       prepared_under_cases rig (λ (r : Ready). LayersAtMost 225 (plan_layers (plan_of paper used (length out) r))) t bs
       (λ k s ok moves vars.
       let b : Built = build paper k s used in
-      plan_cases (length out) k s b (λ (a : PlanAnswer). LayersAtMost 225 (plan_layers a)) (λ whole. planned_few ok moves vars s used used_most b refl) tt)
+      plan_cases (length out) k s b (λ (a : Result PlanAnswer Refusal). LayersAtMost 225 (plan_layers a)) (λ whole. planned_few ok moves vars s used used_most b refl) tt)
       (λ r. tt)
 
   -- of a table and a state that are accepted
@@ -173,24 +169,24 @@ module _ (t bs : List ℕ) (layers : List ℤ) where
       late_14 : (m : ℕ) → build paper k s used ≡ stopped 14 m → Late k m
       late_14 m e = stopped_late within_rig.0 within_rig.1 within_rig.2 s used used_most m used_whole e
 
-      pub rig_decide_14 : (m : ℕ) → decide_answer_under rig paper t bs layers ≡ decide.Refused (record { number = 14; place = m }) → Late k m
+      pub rig_decide_14 : (m : ℕ) → decide_answer_under rig paper t bs layers ≡ Err (record { number = 14; place = m }) → Late k m
       unfolding decide_answer_under decide_of decided
       rig_decide_14 m e = go (build paper k s used) refl (ap (decide_of paper used) (sym accepted-is) ∙ e)
         where
-          go : (b : Built) → build paper k s used ≡ b → decided b ≡ decide.Refused (record { number = 14; place = m }) → Late k m
+          go : (b : Built) → build paper k s used ≡ b → decided b ≡ Err (record { number = 14; place = m }) → Late k m
           go (answered (reached l)) is same = clash cc
           go (answered (exhausted l)) is same = clash cc
           go (stopped n l) is same = late_14 m (is ∙ same_stop n l m cc)
 
       pub rig_plan_14 :
-          (out : List ℕ) (m : ℕ) → plan_answer_under rig paper t bs layers out ≡ plan.Refused (record { number = 14; place = m }) → Late k m
+          (out : List ℕ) (m : ℕ) → plan_answer_under rig paper t bs layers out ≡ Err (record { number = 14; place = m }) → Late k m
       unfolding plan_answer_under plan_of planned
       rig_plan_14 out m e =
           let b : Built = build paper k s used in
-          plan_cases (length out) k s b (λ (a : PlanAnswer). a ≡ plan.Refused (record { number = 14; place = m }) → Late k m) (λ fits. go b refl)
+          plan_cases (length out) k s b (λ (a : Result PlanAnswer Refusal). a ≡ Err (record { number = 14; place = m }) → Late k m) (λ fits. go b refl)
           (λ same. not_13 m cc) (ap (plan_of paper used (length out)) (sym accepted-is) ∙ e)
         where
-          go : (b : Built) → build paper k s used ≡ b → planned k s b ≡ plan.Refused (record { number = 14; place = m }) → Late k m
+          go : (b : Built) → build paper k s used ≡ b → planned k s b ≡ Err (record { number = 14; place = m }) → Late k m
           go (answered (reached l)) is same = clash cc
           go (answered (exhausted l)) is same = clash cc
           go (stopped n l) is same = late_14 m (is ∙ same_stop n l m cc)
@@ -213,7 +209,7 @@ rig_campaign_layers t bs normalOut layers out = go (normalised_under rig paper t
   where
     go :
         (o : Output)
-        → LayersAtMost 225 (decide_layers (on_output o (λ nb. decide_answer_under rig paper nb bs layers) (λ r. decide.Refused r)))
-        × LayersAtMost 225 (plan_layers (on_output o (λ nb. plan_answer_under rig paper nb bs layers out) (λ r. plan.Refused r)))
+        → LayersAtMost 225 (decide_layers (on_output o (λ nb. decide_answer_under rig paper nb bs layers) (λ r. Err r)))
+        × LayersAtMost 225 (plan_layers (on_output o (λ nb. plan_answer_under rig paper nb bs layers out) (λ r. Err r)))
     go (writes nb) = (rig_decide_layers nb bs layers, rig_plan_layers nb bs layers out)
     go (turns r) = (tt, tt)

@@ -1,7 +1,7 @@
 -- The calls under a ceiling, for every ceiling: within it they answer and write what the full calls do on the numbers that the ceiling
 -- allows, and keep the rest; where the table is turned away they keep everything; 17 exactly for a table that is accepted and beyond the
 -- ceiling. Assumes nothing.
-use Rattle.std.specs.Prelude.{ℕ, ◌+◌, ◌≡◌, ◌↔◌, Bool, List, [], ◌++◌, ℤ}
+use Rattle.std.specs.Prelude.{ℕ, ◌+◌, ◌≡◌, ◌↔◌, Bool, List, [], ◌++◌, ℤ, Err}
 use native.Mathlib.Omega.{arith}
 use Rattle.std.proofs.Math.Path.{refl, ap}
 use Rattle.std.proofs.Common.{ap₂, subst, ◌∙◌, append-nil}
@@ -9,10 +9,6 @@ use Rattle.std.proofs.Math.Bool.{true, false}
 use Rattle.std.proofs.Math.Option.{some}
 use Rattle.std.proofs.Math.ListN.{length, length-append}
 use Rattle.model.specs.declared.Refusal.{Refusal}
-use Rattle.model.specs.declared.ReadAnswer.TheVariants as read
-use Rattle.model.specs.declared.WriteAnswer.TheVariants as write
-use Rattle.model.specs.declared.DecideAnswer.TheVariants as decide
-use Rattle.model.specs.declared.PlanAnswer.TheVariants as plan
 use Rattle.model.specs.Limits.{Limits}
 use Rattle.model.specs.Task.{written, normal}
 use Rattle.model.specs.Reading.{Table, Verdict, accepted, refused, Wanted, only, both, length_limit, reading}
@@ -161,7 +157,7 @@ module _ (C : Ceiling) where
 
     module _ (r : Refusal) where
       pub record TurnedReading : Type 0 where
-        pub answer : read_answer_under C L t ≡ read.Refused r
+        pub answer : read_answer_under C L t ≡ Err r
         pub part : (b : ℕ) → block_part_under C L t b ≡ []
         pub start : (b : ℕ) → block_start_under C L t b ≡ 0
         pub refusal : (b : ℕ) → block_refusal_under C L t b ≡ some r
@@ -172,9 +168,9 @@ module _ (C : Ceiling) where
           record { answer = ap read_of u; part = λ b. ap (part_of t b) u; start = λ b. ap (start_of b) u; refusal = λ b. ap (no_block b) u }
 
       pub record TurnedWriting : Type 0 where
-        pub normalise : (out : List ℕ) → normalise_answer_under C L t out ≡ write.Refused r
+        pub normalise : (out : List ℕ) → normalise_answer_under C L t out ≡ Err r
         pub normal_form : (out : List ℕ) → normalise_out_under C L t out ≡ out
-        pub step : (bs : List ℕ) (b : ℕ) (out : List ℕ) → step_answer_under C L t bs b out ≡ write.Refused r
+        pub step : (bs : List ℕ) (b : ℕ) (out : List ℕ) → step_answer_under C L t bs b out ≡ Err r
         pub state : (bs : List ℕ) (b : ℕ) (out : List ℕ) → step_out_under C L t bs b out ≡ out
 
       pub turned_writing : reading_under C L (only written) t ≡ refused r → TurnedWriting
@@ -188,9 +184,9 @@ module _ (C : Ceiling) where
           }
 
       pub record TurnedPlanning (bs : List ℕ) (mem : List ℤ) : Type 0 where
-        pub decides : decide_answer_under C L t bs mem ≡ decide.Refused r
+        pub decides : decide_answer_under C L t bs mem ≡ Err r
         pub leaves : decide_memory_under C L t bs mem ≡ mem
-        pub plans : (out : List ℕ) → plan_answer_under C L t bs mem out ≡ plan.Refused r
+        pub plans : (out : List ℕ) → plan_answer_under C L t bs mem out ≡ Err r
         pub plan_leaves : plan_memory_under C L t bs mem ≡ mem
         pub writes : (out : List ℕ) → plan_out_under C L t bs mem out ≡ out
 

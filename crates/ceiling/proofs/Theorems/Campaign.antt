@@ -1,13 +1,11 @@
 -- Normalise, decide and plan in one call under a ceiling: the normal form of a table within a ceiling is within it, so the call answers
 -- and writes what the full one does on the numbers that the ceiling allows, and keeps the rest. Assumes nothing.
-use Rattle.std.specs.Prelude.{ℕ, ◌≤◌, ◌≡◌, false, length}
+use Rattle.std.specs.Prelude.{ℕ, ◌≤◌, ◌≡◌, false, length, Err}
 use Rattle.std.proofs.Common.{arith, sym, ap, ◌∙◌}
 use Rattle.std.proofs.Math.Path.{refl, subst}
 use mathlib.Core.List.{List, ◌++◌}
 use Rattle.std.proofs.Math.IntN.{ℤ}
 use Rattle.model.specs.declared.Refusal.{Refusal}
-use Rattle.model.specs.declared.DecideAnswer.TheVariants as decide
-use Rattle.model.specs.declared.PlanAnswer.TheVariants as plan
 use Rattle.model.specs.Limits.{paper}
 use Rattle.model.specs.Task.{Form, written, normal}
 use Rattle.model.specs.NormalForm.{normal_task}
@@ -94,8 +92,8 @@ module _ (C : Ceiling) (t : List ℕ) where
 
     -- turned away, with 17 or an earlier refusal: every lent memory is kept
     pub record TurnedCampaign (r : Refusal) : Type 0 where
-      pub decides : campaign_decision_under C paper t bs normalOut layers ≡ decide.Refused r
-      pub plans : campaign_plan_under C paper t bs normalOut layers out ≡ plan.Refused r
+      pub decides : campaign_decision_under C paper t bs normalOut layers ≡ Err r
+      pub plans : campaign_plan_under C paper t bs normalOut layers out ≡ Err r
       pub leaves : campaign_memory_under C paper t bs normalOut layers ≡ layers
       pub writes : campaign_out_under C paper t bs normalOut layers out ≡ out
 

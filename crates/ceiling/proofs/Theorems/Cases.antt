@@ -1,12 +1,6 @@
 -- The rig's calls on small tables, by computation; and M1 under the rig's ceiling: the premises of demand 3 can be met there. Assumes nothing.
-use Rattle.std.specs.Prelude.{ℕ, zero, suc, ◌≡◌, refl, List, [], ◌∷◌, ◌++◌, pos, replicate, drop}
-use Rattle.std.proofs.Math.Option.{some}
-use Rattle.model.specs.declared.ReadAnswer.TheVariants as read
-use Rattle.model.specs.declared.WriteAnswer.TheVariants as write
-use Rattle.model.specs.declared.DecideAnswer.TheVariants as decide
-use Rattle.model.specs.Limits.{paper}
-use Rattle.model.specs.Calls.{normalise_out}
-use Rattle.ceiling.specs.Ceiling.{rig, seventeen, read_answer_under, block_refusal_under, normalise_answer_under, step_answer_under, decide_answer_under, decide_memory_under, full, most_vars, beyond, under, reading_under, first_of, behind_of, block_part_under, block_start_under, normalised_under, normalise_out_under, stepped_under, step_out_under, prepared_under, plan_answer_under, plan_memory_under, plan_out_under, campaign_decision_under, campaign_plan_under, campaign_memory_under, campaign_out_under}
+use Rattle.std.specs.Prelude.{refl, pos, replicate}
+use Rattle.ceiling.specs.Ceiling.{rig, read_answer_under, block_refusal_under, normalise_answer_under, step_answer_under, decide_answer_under, decide_memory_under, full, most_vars, beyond, under, reading_under, first_of, behind_of, block_part_under, block_start_under, normalised_under, normalise_out_under, stepped_under, step_out_under, prepared_under, plan_answer_under, plan_memory_under, plan_out_under, campaign_decision_under, campaign_plan_under, campaign_memory_under, campaign_out_under}
 use Rattle.model.specs.Theorems.Campaigns.Tables.{zeros, m1}
 use Rattle.model.specs.Theorems.Campaigns.Computing.{computing}
 use Rattle.model.specs.Theorems.Campaigns.Instance.{m1_table, table_in}

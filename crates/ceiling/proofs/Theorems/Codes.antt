@@ -1,20 +1,19 @@
 -- The codes of the answers under a ceiling: each taken apart is the answer, so two answers with the same code (plan's with its two further
 -- numbers) are the same answer (`Theorems.Campaigns.Codes.one_answer`). Assumes nothing.
-use Rattle.std.specs.Prelude.{ℕ, ◌≡◌, List, ℤ}
+use Rattle.std.specs.Prelude.{ℕ, ◌≡◌, List, ℤ, Result}
 use Rattle.std.proofs.Common.{arith}
-use Rattle.model.specs.declared.WriteAnswer.{WriteAnswer}
-use Rattle.model.specs.declared.PlanAnswer.{PlanAnswer}
 use Rattle.model.specs.Limits.{paper}
 use Rattle.ceiling.specs.Ceiling.{Ceiling, read_answer_under, block_part_under, block_refusal_under, normalise_answer_under, step_answer_under, decide_answer_under, plan_answer_under, campaign_decision_under, campaign_plan_under}
-use Rattle.model.specs.Exports.{read_code, write_code, decide_code, plan_code, plan_record_count, plan_first_moves, block_answer, read_apart, write_apart, decide_apart, plan_apart}
+use Rattle.model.specs.Exports.{write_code, block_answer, write_apart}
 use Rattle.model.specs.Theorems.Sizes.Answers.{WriteSmall}
 use Rattle.model.proofs.Theorems.Sizes.Answers.{write_wider}
 use Rattle.model.proofs.Theorems.Campaigns.Codes.{read_back, write_back, decide_back, plan_back}
 use Rattle.ceiling.proofs.Theorems.Sizes.{read_small_under, block_small_under, normalise_small_under, step_small_under, decide_small_under, plan_small_under, campaign_decision_small_under, campaign_plan_small_under}
 use Rattle.ceiling.specs.Theorems.Codes.{CodesApart}
+use Rattle.model.specs.declared.Refusal.{Refusal}
 
 -- a length of at most 64,000
-short_back : (a : WriteAnswer) → WriteSmall 64_000 a → write_apart (write_code a) ≡ a
+short_back : (a : Result ℕ Refusal) → WriteSmall 64_000 a → write_apart (write_code a) ≡ a
 short_back a small = write_back a (write_wider a (omega arith) small)
 
 pub codes_apart : (C : Ceiling) (t bs : List ℕ) (mem : List ℤ) (normalOut out : List ℕ) → CodesApart C t bs mem normalOut out

@@ -1,19 +1,17 @@
 -- Demand 3 under a ceiling, for every ceiling and every table that 17 does not refuse; the same of normalise, decide and plan in one call,
 -- as it answers; and the bound on layers for every answer whatever. Assumes nothing.
-use Rattle.std.specs.Prelude.{ℕ, ◌≡◌, false, List, ℤ, length, take}
+use Rattle.std.specs.Prelude.{ℕ, ◌≡◌, false, List, ℤ, length, take, Result, Err}
 use Rattle.std.proofs.Common.{sym, ap, subst, ◌∙◌}
-use Rattle.model.specs.declared.WriteAnswer.{WriteAnswer}
+use Rattle.model.specs.declared.Refusal.{Refusal}
 use Rattle.model.specs.declared.DecideAnswer.{DecideAnswer}
-use Rattle.model.specs.declared.DecideAnswer.TheVariants as decide
 use Rattle.model.specs.declared.PlanAnswer.{PlanAnswer}
-use Rattle.model.specs.declared.PlanAnswer.TheVariants as plan
 use Rattle.model.specs.Limits.{paper}
 use Rattle.model.specs.Task.{written, normal}
 use Rattle.model.specs.Reading.{Table, Verdict, only, reading}
 use Rattle.model.specs.Layer.{reported}
 use Rattle.model.specs.Memory.{room}
 use Rattle.model.specs.Calls.{Output, writes, turns, on_output, normal_bytes, ready_of, prepared, decide_of, decide_answer, plan_of, plan_answer}
-use Rattle.ceiling.specs.Ceiling.{Ceiling, beyond, reading_under, first_of, normalised_under, normalise_answer_under, normalise_out_under, prepared_under, decide_answer_under, plan_answer_under, plan_out_under, campaign_decision_under, campaign_plan_under, campaign_out_under}
+use Rattle.ceiling.specs.Ceiling.{Ceiling, beyond, reading_under, first_of, normalised_under, normalise_answer_under, prepared_under, decide_answer_under, plan_answer_under, plan_out_under, campaign_decision_under, campaign_plan_under, campaign_out_under}
 use Rattle.model.specs.Theorems.Campaigns.Demand2.{normal_part}
 use Rattle.model.specs.Theorems.Campaigns.Demand3.{relaxed_task, end_of, Given, Answers, decide_layers, plan_layers}
 use Rattle.model.specs.Theorems.Campaigns.EndToEnd.{LayersWithin}
@@ -50,7 +48,7 @@ given_under C t bs normalOut layers out g beneath fits =
 
 -- what demand 3 says holds of answers that are equal
 same_answers :
-    (w : Table) (bs before : List ℕ) {a b : WriteAnswer} {nb mb : List ℕ} {d e : DecideAnswer} {p q : PlanAnswer} {x y : List ℕ}
+    (w : Table) (bs before : List ℕ) {a b : Result ℕ Refusal} {nb mb : List ℕ} {d e : Result DecideAnswer Refusal} {p q : Result PlanAnswer Refusal} {x y : List ℕ}
     → a ≡ b → nb ≡ mb → d ≡ e → p ≡ q → x ≡ y
     → Answers w bs b mb e q before y
     → Answers w bs a nb d p before x
@@ -121,8 +119,8 @@ module _ (C : Ceiling) (t bs normalOut : List ℕ) (layers : List ℤ) (out : Li
 
   keeps_bound :
       (o : Output)
-      → Bounded o (on_output o (λ nb. decide_answer_under C paper nb bs layers) (λ r. decide.Refused r))
-      (on_output o (λ nb. plan_answer_under C paper nb bs layers out) (λ r. plan.Refused r))
+      → Bounded o (on_output o (λ nb. decide_answer_under C paper nb bs layers) (λ r. Err r))
+      (on_output o (λ nb. plan_answer_under C paper nb bs layers out) (λ r. Err r))
   unfolding on_output
   keeps_bound (writes nb) = (decide_within_under C nb bs layers, plan_within_under C nb bs layers out)
   keeps_bound (turns r) = tt

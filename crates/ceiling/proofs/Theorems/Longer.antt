@@ -2,13 +2,12 @@
 -- difference is 14. Assumes nothing.
 use Prim.Native.Nat.{ℕ, suc, ◌≤◌, ◌<◌}
 use Rattle.std.proofs.Common.{arith, ◌∙◌, append_assoc, lt→ltb, length-append}
-use Rattle.std.specs.Prelude.{◌≡◌, Bool, List, ◌++◌, ltb, ℤ, length, drop}
+use Rattle.std.specs.Prelude.{◌≡◌, Bool, List, ◌++◌, ltb, ℤ, length, drop, Err}
 use Rattle.std.proofs.Math.Path.{refl, sym, ap}
 use Rattle.std.proofs.Math.Bool.{true, false}
 use Rattle.std.proofs.Math.Option.{Option}
 use Rattle.std.proofs.Math.Dec.{T, ltb→lt}
 use Rattle.std.proofs.lemmas.List.{drop-append-le}
-use Rattle.model.specs.declared.DecideAnswer.TheVariants as decide
 use Rattle.model.specs.Limits.{Limits, paper}
 use Rattle.model.specs.Task.{written, normal, Task}
 use Rattle.model.specs.Move.{State}
@@ -77,7 +76,7 @@ module _ (L : Limits) (first behind : List ℤ) where
 
   -- decide did not stop with 14
   abbrev Enough : Ready → Type 0
-  Enough r = (m : ℕ) → decide_of L (length first) r ≡ decide.Refused (record { number = 14; place = m }) → ⊥
+  Enough r = (m : ℕ) → decide_of L (length first) r ≡ Err (record { number = 14; place = m }) → ⊥
 
   pub more_built : (k : Task) (s : State) → Enough (ready k s) → build L k s (length whole) ≡ build L k s (length first)
   unfolding decide_of decided
@@ -110,7 +109,7 @@ module _ (L : Limits) (first behind : List ℤ) where
 -- leave what the full calls do.
 pub same_but_14 :
     (C : Ceiling) (L : Limits) (t bs : List ℕ) (mem : List ℤ) → Beneath C (reading L (only normal) t)
-    → ((m : ℕ) → decide_answer_under C L t bs mem ≡ decide.Refused (record { number = 14; place = m }) → ⊥)
+    → ((m : ℕ) → decide_answer_under C L t bs mem ≡ Err (record { number = 14; place = m }) → ⊥)
     → WholePlanning C L t bs mem
 unfolding decide_answer decide_memory plan_answer plan_memory plan_out
 same_but_14 C L t bs mem h enough =
@@ -131,7 +130,7 @@ same_but_14 C L t bs mem h enough =
 
 pub campaign_but_14 :
     (C : Ceiling) (t bs normalOut : List ℕ) (mem : List ℤ) (out : List ℕ) → Beneath C (reading paper (only written) t)
-    → ((m : ℕ) → campaign_decision_under C paper t bs normalOut mem ≡ decide.Refused (record { number = 14; place = m }) → ⊥)
+    → ((m : ℕ) → campaign_decision_under C paper t bs normalOut mem ≡ Err (record { number = 14; place = m }) → ⊥)
     → WholeCampaign C t bs normalOut mem out
 unfolding campaign_decision_under campaign_plan_under campaign_memory_under campaign_out_under campaign_decision campaign_plan campaign_memory campaign_out on_output
 campaign_but_14 C t bs normalOut mem out h = go (normalised paper t (length normalOut)) refl
@@ -141,7 +140,7 @@ campaign_but_14 C t bs normalOut mem out h = go (normalised paper t (length norm
 
     go :
         (o : Output) → normalised paper t (length normalOut) ≡ o
-        → ((m : ℕ) → campaign_decision_under C paper t bs normalOut mem ≡ decide.Refused (record { number = 14; place = m }) → ⊥)
+        → ((m : ℕ) → campaign_decision_under C paper t bs normalOut mem ≡ Err (record { number = 14; place = m }) → ⊥)
         → WholeCampaign C t bs normalOut mem out
     go (writes nb) e enough =
         let same = same_but_14 C paper nb bs mem (wrote_beneath C t h (length normalOut) nb e) (λ m d. enough m (rw (under_is, e) d)) in

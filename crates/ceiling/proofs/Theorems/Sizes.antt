@@ -1,8 +1,6 @@
 -- Every number of an answer under a ceiling is small enough for the machine's, as those of the full calls are. Assumes nothing.
-use Rattle.std.specs.Prelude.{ℕ, List, ℤ, length}
+use Rattle.std.specs.Prelude.{ℕ, List, ℤ, length, Err}
 use Rattle.std.proofs.Common.{lit≤}
-use Rattle.model.specs.declared.DecideAnswer.TheVariants as decide
-use Rattle.model.specs.declared.PlanAnswer.TheVariants as plan
 use Rattle.model.specs.Limits.{paper}
 use Rattle.model.specs.Task.{written, normal}
 use Rattle.model.specs.Reading.{Verdict, only, both, reading}
@@ -64,7 +62,7 @@ module _ (C : Ceiling) (t bs normalOut : List ℕ) (layers : List ℤ) where
   unfolding campaign_decision_under normalised_under reading_under normalised normal_of fitted on_output
   campaign_decision_small_under =
       under_cases C
-      (λ (v : Verdict). DecideSmall (on_output (fitted (length normalOut) (normal_of v)) (λ nb. decide_answer_under C paper nb bs layers) (λ r. decide.Refused r)))
+      (λ (v : Verdict). DecideSmall (on_output (fitted (length normalOut) (normal_of v)) (λ nb. decide_answer_under C paper nb bs layers) (λ r. Err r)))
       (reading paper (only written) t)
       (on_normal DecideSmall _ _ t (length normalOut) (λ nb. decide_small_under C nb bs layers) (λ r s. s)) small_17
 
@@ -72,6 +70,6 @@ module _ (C : Ceiling) (t bs normalOut : List ℕ) (layers : List ℤ) where
   unfolding campaign_plan_under normalised_under reading_under normalised normal_of fitted on_output
   campaign_plan_small_under out =
       under_cases C
-      (λ (v : Verdict). PlanSmall (on_output (fitted (length normalOut) (normal_of v)) (λ nb. plan_answer_under C paper nb bs layers out) (λ r. plan.Refused r)))
+      (λ (v : Verdict). PlanSmall (on_output (fitted (length normalOut) (normal_of v)) (λ nb. plan_answer_under C paper nb bs layers out) (λ r. Err r)))
       (reading paper (only written) t)
       (on_normal PlanSmall _ _ t (length normalOut) (λ nb. plan_small_under C nb bs layers out) (λ r s. s)) small_17

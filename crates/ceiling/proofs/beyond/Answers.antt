@@ -1,7 +1,6 @@
 -- `beyond` meets its contract. Assumes nothing.
 use native.Mathlib.Omega.{arith}
 use Rattle.ceiling.specs.Heads.{too_short, moves_beyond, written_beyond, normal_beyond}
-use borrow.Author.Rules.{rules}
 use Rattle.ceiling.proofs.beyond.Goals as goal
 
 pub returns-then-table-lt4 : goal.returns-then-table-lt4

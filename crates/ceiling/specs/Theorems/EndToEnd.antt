@@ -1,6 +1,7 @@
 -- Demand 3 under a ceiling, for every ceiling and every table that 17 does not refuse; the same of normalise, decide and plan in one call,
 -- as it answers; and the bound on layers for every answer whatever. Assumes nothing.
-use Rattle.std.specs.Prelude.{ℕ, ◌≡◌, false, List, ℤ, length, take}
+use Rattle.std.specs.Prelude.{ℕ, ◌≡◌, false, List, ℤ, length, take, Result}
+use Rattle.model.specs.declared.Refusal.{Refusal}
 use Rattle.model.specs.declared.DecideAnswer.{DecideAnswer}
 use Rattle.model.specs.declared.PlanAnswer.{PlanAnswer}
 use Rattle.model.specs.Limits.{paper}
@@ -23,7 +24,7 @@ normal_part_under C t normalOut n = take n (normalise_out_under C paper t normal
 module _ (C : Ceiling) (t bs normalOut : List ℕ) (layers : List ℤ) (out : List ℕ) where
   -- From the written table t and the state bs to both answers, d and p, and the plan's list in `after`: under the premises every clause of
   -- demand 3 holds of what was answered; and, apart from it, the bound.
-  pub record PromiseUnder (d : DecideAnswer) (p : PlanAnswer) (after : List ℕ) : Type 0 where
+  pub record PromiseUnder (d : Result DecideAnswer Refusal) (p : Result PlanAnswer Refusal) (after : List ℕ) : Type 0 where
     pub claim :
         (g : GivenUnder C t bs normalOut layers out)
         → Answers g.given.table bs (normalise_answer_under C paper t normalOut)

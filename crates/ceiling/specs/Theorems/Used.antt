@@ -1,5 +1,5 @@
 -- The numbers of a layer memory that a ceiling allows, and those behind them. Assumes nothing.
-use Rattle.std.specs.Prelude.{ℕ, ◌≤◌, []}
+use Rattle.std.specs.Prelude.{ℕ, ◌≤◌}
 use Rattle.std.proofs.Math.Option.{Option, none, some}
 
 -- a size within so many numbers

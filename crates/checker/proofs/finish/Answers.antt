@@ -1,6 +1,5 @@
 -- `finish` meets its contract: the goal, then the end state or 13. Assumes nothing.
-use borrow.Author.Rules.{rules}
-use borrow.Author.Tests.{not-true, not-false}
+use Rattle.std.proofs.lemmas.Result.{err_from_is_err_and}
 use Rattle.checker.specs.Replies.{goal_testable, tested_unmet, tested_yes, tested_short}
 use Rattle.checker.proofs.finish.Goals as goal
 
@@ -15,8 +14,10 @@ put_state-requires c =
     let p = c.requires in
     record { few_props = p.few_props; few_vars = p.few_vars; state = p.over; holds = p.holds }
 
-pub returns-in-Written : goal.returns-in-Written
-returns-in-Written c = tested_yes c.applicable.ensures _ c.if-not-applicable.false c.put_state.ensures c.in-Written.is
+pub returns-in_err-length : goal.returns-in_err-length
+returns-in_err-length c =
+    let p = err_from_is_err_and c.from_residual.result c.from_residual.ensures.1 in
+    rw (p.1, p.2) (tested_short c.applicable.ensures _ c.if-not-applicable.false c.put_state.ensures c.in_err-length.was)
 
-pub returns-in-Refused : goal.returns-in-Refused
-returns-in-Refused c = tested_short c.applicable.ensures _ c.if-not-applicable.false c.put_state.ensures c.in-Refused.is
+pub returns : goal.returns
+returns c = tested_yes c.applicable.ensures _ c.if-not-applicable.false c.put_state.ensures c.in_ok-length.was

@@ -1,5 +1,4 @@
 -- `minute_at` meets its contract. Assumes nothing.
-use borrow.Author.Rules.{rules}
 use Rattle.placement.specs.Day.{minute_at}
 use Rattle.closure.proofs.minute_at.Goals as goal
 

@@ -1,30 +1,17 @@
 -- `walk` meets its contract. The invariant: the windows before `w` are left, the entries before `i` are placed, and their starts are
 -- written. The measure is what each turn makes one fewer: the windows and entries that are left. Assumes nothing.
-use Prim.Native.Nat.{ℕ, ◌+◌, ◌-◌}
+use Prim.Native.Nat.{ℕ}
 use native.Mathlib.Omega.{arith}
 use mathlib.Core.Path.{ap, ◌∙◌}
 use mathlib.Core.Bool.{cond}
 use lib.Dec.{leb}
-use lib.ListN.{length}
-use Rattle.placement.specs.Day.{window_at, duration_at, pieces}
+use Rattle.placement.specs.Day.{window_at, duration_at}
 use Rattle.placement.specs.Placing.{start_in}
-use Rattle.closure.specs.Walking.{Walking, walking_begin, walking_place, walking_leave, walking_stuck, walking_placed}
+use Rattle.closure.specs.Walking.{walking_begin, walking_place, walking_leave, walking_stuck, walking_placed, larger}
 use Rattle.closure.proofs.walk.Goals as goal
 
 pub loop-i-init : goal.loop-i-init
 loop-i-init c = walking_begin _ _ _
-
-pub overflow_mul-i : goal.overflow_mul-i
-overflow_mul-i c = omega (arith, c.requires.durations.exact, c.loop-i.invariant.entries)
-
-pub minute_at-requires : goal.minute_at-requires
-minute_at-requires c = omega (arith, c.requires.durations.exact)
-
-pub overflow_add-end : goal.overflow_add-end
-overflow_add-end c = omega (arith, c.loop-i.invariant.early.0)
-
-pub loop-i-smaller-then-end-shut : goal.loop-i-smaller-then-end-shut
-loop-i-smaller-then-end-shut c = omega (arith, c.requires.durations.exact)
 
 pub loop-i-preserved-then-end-shut : goal.loop-i-preserved-then-end-shut
 unfolding duration_at
@@ -32,23 +19,11 @@ loop-i-preserved-then-end-shut c =
     walking_place c.requires c.loop-i.invariant (omega arith) c.minute_at.ensures.0
     (omega arith) c.put_u32.ensures
 
-pub overflow_mul-w : goal.overflow_mul-w
-overflow_mul-w c = omega (arith, c.requires.windows.exact, c.loop-i.invariant.windows)
-
 pub returns-then-w-windows : goal.returns-then-w-windows
 unfolding duration_at
 returns-then-w-windows c =
     walking_stuck c.requires c.loop-i.invariant (omega arith)
     c.minute_at.ensures.0 (omega arith) (omega arith)
-
-pub minute_at-requires-else-end-shut : goal.minute_at-requires-else-end-shut
-minute_at-requires-else-end-shut c = omega (arith, c.requires.windows.exact)
-
-pub minute_at-shut-requires : goal.minute_at-shut-requires
-minute_at-shut-requires c = omega (arith, c.requires.windows.exact)
-
-pub loop-i-smaller : goal.loop-i-smaller
-loop-i-smaller c = omega (arith, c.requires.windows.exact)
 
 pub loop-i-preserved : goal.loop-i-preserved
 unfolding duration_at window_at start_in
@@ -56,7 +31,7 @@ loop-i-preserved c =
     let from = c.loop-i.from in
     walking_leave c.requires c.loop-i.invariant (omega arith) c.minute_at.ensures.0
     (omega arith) (omega arith)
-    (c.later-from.ensures ∙ ap (λ (o : ℕ). cond (leb from o) o from) c.minute_at-else-end-shut.ensures.0)
+    (c.max-from.ensures ∙ larger from _ ∙ ap (λ (o : ℕ). cond (leb from o) o from) c.minute_at-else-end-shut.ensures.0)
     c.minute_at-shut.ensures.0
 
 pub returns : goal.returns

@@ -1,14 +1,9 @@
 -- `walk` meets its contract. The invariant: the windows before `w` are left, the entries before `i` are placed, and their starts are
 -- written. The measure is what each turn makes one fewer: the windows and entries that are left. Assumes nothing.
-use Prim.Native.Nat.{ℕ, ◌+◌, ◌-◌}
-use native.Mathlib.Omega.{arith}
-use mathlib.Core.Path.{ap, ◌∙◌}
-use mathlib.Core.Bool.{cond}
-use lib.Dec.{leb}
+use Prim.Native.Nat.{◌+◌, ◌-◌}
 use lib.ListN.{length}
-use Rattle.placement.specs.Day.{window_at, duration_at, pieces}
-use Rattle.placement.specs.Placing.{start_in}
-use Rattle.closure.specs.Walking.{Walking, walking_begin, walking_place, walking_leave, walking_stuck, walking_placed}
+use Rattle.placement.specs.Day.{pieces}
+use Rattle.closure.specs.Walking.{Walking}
 use Rattle.closure.proofs.walk.Given as goal
 
 abbrev pub invariant-loop-i : goal.invariant-loop-i

@@ -2,7 +2,6 @@
 use native.Mathlib.Omega.{arith}
 use mathlib.Core.Path.{refl, ap, subst}
 use Prim.Native.Nat.{ℕ, ◌+◌, ◌^◌}
-use borrow.Author.Rules.{rules}
 use Rattle.model.specs.Theorems.Reading.Places.{Small}
 use Rattle.model.specs.Theorems.Sizes.Answers.{place_limit}
 use Rattle.schedule.specs.Exports.{check_code, check_index}
@@ -11,25 +10,31 @@ use Rattle.schedule.proofs.Theorems.Codes.{fault_most}
 use Rattle.codes.proofs.check_code.Goals as goal
 
 pub overflow_add-result : goal.overflow_add-result
-overflow_add-result c = omega (arith, c.fault_number.ensures, fault_most c.in-Fails.fault)
+overflow_add-result c = omega (arith, c.fault_number.ensures, fault_most c.in-Ok-Fails.fault)
 
 pub refusal_code-requires : goal.refusal_code-requires
 refusal_code-requires c =
-    let small : Small place_limit c.in-Refused.r = subst CheckSmall c.in-Refused.is c.requires in
+    let small : Small place_limit c.in-Err.r = subst CheckSmall c.in-Err.is c.requires in
     (small.number, small.place)
 
-pub returns-in-Yes : goal.returns-in-Yes
+pub returns-in-Ok-Yes : goal.returns-in-Ok-Yes
 unfolding check_code check_index
-returns-in-Yes c = rw c.in-Yes.is (refl, refl)
+returns-in-Ok-Yes c =
+    let same = rw c.in-Ok-Yes.is at c.in-Ok-Yes.field-0-is in
+    rw (c.in-Ok-Yes.is, same) (refl, refl)
 
-pub returns-in-Fails : goal.returns-in-Fails
+pub returns-in-Ok-Fails : goal.returns-in-Ok-Fails
 unfolding check_code check_index
-returns-in-Fails c = rw c.in-Fails.is (ap (λ (n : ℕ). 2 ^ 31 + n) c.fault_number.ensures, refl)
+returns-in-Ok-Fails c =
+    let same = rw c.in-Ok-Fails.is at c.in-Ok-Fails.field-0-is in
+    rw (c.in-Ok-Fails.is, same) (ap (λ (n : ℕ). 2 ^ 31 + n) c.fault_number.ensures, refl)
 
-pub returns-in-GoalNotMet : goal.returns-in-GoalNotMet
+pub returns-in-Ok-GoalNotMet : goal.returns-in-Ok-GoalNotMet
 unfolding check_code check_index
-returns-in-GoalNotMet c = rw c.in-GoalNotMet.is (refl, refl)
+returns-in-Ok-GoalNotMet c =
+    let same = rw c.in-Ok-GoalNotMet.is at c.in-Ok-GoalNotMet.field-0-is in
+    rw (c.in-Ok-GoalNotMet.is, same) (refl, refl)
 
-pub returns-in-Refused : goal.returns-in-Refused
+pub returns-in-Err : goal.returns-in-Err
 unfolding check_code check_index
-returns-in-Refused c = rw c.in-Refused.is (c.refusal_code.ensures, refl)
+returns-in-Err c = rw c.in-Err.is (c.refusal_code.ensures, refl)

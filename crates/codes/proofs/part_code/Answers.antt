@@ -2,7 +2,6 @@
 use mathlib.Core.Path.{refl}
 use borrow.Author.Tests.{eq-eqb, ne_eqb}
 use Rattle.codes.specs.Parts.{part_code}
-use borrow.Author.Rules.{rules}
 use Rattle.codes.proofs.part_code.Goals as goal
 
 pub returns-then-number-eq0 : goal.returns-then-number-eq0

@@ -1,5 +1,4 @@
 -- `refusal_code` meets its contract. Assumes nothing.
-use borrow.Author.Rules.{rules}
 use mathlib.Core.Path.{refl}
 use Rattle.model.specs.Exports.{refusal_code}
 use Rattle.codes.proofs.refusal_code.Goals as goal

@@ -1,7 +1,6 @@
 -- `kind_code` meets its contract.
 -- Assumes nothing.
 use mathlib.Core.Path.{refl}
-use borrow.Author.Rules.{rules}
 use Rattle.model.specs.Command.{code_of}
 use Rattle.command.specs.Names.{form_of}
 use Rattle.command.proofs.kind_code.Goals as goal

@@ -1,12 +1,17 @@
--- `lies` meets its contract: two comparisons in the order of reading.
--- Assumes nothing.
-use mathlib.Core.Path.{refl}
-use borrow.Author.Rules.{rules}
-use Rattle.command.specs.Checks.{lies_behind, lies_before}
+-- `lies` meets its contract: two comparisons in the order of reading. Assumes nothing.
+use Rattle.std.proofs.Common.{sym, ◌∙◌}
+use Rattle.command.specs.Checks.{lies_in}
+use Rattle.command.proofs.Places.{le_order}
 use Rattle.command.proofs.lies.Goals as goal
 
-pub returns-then-order-at : goal.returns-then-order-at
-returns-then-order-at c = lies_behind _ _ _ c.order-at.ensures c.order.ensures c.order-then-order-at.ensures c.if-order-at.true
+pub returns-then-le : goal.returns-then-le
+unfolding lies_in
+returns-then-le c =
+    let above = sym (le_order c.args.first c.args.place) ∙ sym c.le.ensures ∙ c.if-le.true in
+    rw above (c.le-then-le.ensures ∙ le_order c.args.place c.args.last)
 
-pub returns-else-order-at : goal.returns-else-order-at
-returns-else-order-at c = lies_before _ _ _ c.order-at.ensures c.order.ensures refl c.if-order-at.false
+pub returns-else-le : goal.returns-else-le
+unfolding lies_in
+returns-else-le c =
+    let below = sym (le_order c.args.first c.args.place) ∙ sym c.le.ensures ∙ c.if-le.false in
+    rw below c.if-le.false

@@ -1,42 +1,23 @@
--- `width` meets its contract, command by command.
--- Assumes nothing.
-use mathlib.Core.Path.{refl}
-use borrow.Author.Rules.{rules}
+-- `width` meets its contract, command by command. Assumes nothing.
+use Rattle.std.proofs.Common.{◌≡◌, refl}
+use mathlib.Core.Logic.{inl, inr}
 use Rattle.model.specs.Command.{width}
+use Rattle.command.specs.declared.Command.{Command}
 use Rattle.command.specs.Names.{command_is}
+use Rattle.command.proofs.Patterns.{one_of_three, one_of_four}
 use Rattle.command.proofs.width.Goals as goal
-
-pub returns-in-Head : goal.returns-in-Head
-unfolding command_is width
-returns-in-Head c = rw c.in-Head.is refl
 
 pub returns-in-OpenMove : goal.returns-in-OpenMove
 unfolding command_is width
-returns-in-OpenMove c = rw c.in-OpenMove.is refl
-
-pub returns-in-OpenGoal : goal.returns-in-OpenGoal
-unfolding command_is width
-returns-in-OpenGoal c = rw c.in-OpenGoal.is refl
-
-pub returns-in-EndTable : goal.returns-in-EndTable
-unfolding command_is width
-returns-in-EndTable c = rw c.in-EndTable.is refl
+returns-in-OpenMove c = one_of_four (λ (k : Command). 1 ≡ width (command_is k)) refl refl refl refl c.in-OpenMove.is
 
 pub returns-in-NeedProp : goal.returns-in-NeedProp
 unfolding command_is width
-returns-in-NeedProp c = rw c.in-NeedProp.is refl
+returns-in-NeedProp c = one_of_three (λ (k : Command). 2 ≡ width (command_is k)) refl refl refl c.in-NeedProp.is
 
-pub returns-in-AddProp : goal.returns-in-AddProp
+pub returns-in-Head : goal.returns-in-Head
 unfolding command_is width
-returns-in-AddProp c = rw c.in-AddProp.is refl
-
-pub returns-in-DeleteProp : goal.returns-in-DeleteProp
-unfolding command_is width
-returns-in-DeleteProp c = rw c.in-DeleteProp.is refl
-
-pub returns-in-Term : goal.returns-in-Term
-unfolding command_is width
-returns-in-Term c = rw c.in-Term.is refl
+returns-in-Head c = elim c.in-Head.is [ inl h ↦ rw h.1 refl | inr e ↦ rw e refl ]
 
 pub returns-in-CloseCondition : goal.returns-in-CloseCondition
 unfolding command_is width
@@ -45,7 +26,3 @@ returns-in-CloseCondition c = rw c.in-CloseCondition.is refl
 pub returns-in-CloseEffect : goal.returns-in-CloseEffect
 unfolding command_is width
 returns-in-CloseEffect c = rw c.in-CloseEffect.is refl
-
-pub returns-in-Unknown : goal.returns-in-Unknown
-unfolding command_is width
-returns-in-Unknown c = rw c.in-Unknown.is refl

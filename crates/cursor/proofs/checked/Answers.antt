@@ -7,9 +7,8 @@ use native.Mathlib.Omega.{arith}
 use lib.Dec.{ltb}
 use lib.ListN.{length}
 use borrow.Author.Tests.{lt-ltb, le-ltb}
-use borrow.Author.Rules.{rules}
 use Rattle.model.specs.Command.{width}
-use Rattle.cursor.specs.declared.Check.TheVariants.{Refused}
+use Rattle.std.specs.Prelude.{Err}
 use Rattle.command.specs.Names.{place_of, command_is, wanted_of}
 use Rattle.command.specs.Checks.{misplaced, miscounted, closes_idle}
 use Rattle.cursor.specs.State.{wrong_at, cursor_refusal}
@@ -19,7 +18,7 @@ use Rattle.cursor.proofs.checked.Goals as goal
 
 pub returns-then-misplaced : goal.returns-then-misplaced
 unfolding cursor_refusal
-returns-then-misplaced c = ap Refused c.refusal.ensures ∙ order_3 _ _ _ _ _ _ _ (sym c.misplaced.ensures ∙ c.if-misplaced.true)
+returns-then-misplaced c = ap Err c.at.ensures ∙ order_3 _ _ _ _ _ _ _ (sym c.misplaced.ensures ∙ c.if-misplaced.true)
 
 pub returns-then-table-at : goal.returns-then-table-at
 unfolding cursor_refusal
@@ -27,7 +26,7 @@ returns-then-table-at c =
     let placed : misplaced (wanted_of c.args.wanted) (place_of c.args.c.place) c.args.c.terms (command_is c.args.command) ≡ false = sym c.misplaced.ensures ∙ c.if-misplaced.false in
     let short : length c.args.table.now < c.args.c.at + width (command_is c.args.command) = omega (arith, c.width.ensures, c.if-table-at.true) in
     let cut : ltb (length c.args.table.now) (c.args.c.at + width (command_is c.args.command)) ≡ true = lt-ltb _ _ (short) in
-    ap Refused c.refusal-then-table-at.ensures ∙ order_2 _ _ _ _ _ _ _ (placed) (cut)
+    ap Err c.at-then-table-at.ensures ∙ order_2 _ _ _ _ _ _ _ (placed) (cut)
 
 pub returns-then-miscounted : goal.returns-then-miscounted
 unfolding cursor_refusal
@@ -35,7 +34,7 @@ returns-then-miscounted c =
     let placed : misplaced (wanted_of c.args.wanted) (place_of c.args.c.place) c.args.c.terms (command_is c.args.command) ≡ false = sym c.misplaced.ensures ∙ c.if-misplaced.false in
     let room : c.args.c.at + width (command_is c.args.command) ≤ length c.args.table.now = omega (arith, c.width.ensures, c.if-table-at.false, c.requires.inside) in
     let uncut : ltb (length c.args.table.now) (c.args.c.at + width (command_is c.args.command)) ≡ false = le-ltb _ _ (room) in
-    ap Refused c.refusal-then-miscounted.ensures
+    ap Err c.at-then-miscounted.ensures
     ∙ order_6 _ _ _ _ _ _ _ (placed) (uncut)
     (sym c.miscounted.ensures ∙ c.if-miscounted.true)
 
@@ -46,7 +45,7 @@ returns-then-closes_idle c =
     let room : c.args.c.at + width (command_is c.args.command) ≤ length c.args.table.now = omega (arith, c.width.ensures, c.if-table-at.false, c.requires.inside) in
     let uncut : ltb (length c.args.table.now) (c.args.c.at + width (command_is c.args.command)) ≡ false = le-ltb _ _ (room) in
     let counted : miscounted c.args.c.moves c.args.c.opened (command_is c.args.command) ≡ false = sym c.miscounted.ensures ∙ c.if-miscounted.false in
-    ap Refused c.refusal-then-closes_idle.ensures
+    ap Err c.at-then-closes_idle.ensures
     ∙ order_16 _ _ _ _ _ _ _ (placed) (uncut) (counted)
     (sym c.closes_idle.ensures ∙ c.if-closes_idle.true)
 
@@ -69,8 +68,8 @@ returns-then-wrong-gt0 c =
     let counted : miscounted c.args.c.moves c.args.c.opened (command_is c.args.command) ≡ false = sym c.miscounted.ensures ∙ c.if-miscounted.false in
     let busy : closes_idle (wanted_of c.args.wanted) (place_of c.args.c.place) c.args.c.active (command_is c.args.command) ≡ false = sym c.closes_idle.ensures ∙ c.if-closes_idle.false in
     let wrong : 0 < wrong_at c.args.table.now c.args.c (command_is c.args.command) = subst (λ (n : ℕ). 0 < n) c.wrong_operand-wrong.ensures c.if-wrong-gt0.true in
-    ap Refused c.refusal-then-wrong-gt0.ensures
-    ∙ ap (λ (n : ℕ). Refused (record { number = 4; place = c.args.c.at + n })) c.wrong_operand-wrong.ensures
+    ap Err c.at-then-wrong-gt0.ensures
+    ∙ ap (λ (n : ℕ). Err (record { number = 4; place = c.args.c.at + n })) c.wrong_operand-wrong.ensures
     ∙ order_4 _ _ _ _ _ _ _ (placed) (uncut) (counted) (busy) (wrong)
 
 pub named_again-requires : goal.named_again-requires
@@ -89,7 +88,7 @@ returns-then-named_again c =
     let counted : miscounted c.args.c.moves c.args.c.opened (command_is c.args.command) ≡ false = sym c.miscounted.ensures ∙ c.if-miscounted.false in
     let busy : closes_idle (wanted_of c.args.wanted) (place_of c.args.c.place) c.args.c.active (command_is c.args.command) ≡ false = sym c.closes_idle.ensures ∙ c.if-closes_idle.false in
     let ranged : wrong_at c.args.table.now c.args.c (command_is c.args.command) ≡ 0 = sym c.wrong_operand-wrong.ensures ∙ omega (arith, c.if-wrong-gt0.false) in
-    ap Refused c.refusal-then-named_again.ensures
+    ap Err c.at-then-named_again.ensures
     ∙ order_5 _ _ _ _ _ _ _ (placed) (uncut) (counted) (busy) (ranged)
     (sym c.named_again.ensures ∙ c.if-named_again.true)
 

@@ -5,100 +5,99 @@ use mathlib.Core.Path.{◌≡◌, refl, ap}
 use native.Mathlib.Omega.{arith}
 use lib.Dec.{eqb}
 use lib.ListN.{length, get_or}
-use borrow.Author.Tests.{lt-leb, le-leb}
-use borrow.Author.Rules.{rules}
+use borrow.Author.Tests.{lt-leb, le-leb, lt-ltb}
 use Rattle.model.specs.Limits.{paper}
 use Rattle.model.specs.Command.{width, need_prop, add_prop, delete_prop, close_effect}
+use mathlib.Core.Bool.{false}
+use mathlib.Core.Logic.{inl, inr}
+use mathlib.Core.List.{List}
+use Rattle.command.specs.declared.Command as code
+use Rattle.command.specs.declared.Command.TheVariants.{Head, OpenMove, OpenGoal, EndTable, NeedProp, AddProp, DeleteProp, Term, CloseCondition, CloseEffect, Unknown}
+use Rattle.cursor.specs.declared.Cursor.{Cursor}
 use Rattle.command.specs.Names.{command_is}
 use Rattle.cursor.specs.State.{wrong_at, repeated}
 use Rattle.cursor.proofs.Passing.{need_range, add_range, delete_range, effect_range}
 use Rattle.cursor.proofs.named_again.Goals as goal
 
-pub named-requires : goal.named-requires
-unfolding width command_is
-named-requires c =
-    let uncut5 : c.args.c.at + 2 ≤ length c.args.table.now = rw c.in-NeedProp.is at c.requires.1 in
-    let ranged5 : wrong_at c.args.table.now c.args.c need_prop ≡ 0 = rw c.in-NeedProp.is at c.requires.2 in
-    (omega (arith, uncut5), omega (arith, need_range c.args.table.now c.args.c (ranged5), c.requires.0.props))
+-- a command that names nothing
+unnamed : (t : List ℕ) (c : Cursor) (nd ch af : List ℕ) (k : code.Command) → (k ≡ NeedProp → ⊥) → (k ≡ AddProp → ⊥) → (k ≡ DeleteProp → ⊥) → (k ≡ Term → ⊥) → (k ≡ CloseEffect → ⊥) → false ≡ repeated t c nd ch af (command_is k)
+unfolding command_is repeated
+unnamed t c nd ch af (Head f) a b d e g = refl
+unnamed t c nd ch af OpenMove a b d e g = refl
+unnamed t c nd ch af OpenGoal a b d e g = refl
+unnamed t c nd ch af EndTable a b d e g = refl
+unnamed t c nd ch af NeedProp a b d e g = absurd (a refl)
+unnamed t c nd ch af AddProp a b d e g = absurd (b refl)
+unnamed t c nd ch af DeleteProp a b d e g = absurd (d refl)
+unnamed t c nd ch af Term a b d e g = absurd (e refl)
+unnamed t c nd ch af CloseCondition a b d e g = refl
+unnamed t c nd ch af CloseEffect a b d e g = absurd (g refl)
+unnamed t c nd ch af Unknown a b d e g = refl
 
-pub named-requires-in-AddProp : goal.named-requires-in-AddProp
+pub is_named-requires : goal.is_named-requires
 unfolding width command_is
-named-requires-in-AddProp c =
-    let uncut6 : c.args.c.at + 2 ≤ length c.args.table.now = rw c.in-AddProp.is at c.requires.1 in
-    let ranged6 : wrong_at c.args.table.now c.args.c add_prop ≡ 0 = rw c.in-AddProp.is at c.requires.2 in
-    (omega (arith, uncut6), omega (arith, add_range c.args.table.now c.args.c (ranged6), c.requires.0.props))
+is_named-requires c =
+    let uncut : c.args.c.at + 2 ≤ length c.args.table.now = rw c.in-NeedProp.is at c.requires.1 in
+    let ranged : wrong_at c.args.table.now c.args.c need_prop ≡ 0 = rw c.in-NeedProp.is at c.requires.2 in
+    (omega (arith, uncut), omega (arith, need_range c.args.table.now c.args.c ranged, c.requires.0.props))
 
-pub named-requires-in-DeleteProp : goal.named-requires-in-DeleteProp
+pub is_named-requires-in-AddProp : goal.is_named-requires-in-AddProp
 unfolding width command_is
-named-requires-in-DeleteProp c =
-    let uncut7 : c.args.c.at + 2 ≤ length c.args.table.now = rw c.in-DeleteProp.is at c.requires.1 in
-    let ranged7 : wrong_at c.args.table.now c.args.c delete_prop ≡ 0 = rw c.in-DeleteProp.is at c.requires.2 in
-    (omega (arith, uncut7), omega (arith, delete_range c.args.table.now c.args.c (ranged7), c.requires.0.props))
+is_named-requires-in-AddProp c =
+    let t = c.args.table.now in
+    let k = c.args.c in
+    elim c.in-AddProp.is [
+      | inl e ↦
+          let uncut : k.at + 2 ≤ length t = rw e at c.requires.1 in
+          let ranged : wrong_at t k add_prop ≡ 0 = rw e at c.requires.2 in
+          (omega (arith, uncut), omega (arith, add_range t k ranged, c.requires.0.props))
+      | inr e ↦
+          let uncut : k.at + 2 ≤ length t = rw e at c.requires.1 in
+          let ranged : wrong_at t k delete_prop ≡ 0 = rw e at c.requires.2 in
+          (omega (arith, uncut), omega (arith, delete_range t k ranged, c.requires.0.props))
+    ]
+
+pub byte-requires : goal.byte-requires
+unfolding width command_is
+byte-requires c =
+    let uncut : c.args.c.at + 4 ≤ length c.args.table.now = rw c.in-Term.is at c.requires.1 in
+    omega (arith, uncut)
 
 pub byte-var-requires : goal.byte-var-requires
 unfolding width command_is
 byte-var-requires c =
-    let uncut8 : c.args.c.at + 4 ≤ length c.args.table.now = rw c.in-Term.is at c.requires.1 in
-    omega (arith, uncut8)
+    let uncut : c.args.c.at + 7 ≤ length c.args.table.now = rw c.in-CloseEffect.is at c.requires.1 in
+    omega (arith, uncut)
 
-pub returns-then-var-c : goal.returns-then-var-c
-unfolding command_is repeated paper
-returns-then-var-c c = rw (c.in-Term.is, lt-leb c.args.c.next (get_or c.args.table.now (c.args.c.at + 1) 0) (omega (arith, c.byte-var.ensures.0, c.if-var-c.true))) refl
-
-pub byte-var-requires-in-CloseEffect : goal.byte-var-requires-in-CloseEffect
-unfolding width command_is
-byte-var-requires-in-CloseEffect c =
-    let uncut10 : c.args.c.at + 7 ≤ length c.args.table.now = rw c.in-CloseEffect.is at c.requires.1 in
-    omega (arith, uncut10)
-
-pub bounds-affected-var : goal.bounds-affected-var
+pub bounds-named-var : goal.bounds-named-var
 unfolding command_is
-bounds-affected-var c =
-    let ranged10 : wrong_at c.args.table.now c.args.c close_effect ≡ 0 = rw c.in-CloseEffect.is at c.requires.2 in
-    omega (arith, effect_range c.args.table.now c.args.c (ranged10), c.byte-var-in-CloseEffect.ensures.0, c.requires.0.vars)
-
-pub returns-in-Head : goal.returns-in-Head
-unfolding command_is repeated
-returns-in-Head c = rw c.in-Head.is refl
-
-pub returns-in-OpenMove : goal.returns-in-OpenMove
-unfolding command_is repeated
-returns-in-OpenMove c = rw c.in-OpenMove.is refl
-
-pub returns-in-OpenGoal : goal.returns-in-OpenGoal
-unfolding command_is repeated
-returns-in-OpenGoal c = rw c.in-OpenGoal.is refl
-
-pub returns-in-EndTable : goal.returns-in-EndTable
-unfolding command_is repeated
-returns-in-EndTable c = rw c.in-EndTable.is refl
+bounds-named-var c =
+    let ranged : wrong_at c.args.table.now c.args.c close_effect ≡ 0 = rw c.in-CloseEffect.is at c.requires.2 in
+    omega (arith, effect_range c.args.table.now c.args.c ranged, c.byte-var.ensures.0, c.requires.0.vars)
 
 pub returns-in-NeedProp : goal.returns-in-NeedProp
 unfolding command_is repeated
-returns-in-NeedProp c = rw c.in-NeedProp.is c.named.ensures
+returns-in-NeedProp c = rw c.in-NeedProp.is c.is_named.ensures
 
 pub returns-in-AddProp : goal.returns-in-AddProp
 unfolding command_is repeated
-returns-in-AddProp c = rw c.in-AddProp.is c.named-in-AddProp.ensures
+returns-in-AddProp c = elim c.in-AddProp.is [ inl e ↦ rw e c.is_named-in-AddProp.ensures | inr e ↦ rw e c.is_named-in-AddProp.ensures ]
 
-pub returns-in-DeleteProp : goal.returns-in-DeleteProp
-unfolding command_is repeated
-returns-in-DeleteProp c = rw c.in-DeleteProp.is c.named-in-DeleteProp.ensures
-
-pub returns-else-var-c : goal.returns-else-var-c
+pub returns-then-byte-c : goal.returns-then-byte-c
 unfolding command_is repeated paper
-returns-else-var-c c = rw (c.in-Term.is, le-leb c.args.c.next (get_or c.args.table.now (c.args.c.at + 1) 0) (omega (arith, c.byte-var.ensures.0, c.if-var-c.false))) refl
+returns-then-byte-c c = rw (c.in-Term.is, lt-leb c.args.c.next (get_or c.args.table.now (c.args.c.at + 1) 0) (omega (arith, c.byte.ensures.0, c.if-byte-c.true))) (lt-ltb _ _ c.if-byte-c.true)
 
-pub returns-in-CloseCondition : goal.returns-in-CloseCondition
-unfolding command_is repeated
-returns-in-CloseCondition c = rw c.in-CloseCondition.is refl
+pub returns-else-byte-c : goal.returns-else-byte-c
+unfolding command_is repeated paper
+returns-else-byte-c c = rw (c.in-Term.is, le-leb c.args.c.next (get_or c.args.table.now (c.args.c.at + 1) 0) (omega (arith, c.byte.ensures.0, c.if-byte-c.false))) refl
 
 pub returns-in-CloseEffect : goal.returns-in-CloseEffect
 unfolding command_is repeated
 returns-in-CloseEffect c =
     rw c.in-CloseEffect.is
-    (ap (λ (p : ℕ). eqb (get_or c.args.affected.now p 0) c.args.c.stamp) c.byte-var-in-CloseEffect.ensures.0)
+    (ap (λ (p : ℕ). eqb (get_or c.args.named.now.affected p 0) c.args.c.stamp) c.byte-var.ensures.0)
 
-pub returns-in-Unknown : goal.returns-in-Unknown
-unfolding command_is repeated
-returns-in-Unknown c = rw c.in-Unknown.is refl
+pub returns-in_default : goal.returns-in_default
+returns-in_default c =
+    let d = c.in_default in
+    unnamed _ _ _ _ _ _ d.not-NeedProp d.not-AddProp d.not-DeleteProp d.not-Term d.not-CloseEffect

@@ -1,10 +1,9 @@
 -- `descend` meets its contract. Assumes nothing.
 use Prim.Native.Nat.{◌-◌}
 use native.Mathlib.Omega.{arith}
-use mathlib.Core.Path.{refl, sym}
+use mathlib.Core.Path.{refl}
 use Rattle.stored_layer.specs.Stored.{stored_props, stored_vars, stored_moves, stored_entries, stored_room}
 use Rattle.descent.specs.Layers.{layer_carriable, layer_props, layer_values, layer_descended}
-use borrow.Author.Rules.{rules}
 use Rattle.descent.proofs.descend.Goals as goal
 
 pub overflow_sub-lower : goal.overflow_sub-lower
@@ -39,12 +38,6 @@ pub low_row-requires : goal.low_row-requires
 low_row-requires c =
     let p = c.requires.0 in
     (omega (arith, stored_vars p.stored.memory, c.read_row.ensures.long), omega (arith, p.start_is.long, p.stored.memory.vars_is), stored_vars p.stored.memory, refl)
-
-pub slice_bounds-take_values-end : goal.slice_bounds-take_values-end
-slice_bounds-take_values-end c = sym c.read_entries-2.ensures.long
-
-pub slice_bounds-take_values-end-2 : goal.slice_bounds-take_values-end-2
-slice_bounds-take_values-end-2 c = sym c.read_row.ensures.long
 
 pub carry_down-carried-requires : goal.carry_down-carried-requires
 carry_down-carried-requires c =

@@ -3,7 +3,6 @@ use native.Mathlib.Omega.{arith}
 use mathlib.Core.Path.{refl}
 use Rattle.stored_layer.specs.Stored.{stored_vars, stored_room}
 use Rattle.descent.specs.Layers.{goal_part_in, start_long, goal_wantable, goal_wanted}
-use borrow.Author.Rules.{rules}
 use Rattle.descent.proofs.want_goal.Goals as goal
 
 pub overflow_mul-vars : goal.overflow_mul-vars
@@ -20,16 +19,16 @@ low_row-requires c =
     let p = c.requires in
     (omega (arith, stored_vars p.stored.memory, c.read_row.ensures.long), start_long p, stored_vars p.stored.memory, refl)
 
-pub part-part-requires : goal.part-part-requires
-part-part-requires c = goal_part_in c.requires
+pub part-requires : goal.part-requires
+part-requires c = goal_part_in c.requires
 
 pub want_block-requires : goal.want_block-requires
-want_block-requires c = goal_wantable c.requires c.read_row.ensures c.low_row.ensures c.part-part.ensures.0 c.none.ensures
+want_block-requires c = goal_wantable c.requires c.read_row.ensures c.low_row.ensures c.part.ensures.0 c.none.ensures
 
 pub returns : goal.returns
 returns c x =
     let row = c.read_row.ensures in
     let lows = c.low_row.ensures in
-    let e = c.part-part.ensures.0 in
+    let e = c.part.ensures.0 in
     let f = c.none.ensures in
     goal_wanted x row lows e f (c.want_block.ensures (goal_wantable x row lows e f))

@@ -1,5 +1,7 @@
 -- `lapyndo_rig_campaign` meets its contract. Assumes nothing.
 use mathlib.Core.Path.{ap, ◌∙◌}
+use Rattle.std.specs.Prelude.{Result}
+use Rattle.model.specs.declared.Refusal.{Refusal}
 use Rattle.model.specs.declared.PlanAnswer.{PlanAnswer}
 use Rattle.model.specs.Exports.{decide_code, plan_code, plan_record_count, plan_first_moves}
 use Rattle.ceiling.proofs.Theorems.Sizes.{campaign_decision_small_under, campaign_plan_small_under}
@@ -23,8 +25,8 @@ returns c =
     let a = c.args in (
       c.plan_code.ensures.0 ∙ ap plan_code plan,
       c.decide_code.ensures ∙ ap decide_code decision,
-      c.plan_code.ensures.1 ∙ ap (λ (p : PlanAnswer). plan_record_count p a.records.now) plan,
-      c.plan_code.ensures.2 ∙ ap (λ (p : PlanAnswer). plan_first_moves p a.first.now) plan,
+      c.plan_code.ensures.1 ∙ ap (λ (p : Result PlanAnswer Refusal). plan_record_count p a.records.now) plan,
+      c.plan_code.ensures.2 ∙ ap (λ (p : Result PlanAnswer Refusal). plan_first_moves p a.first.now) plan,
       rw board at e.normal,
       rw board at e.memory,
       list,

@@ -1,5 +1,7 @@
 -- `lapyndo_rig_plan` meets its contract. Assumes nothing.
 use mathlib.Core.Path.{ap, ◌∙◌}
+use Rattle.std.specs.Prelude.{Result}
+use Rattle.model.specs.declared.Refusal.{Refusal}
 use Rattle.model.specs.declared.PlanAnswer.{PlanAnswer}
 use Rattle.model.specs.Exports.{plan_code, plan_record_count, plan_first_moves}
 use Rattle.ceiling.proofs.Theorems.Sizes.{plan_small_under}
@@ -16,6 +18,6 @@ returns c =
       c.plan_code.ensures.0 ∙ ap plan_code e.0,
       e.1,
       e.2,
-      c.plan_code.ensures.1 ∙ ap (λ (p : PlanAnswer). plan_record_count p a.records.now) e.0,
-      c.plan_code.ensures.2 ∙ ap (λ (p : PlanAnswer). plan_first_moves p a.first.now) e.0,
+      c.plan_code.ensures.1 ∙ ap (λ (p : Result PlanAnswer Refusal). plan_record_count p a.records.now) e.0,
+      c.plan_code.ensures.2 ∙ ap (λ (p : Result PlanAnswer Refusal). plan_first_moves p a.first.now) e.0,
     )

@@ -8,7 +8,6 @@ use Rattle.block.specs.Blocks.{layer_summable, layer_effect_value, effect_base}
 use Rattle.targets.specs.Encoding.{is_free}
 use Rattle.achievers.specs.Search.{demand_by, demand_code}
 use Rattle.helpful.specs.Support.{new_free, new_had, new_tested}
-use borrow.Author.Rules.{rules}
 use Rattle.helpful.proofs.reaches_new.Goals as goal
 
 pub returns-then-is_free : goal.returns-then-is_free

@@ -1,27 +1,22 @@
--- `copy` meets its contract. The invariant: the first `i` bytes are copied. The measure is the number of bytes that are left. Assumes nothing.
-use Prim.Native.Nat.{◌-◌}
-use native.Mathlib.Omega.{arith}
-use native.Mathlib.Numerals.{add-one}
-use lib.ListN.{length}
-use borrow.Author.Rules.{rules}
-use borrow.Author.Tests.{ltb-true, ltb-false}
-use Rattle.integer.specs.Copying.{Copied, copied_none, copied_length, copied_next, copied_full, copied_whole}
+-- `copy` meets its contract: the bytes of both slices up to the shorter one's length. Assumes nothing.
+use Rattle.std.specs.Prelude.{ℕ, ◌+◌, ◌≡◌, List, ◌++◌, length, take, drop, min}
+use Rattle.std.proofs.Common.{arith, ap, ◌∙◌}
+use Rattle.std.proofs.lemmas.List.{length-take, take_min}
+use Rattle.integer.specs.Store.{put}
 use Rattle.integer.proofs.copy.Goals as goal
 
-pub loop-i-init : goal.loop-i-init
-loop-i-init c = copied_none _ _
+copied :
+    (part old : List ℕ) {n : ℕ}
+    → n ≡ min (length old) (length part)
+    → take n part ++ drop n old ≡ put old 0 (take (length old) part)
+unfolding put
+copied part old {n} e =
+    let first = take (length old) part in
+    let same : take n part ≡ first = ap (λ (k : ℕ). take k part) e ∙ take_min (length old) part in
+    let size : n ≡ 0 + length first = omega (arith, e, length-take (length old) part) in
+    ap (λ (l : List ℕ). l ++ drop n old) same ∙ ap (λ (k : ℕ). first ++ drop k old) size
 
-pub loop-i-smaller : goal.loop-i-smaller
-loop-i-smaller c = omega (arith, ltb-true)
-
-pub loop-i-preserved : goal.loop-i-preserved
-loop-i-preserved c =
-    rw (add-one c.loop-i.i)
-    (copied_next c.loop-i.invariant (omega (arith, ltb-true))
-    (omega (arith, copied_length c.loop-i.invariant)))
-
-pub returns-else-i-from : goal.returns-else-i-from
-returns-else-i-from c = copied_whole c.loop-i.invariant (omega (arith, ltb-false))
-
-pub returns-after-loop-i : goal.returns-after-loop-i
-returns-after-loop-i c = copied_full c.loop-i.invariant (omega (arith, copied_length c.loop-i.invariant))
+pub returns : goal.returns
+returns c =
+    ap (λ (l : List ℕ). l ++ drop c.min-n.result c.args.out.now) c.copy_from_slice.ensures.after
+    ∙ copied c.args.from.now c.args.out.now c.min-n.ensures

@@ -1,8 +1,6 @@
 -- `put_unsigned` meets its contract. The invariant: the last `done` bytes are stored.
--- The measure is what is left of the width. Assumes nothing.
-use Prim.Native.Nat.{◌-◌}
+-- Assumes nothing.
 use native.Mathlib.Omega.{arith}
-use Rattle.integer.specs.Store.{Stored}
 use Rattle.integer.proofs.Store.{stored_none, stored_length, stored_next, stored_all}
 use Rattle.integer.proofs.put_unsigned.Goals as goal
 

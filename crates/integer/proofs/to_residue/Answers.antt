@@ -3,11 +3,9 @@
 use Prim.Native.Nat.{ℕ, ◌<◌, ◌≤◌, ◌^◌}
 use mathlib.Core.Path.{◌≡◌, refl}
 use native.Mathlib.Omega.{arith}
-use lib.Dec.{T}
 use lib.IntN.{ℤ, pos, nat_abs, ◌+ℤ◌}
-use lib.Signed.{non_neg}
 use mir.Syntax.{w64}
-use mir.Val.{Fits, SFits, to_z, of_z}
+use mir.Val.{SFits, to_z, of_z}
 use Rattle.integer.specs.BigEndian.{residue}
 use Rattle.integer.proofs.BigEndian.{residue_small, residue_neg, residue_nonneg}
 use Rattle.integer.specs.Linear.{lt_true, lt_false, small_fits, back, back_small}

@@ -1,6 +1,5 @@
 -- `note_moves` meets its contract. Assumes nothing.
 use Rattle.layer_memory.specs.Storing.{notes_moves}
-use borrow.Author.Rules.{rules}
 use Rattle.layer_memory.proofs.note_moves.Goals as goal
 
 pub returns : goal.returns

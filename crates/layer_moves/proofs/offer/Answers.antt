@@ -15,7 +15,7 @@ returns-then-reaches c =
     let told : (x : Value) → c.args.value ≡ encode x → c.reaches.result ≡ reaches x (pos 1) = rw (back c.args.value c.ranges.value.sfits) at c.reaches.ensures in
     offer_unbounded c.if-kind-eq0.false (told) c.if-reaches.true
 
-pub returns : goal.returns
-returns c =
+pub returns-else-reaches : goal.returns-else-reaches
+returns-else-reaches c =
     let told : (x : Value) → c.args.value ≡ encode x → c.reaches.result ≡ reaches x (pos 1) = rw (back c.args.value c.ranges.value.sfits) at c.reaches.ensures in
     rw (back c.args.old c.ranges.old.sfits) (offer_old c.if-kind-eq0.false (told) c.if-reaches.false)

@@ -1,11 +1,12 @@
 -- `raise` meets its contract. Assumes nothing.
-use mathlib.Core.Path.{◌∙◌, sym, ap}
+use mathlib.Core.Path.{◌∙◌, sym, ap, ap₂}
 use lib.IntN.{pos}
 use lib.ListN.{get_or, set}
+use Rattle.std.specs.Int.{int_max}
 use Rattle.integer.specs.Linear.{back}
+use Rattle.integer.proofs.Operators.{max_larger}
 use Rattle.layer_moves.specs.Raising.{IsOffer, raisable_summable, raisable_row, raisable_next, raisable_base, raised_by, raised_already}
 use native.Mathlib.Omega.{arith}
-use borrow.Author.Rules.{rules}
 use Rattle.layer_moves.proofs.raise.Goals as goal
 
 pub offset_bounds-next-var : goal.offset_bounds-next-var
@@ -36,5 +37,11 @@ returns c =
     let value = rw (back a.base c.ranges.base.sfits) at v.ensures in
     let offered : IsOffer a.kind v.result (get_or a.row.now a.var (pos 0)) z =
     rw (back v.result v.type_inv, back _ c.old-1.given) at c.offer-offered.ensures in
-    let up = rw (back z c.offer-offered.type_inv, back _ c.so_far-1.given) at c.larger.ensures in
-    raised_by value offered (ap (set a.next.now a.var) (back c.larger.result c.larger.type_inv ∙ up))
+    let so_far = get_or a.next.now a.var (pos 0) in
+    raised_by value offered
+    (ap (set a.next.now a.var)
+    (
+    back c.max.result c.max.type_inv
+    ∙ c.max.ensures.value ∙ ap₂ int_max (back so_far c.so_far-1.given) (back z c.offer-offered.type_inv)
+    ∙ max_larger so_far z
+    ))

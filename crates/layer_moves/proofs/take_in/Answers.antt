@@ -11,15 +11,15 @@ apply-requires c = takeable_appliable c.requires
 
 pub returns-then-usable : goal.returns-then-usable
 returns-then-usable c =
-    let told : IsUsableAgain c.args.part.now c.args.before c.args.has.now c.args.row.now c.if-before.usable = elim c.if-before.branch [
+    let told : IsUsableAgain c.args.part.now c.args.before c.args.layer.now.has c.args.layer.now.row c.if-before.usable = elim c.if-before.branch [
       | then-before w ↦ usable_before w.if-before.true w.usable-is
       | else-before w ↦ usable_tested w.usable-usable.ensures w.usable-is
     ] in
     taken_usable (told) c.if-usable.true c.apply.ensures
 
-pub returns : goal.returns
-returns c =
-    let told : IsUsableAgain c.args.part.now c.args.before c.args.has.now c.args.row.now c.if-before.usable = elim c.if-before.branch [
+pub returns-else-usable : goal.returns-else-usable
+returns-else-usable c =
+    let told : IsUsableAgain c.args.part.now c.args.before c.args.layer.now.has c.args.layer.now.row c.if-before.usable = elim c.if-before.branch [
       | then-before w ↦ usable_before w.if-before.true w.usable-is
       | else-before w ↦ usable_tested w.usable-usable.ensures w.usable-is
     ] in

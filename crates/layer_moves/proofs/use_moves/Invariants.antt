@@ -1,11 +1,6 @@
--- `use_moves` meets its contract. The invariant: the moves passed are taken in. The measure is the number of moves left. Assumes nothing.
-use Prim.Native.Nat.{◌-◌, ◌≤◌}
-use Rattle.layer_moves.specs.UsingMoves.{UsingMoves, using_start, using_next, using_end, ready_part, ready_takeable}
-use native.Mathlib.Omega.{arith}
+-- `use_moves` meets its contract. The invariant: the moves passed are taken in. Assumes nothing.
+use Rattle.layer_moves.specs.UsingMoves.{UsingMoves}
 use Rattle.layer_moves.proofs.use_moves.Given as goal
 
 abbrev pub invariant-loop-b : goal.invariant-loop-b
-invariant-loop-b l = (l.b ≤ l.moves) × UsingMoves l.table l.marks l.moves l.has l.row l.initial.flags l.initial.next l.initial.used l.b l.flags l.next l.used
-
-abbrev pub decreases-loop-b : goal.decreases-loop-b
-decreases-loop-b l = l.moves - l.b
+invariant-loop-b l = UsingMoves l.blocks.table.now l.blocks.marks.now l.blocks.moves l.layer.has l.layer.row l.initial.next.has l.initial.next.row l.initial.used l.b l.next.has l.next.row l.used

@@ -1,6 +1,6 @@
 -- `normalise` meets its contract: a refusal of the table, or what `write` answers. Assumes nothing.
 use native.Mathlib.Omega.{arith}
-use borrow.Author.Rules.{rules}
+use Rattle.std.proofs.lemmas.Result.{err_from_is_err_and}
 use Rattle.model.specs.Task.{written}
 use Rattle.table.specs.Names.{wanted_of}
 use Rattle.table.specs.Outlines.{head_read, head_refused}
@@ -9,16 +9,16 @@ use Rattle.normal.proofs.normalise.Goals as goal
 
 pub write-requires : goal.write-requires
 unfolding wanted_of
-write-requires c = head_read written c.outline.ensures c.in-Head.is (record { each = λ i. omega (arith, c.shared_slice_known-1.given i) })
+write-requires c = rw c.new.ensures (head_read written c.outline.ensures c.in_ok-head.was (record { each = λ i. omega (arith, c.type_inv.table i) }))
 
-pub returns-in-Head : goal.returns-in-Head
+pub returns : goal.returns
 unfolding wanted_of
-returns-in-Head c =
-    let h = head_read written c.outline.ensures c.in-Head.is (record { each = λ i. omega (arith, c.shared_slice_known-1.given i) }) in
-    normalise_written h c.write.ensures
+returns c =
+    let h = head_read written c.outline.ensures c.in_ok-head.was (record { each = λ i. omega (arith, c.type_inv.table i) }) in
+    normalise_written h (rw c.new.ensures at c.write.ensures)
 
-pub returns-in-Refused : goal.returns-in-Refused
+pub returns-in_err-head : goal.returns-in_err-head
 unfolding wanted_of
-returns-in-Refused c =
-    let a = c.args in
-    normalise_refused a.table.now a.out.now (head_refused written c.outline.ensures c.in-Refused.is)
+returns-in_err-head c =
+    let p = err_from_is_err_and c.from_residual.result c.from_residual.ensures.1 in
+    rw (p.1, p.2) (normalise_refused c.args.table.now c.args.out.now (head_refused written c.outline.ensures c.in_err-head.was))

@@ -1,11 +1,7 @@
 -- `put_head` meets its contract: two stores side by side. Assumes nothing.
-use native.Mathlib.Omega.{arith}
 use Rattle.model.specs.Command.{code_of}
 use Rattle.output.specs.Writing.{written_join}
 use Rattle.normal.proofs.put_head.Goals as goal
-
-pub put_pair-requires : goal.put_pair-requires
-put_pair-requires c = omega (arith, c.put_pair-next.ensures.behind)
 
 pub returns : goal.returns
 unfolding code_of

@@ -3,16 +3,11 @@ use Rattle.reader.specs.Written.{head_source, head_heads}
 use Rattle.output.specs.Answers.{answered_thirteen, answered_put}
 use Rattle.normal.proofs.write.Goals as goal
 
-pub too_short-requires : goal.too_short-requires
-too_short-requires c = c.requires
-
 pub returns-then-too_short : goal.returns-then-too_short
-returns-then-too_short c = answered_thirteen c.too_short.ensures c.if-too_short.true
+returns-then-too_short c = rw c.at.ensures (answered_thirteen c.too_short.ensures c.if-too_short.true)
 
-pub put_table-size-requires : goal.put_table-size-requires
-put_table-size-requires c = let h = c.requires in (head_source h, head_heads h)
+pub put_table-requires : goal.put_table-requires
+put_table-requires c = (head_source c.requires, head_heads c.requires)
 
 pub returns : goal.returns
-returns c =
-    answered_put c.too_short.ensures c.if-too_short.false
-    c.put_table-size.ensures
+returns c = answered_put c.too_short.ensures c.if-too_short.false c.put_table.ensures

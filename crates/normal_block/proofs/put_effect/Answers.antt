@@ -7,14 +7,8 @@ use Rattle.normal_condition.specs.Sums.{close_short}
 use Rattle.normal_block.specs.Effects.{effect_bytes}
 use Rattle.normal_block.proofs.put_effect.Goals as goal
 
-pub put_sum-close-requires : goal.put_sum-close-requires
-put_sum-close-requires c = (c.requires.0, c.requires.1)
-
 pub put_pair-changed-requires : goal.put_pair-changed-requires
 put_pair-changed-requires c = omega (arith, close_short _ c.requires.0 c.requires.1 c.put_sum-close.ensures)
-
-pub overflow_cast-var : goal.overflow_cast-var
-overflow_cast-var c = omega (arith, c.requires.2)
 
 pub put_byte-base-requires : goal.put_byte-base-requires
 put_byte-base-requires c =

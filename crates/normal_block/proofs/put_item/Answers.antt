@@ -1,43 +1,12 @@
 -- `put_item` meets its contract, by the kind of the item. Assumes nothing.
 use native.Mathlib.Omega.{arith}
 use mathlib.Core.Path.{sym, ap, subst}
-use borrow.Author.Rules.{rules}
 use Rattle.integer.specs.Linear.{back_small}
 use Rattle.model.specs.Command.{code_of}
 use Rattle.output.specs.Writing.{written_same, written_none}
 use Rattle.block.specs.Remaining.{Writable}
 use Rattle.normal_block.specs.Blocks.{print_of}
 use Rattle.normal_block.proofs.put_item.Goals as goal
-
-pub overflow_cast-prop : goal.overflow_cast-prop
-overflow_cast-prop c = omega (arith, subst (Writable c.args.part.now) c.in-Need.is c.requires.0)
-
-pub put_pair-requires : goal.put_pair-requires
-put_pair-requires c = omega (arith, c.requires.1)
-
-pub overflow_cast-prop-in-Add : goal.overflow_cast-prop-in-Add
-overflow_cast-prop-in-Add c = omega (arith, subst (Writable c.args.part.now) c.in-Add.is c.requires.0)
-
-pub put_pair-requires-in-Add : goal.put_pair-requires-in-Add
-put_pair-requires-in-Add c = omega (arith, c.requires.1)
-
-pub overflow_cast-prop-in-Delete : goal.overflow_cast-prop-in-Delete
-overflow_cast-prop-in-Delete c = omega (arith, subst (Writable c.args.part.now) c.in-Delete.is c.requires.0)
-
-pub put_pair-requires-in-Delete : goal.put_pair-requires-in-Delete
-put_pair-requires-in-Delete c = omega (arith, c.requires.1)
-
-pub put_comparison-requires : goal.put_comparison-requires
-put_comparison-requires c =
-    let e = c.in-Condition.is in
-    let w = subst (Writable c.args.part.now) e c.requires.0 in
-    rw (back_small c.in-Condition.bound (omega (arith, w.bound))) (w.sum, c.requires.1, w.bound, w.comparison)
-
-pub put_kind-requires : goal.put_kind-requires
-put_kind-requires c =
-    let e = c.in-Effect.is in
-    let w = subst (Writable c.args.part.now) e c.requires.0 in
-    rw (back_small c.in-Effect.base (omega (arith, w.base))) (w.sum, c.requires.1, w.kind, w.var, w.base)
 
 pub returns-in-Need : goal.returns-in-Need
 unfolding print_of code_of

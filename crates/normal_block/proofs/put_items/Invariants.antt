@@ -1,12 +1,10 @@
 -- `put_items` meets its contract. The invariant: in every reading, the items before `at` are written. The measure is what is left
 -- of the part. Assumes nothing.
 use Prim.Native.Nat.{◌-◌}
-use native.Mathlib.Omega.{arith}
 use lib.ListN.{length}
 use Rattle.model.specs.Task.{Block}
-use Rattle.block.specs.Items.{next_ahead}
-use Rattle.block.specs.Remaining.{Remaining, remaining_readable}
-use Rattle.normal_block.specs.Blocks.{ItemsWriting, items_start, items_split, items_short, items_step, items_end}
+use Rattle.block.specs.Remaining.{Remaining}
+use Rattle.normal_block.specs.Blocks.{ItemsWriting}
 use Rattle.normal_block.proofs.put_items.Given as goal
 
 abbrev pub invariant-loop-at : goal.invariant-loop-at

@@ -1,12 +1,8 @@
 -- `put_at_least` meets its contract: the sum and the constant as they are. Assumes nothing.
-use native.Mathlib.Omega.{arith}
 use Rattle.integer.specs.Linear.{back}
 use Rattle.model.specs.NormalForm.{normal_condition}
 use Rattle.normal_condition.specs.Signs.{negate_sum_if}
 use Rattle.normal_condition.proofs.put_at_least.Goals as goal
-
-pub put_condition-requires : goal.put_condition-requires
-put_condition-requires c = rw (back c.args.c c.ranges.c.sfits) (c.requires.0, omega (arith, c.requires.1), omega (arith, c.requires.2))
 
 pub returns : goal.returns
 unfolding normal_condition negate_sum_if

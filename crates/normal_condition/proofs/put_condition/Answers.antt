@@ -9,9 +9,6 @@ use Rattle.normal_condition.specs.Sums.{close_short}
 use Rattle.normal_condition.specs.Conditions.{least_bytes}
 use Rattle.normal_condition.proofs.put_condition.Goals as goal
 
-pub put_sum-close-requires : goal.put_sum-close-requires
-put_sum-close-requires c = (c.requires.0, c.requires.1)
-
 pub put_pair-bound-requires : goal.put_pair-bound-requires
 put_pair-bound-requires c = omega (arith, close_short _ c.requires.0 c.requires.1 c.put_sum-close.ensures)
 
@@ -27,4 +24,4 @@ returns c =
     written_same
     (written_join c.put_sum-close.ensures
     (written_join c.put_pair-bound.ensures (rw (back a.c c.ranges.c.sfits) at c.put_i32.ensures)))
-    (sym (least_bytes a.negated (terms_at a.part.now a.from a.n) a.c))
+    (sym (least_bytes a.negated (terms_at a.terms.now.part.now a.terms.now.from a.terms.now.count) a.c))

@@ -2,7 +2,6 @@
 -- Assumes nothing.
 use mathlib.Core.Path.{◌≡◌, ◌∙◌}
 use lib.IntN.{pos, negsuc}
-use borrow.Author.Rules.{rules}
 use Rattle.model.specs.Limits.{paper}
 use Rattle.integer.specs.Linear.{back}
 use Rattle.operand.specs.Ranges.{between, base_between}

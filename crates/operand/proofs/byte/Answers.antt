@@ -1,7 +1,6 @@
 -- `byte` meets its contract.
 -- Assumes nothing.
 use native.Mathlib.Omega.{arith}
-use borrow.Author.Rules.{rules}
 use Rattle.operand.proofs.byte.Goals as goal
 
 pub returns : goal.returns

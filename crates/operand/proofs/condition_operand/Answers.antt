@@ -1,7 +1,6 @@
 -- `condition_operand` meets its contract: the first of two operands that is out of range.
 -- Assumes nothing.
 use mathlib.Core.Path.{◌∙◌}
-use borrow.Author.Tests.{not-true, not-false}
 use borrow.Author.Rules.{rules}
 use Rattle.integer.specs.Linear.{back}
 use Rattle.model.specs.Limits.{paper, comparison_in_range, bound_in_range}

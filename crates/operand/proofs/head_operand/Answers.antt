@@ -1,6 +1,5 @@
 -- `head_operand` meets its contract: the first of three operands that is out of range.
 -- Assumes nothing.
-use borrow.Author.Tests.{not-true, not-false}
 use borrow.Author.Rules.{rules}
 use Rattle.model.specs.Limits.{paper, vars_in_range}
 use Rattle.model.specs.Command.{width}

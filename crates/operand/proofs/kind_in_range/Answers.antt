@@ -1,7 +1,6 @@
 -- `kind_in_range` meets its contract, by the form.
 -- Assumes nothing.
 use mathlib.Core.Path.{refl}
-use borrow.Author.Rules.{rules}
 use Rattle.model.specs.Limits.{kind_in_range}
 use Rattle.command.specs.Names.{form_of}
 use Rattle.operand.proofs.kind_in_range.Goals as goal

@@ -1,11 +1,10 @@
 -- `weight_in_range` meets its contract, by the form.
 -- Assumes nothing.
 use mathlib.Core.Path.{◌∙◌}
-use borrow.Author.Rules.{rules}
 use Rattle.model.specs.Limits.{paper}
 use Rattle.integer.specs.Linear.{back}
 use Rattle.command.specs.Names.{form_of}
-use Rattle.operand.specs.Ranges.{between, weight_written, weight_normal}
+use Rattle.operand.specs.Ranges.{weight_written, weight_normal}
 use Rattle.operand.proofs.weight_in_range.Goals as goal
 
 pub returns-in-Written : goal.returns-in-Written

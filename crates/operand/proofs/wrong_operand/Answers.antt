@@ -1,7 +1,7 @@
 -- `wrong_operand` meets its contract, command by command.
 -- Assumes nothing.
+use mathlib.Core.Logic.{inl, inr}
 use mathlib.Core.Path.{refl, sym, ◌∙◌}
-use borrow.Author.Rules.{rules}
 use Rattle.model.specs.Command.{width}
 use Rattle.model.specs.Seen.{byte_after, number_after}
 use Rattle.model.specs.Reading.{operands, first_wrong}
@@ -15,15 +15,7 @@ head_operand-requires c = rw c.in-Head.is at c.requires
 
 pub prop_operand-requires : goal.prop_operand-requires
 unfolding width command_is
-prop_operand-requires c = rw c.in-NeedProp.is at c.requires
-
-pub prop_operand-requires-in-AddProp : goal.prop_operand-requires-in-AddProp
-unfolding width command_is
-prop_operand-requires-in-AddProp c = rw c.in-AddProp.is at c.requires
-
-pub prop_operand-requires-in-DeleteProp : goal.prop_operand-requires-in-DeleteProp
-unfolding width command_is
-prop_operand-requires-in-DeleteProp c = rw c.in-DeleteProp.is at c.requires
+prop_operand-requires c = elim c.in-NeedProp.is [ inl e ↦ rw e at c.requires | inr (inl e) ↦ rw e at c.requires | inr (inr e) ↦ rw e at c.requires ]
 
 pub term_operand-requires : goal.term_operand-requires
 unfolding width command_is
@@ -41,29 +33,14 @@ pub returns-in-Head : goal.returns-in-Head
 unfolding command_is wrong_operand operands byte_after number_after view_at
 returns-in-Head c = c.head_operand.ensures ∙ sym (rw c.in-Head.is refl)
 
-pub returns-in-OpenMove : goal.returns-in-OpenMove
-unfolding command_is wrong_operand operands byte_after number_after view_at offset_of first_wrong
-returns-in-OpenMove c = rw c.in-OpenMove.is refl
-
-pub returns-in-OpenGoal : goal.returns-in-OpenGoal
-unfolding command_is wrong_operand operands byte_after number_after view_at offset_of first_wrong
-returns-in-OpenGoal c = rw c.in-OpenGoal.is refl
-
-pub returns-in-EndTable : goal.returns-in-EndTable
-unfolding command_is wrong_operand operands byte_after number_after view_at offset_of first_wrong
-returns-in-EndTable c = rw c.in-EndTable.is refl
-
 pub returns-in-NeedProp : goal.returns-in-NeedProp
 unfolding command_is wrong_operand operands byte_after number_after view_at
-returns-in-NeedProp c = c.prop_operand.ensures ∙ sym (rw c.in-NeedProp.is refl)
-
-pub returns-in-AddProp : goal.returns-in-AddProp
-unfolding command_is wrong_operand operands byte_after number_after view_at
-returns-in-AddProp c = c.prop_operand-in-AddProp.ensures ∙ sym (rw c.in-AddProp.is refl)
-
-pub returns-in-DeleteProp : goal.returns-in-DeleteProp
-unfolding command_is wrong_operand operands byte_after number_after view_at
-returns-in-DeleteProp c = c.prop_operand-in-DeleteProp.ensures ∙ sym (rw c.in-DeleteProp.is refl)
+returns-in-NeedProp c =
+    elim c.in-NeedProp.is [
+      | inl e ↦ c.prop_operand.ensures ∙ sym (rw e refl)
+      | inr (inl e) ↦ c.prop_operand.ensures ∙ sym (rw e refl)
+      | inr (inr e) ↦ c.prop_operand.ensures ∙ sym (rw e refl)
+    ]
 
 pub returns-in-Term : goal.returns-in-Term
 unfolding command_is wrong_operand operands byte_after number_after view_at
@@ -77,6 +54,12 @@ pub returns-in-CloseEffect : goal.returns-in-CloseEffect
 unfolding command_is wrong_operand operands byte_after number_after view_at
 returns-in-CloseEffect c = c.effect_operand.ensures ∙ sym (rw c.in-CloseEffect.is refl)
 
-pub returns-in-Unknown : goal.returns-in-Unknown
+pub returns-in-OpenMove : goal.returns-in-OpenMove
 unfolding command_is wrong_operand operands byte_after number_after view_at offset_of first_wrong
-returns-in-Unknown c = rw c.in-Unknown.is refl
+returns-in-OpenMove c =
+    elim c.in-OpenMove.is [
+      | inl e ↦ rw e refl
+      | inr (inl e) ↦ rw e refl
+      | inr (inr (inl e)) ↦ rw e refl
+      | inr (inr (inr e)) ↦ rw e refl
+    ]

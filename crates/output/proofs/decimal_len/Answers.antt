@@ -2,7 +2,7 @@
 -- Assumes nothing.
 use native.Mathlib.Omega.{arith}
 use Rattle.model.proofs.Theorems.Printing.Decimals.{decimal_word}
-use Rattle.output.specs.Digits.{Counted, counted_none, counted_next, counted_all}
+use Rattle.output.specs.Digits.{counted_none, counted_next, counted_all}
 use Rattle.output.proofs.decimal_len.Goals as goal
 
 pub loop-rest-init : goal.loop-rest-init

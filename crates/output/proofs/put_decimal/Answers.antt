@@ -1,10 +1,8 @@
 -- `put_decimal` meets its contract. The invariant: the digits behind the `nth` from the end are stored. The measure is the
 -- number that is left. Assumes nothing.
 use native.Mathlib.Omega.{arith}
-use lib.ListN.{length-set}
-use borrow.Author.Rules.{rules}
 use Rattle.output.specs.Writing.{written_not}
-use Rattle.output.specs.Digits.{Stored, stored_none, stored_length, nth_in, stored_next, stored_all}
+use Rattle.output.specs.Digits.{stored_none, stored_length, nth_in, stored_next, stored_all}
 use Rattle.output.proofs.put_decimal.Goals as goal
 
 pub returns-then-out-next : goal.returns-then-out-next

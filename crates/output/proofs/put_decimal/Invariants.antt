@@ -1,10 +1,6 @@
 -- `put_decimal` meets its contract. The invariant: the digits behind the `nth` from the end are stored. The measure is the
 -- number that is left. Assumes nothing.
-use native.Mathlib.Omega.{arith}
-use lib.ListN.{length-set}
-use borrow.Author.Rules.{rules}
-use Rattle.output.specs.Writing.{written_not}
-use Rattle.output.specs.Digits.{Stored, stored_none, stored_length, nth_in, stored_next, stored_all}
+use Rattle.output.specs.Digits.{Stored}
 use Rattle.output.proofs.put_decimal.Given as goal
 
 abbrev pub invariant-loop-rest : goal.invariant-loop-rest

@@ -1,6 +1,5 @@
 -- `put_i32` meets its contract. Assumes nothing.
 use native.Mathlib.Omega.{arith}
-use borrow.Author.Rules.{rules}
 use Rattle.integer.proofs.BigEndian.{length_signed_bytes}
 use Rattle.integer.specs.Linear.{back}
 use Rattle.output.specs.Writing.{written_whole, written_not}

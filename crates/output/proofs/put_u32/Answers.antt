@@ -1,6 +1,5 @@
 -- `put_u32` meets its contract. Assumes nothing.
 use native.Mathlib.Omega.{arith}
-use borrow.Author.Rules.{rules}
 use Rattle.integer.proofs.BigEndian.{length_bytes}
 use Rattle.output.specs.Writing.{written_whole, written_not}
 use Rattle.output.proofs.put_u32.Goals as goal

@@ -1,45 +1,23 @@
--- `put_effects` meets its contract. The invariant: in every reading, the effects before `at` are written. The measure is what is left
--- of the part. Assumes nothing.
-use Prim.Native.Nat.{◌-◌}
-use native.Mathlib.Omega.{arith}
-use mathlib.Core.Path.{refl}
-use lib.ListN.{length}
-use Rattle.model.specs.Task.{Block}
+-- `put_effects` meets its contract: the walk over the items, of which each writes its effect. Assumes nothing.
+use Rattle.std.proofs.Common.{rules, refl, of_calls}
 use Rattle.model.specs.Pddl.{changes_of}
-use Rattle.block.specs.Items.{next_ahead}
-use Rattle.block.specs.Remaining.{Remaining, remaining_readable}
 use Rattle.pddl_block.specs.Rows.{rows, effect_rows, effects_append}
-use Rattle.pddl_block.specs.Walking.{ItemsWriting, items_start, items_first, items_room, items_step, items_end}
 use Rattle.pddl_block.proofs.put_effects.Goals as goal
 
-pub loop-at-init : goal.loop-at-init
-loop-at-init c b r = let a = c.args in items_start (effect_rows a.line.now) a.out.now a.start r
-
-pub next-item-requires : goal.next-item-requires
-next-item-requires c =
-    let own : ItemsWriting (effect_rows c.args.line.now) c.args.part.now c.requires.block c.loop-at.at c.args.out.now c.args.start c.loop-at.out c.loop-at.to = c.loop-at.invariant c.requires.block c.requires.remaining in
-    remaining_readable (own).remaining
-
-pub put_change-to-requires : goal.put_change-to-requires
-put_change-to-requires c =
-    let own : ItemsWriting (effect_rows c.args.line.now) c.args.part.now c.requires.block c.loop-at.at c.args.out.now c.args.start c.loop-at.out c.loop-at.to = c.loop-at.invariant c.requires.block c.requires.remaining in
-    let rows_of_lem = effect_rows c.args.line.now in
-    let l = own in
-    let h = c.loop-at-test.true in (
-      (items_first rows_of_lem (effects_append c.args.line.now) l h c.next-item.ensures).writable,
-      items_room rows_of_lem (effects_append c.args.line.now) l h c.next-item.ensures c.requires.room,
-    )
-
-pub loop-at-smaller : goal.loop-at-smaller
-loop-at-smaller c = omega (arith, c.behind-at.ensures, next_ahead c.loop-at-test.true c.next-item.ensures)
-
-pub loop-at-preserved : goal.loop-at-preserved
-loop-at-preserved c b r =
+pub put_items-requires : goal.put_items-requires
+unfolding effect_rows rows changes_of
+put_items-requires c =
     let line = c.args.line.now in
-    items_step (effect_rows line) (effects_append line) (c.loop-at.invariant b r) c.loop-at-test.true c.next-item.ensures c.put_change-to.ensures c.behind-at.ensures
+    record {
+      text = effect_rows line;
+      puts = record { none = refl; append = effects_append line; writes = λ i out at next after p. search of_calls };
+      may = λ i out at w r. search rules;
+      printable = c.requires;
+    }
 
 pub returns : goal.returns
 unfolding effect_rows rows changes_of
-returns c b r =
+returns c =
     let line = c.args.line.now in
-    items_end (effect_rows line) (effects_append line) (c.loop-at.invariant b r) refl c.loop-at-test.false
+    c.put_items.ensures (effect_rows line)
+    (record { none = refl; append = effects_append line; writes = λ i out at next after p. search of_calls })

@@ -1,7 +1,6 @@
 -- `put_formula` meets its contract, by the kind of the item. Assumes nothing.
 use native.Mathlib.Omega.{arith}
 use mathlib.Core.Path.{sym, subst}
-use borrow.Author.Rules.{rules}
 use Rattle.integer.specs.Linear.{back_small}
 use Rattle.model.specs.Ascii.{ascii}
 use Rattle.block.specs.Remaining.{Writable}

@@ -3,7 +3,6 @@ use Prim.Native.Nat.{ℕ}
 use native.Mathlib.Omega.{arith}
 use mathlib.Core.Path.{◌≡◌, sym, ap}
 use mathlib.Core.List.{◌++◌}
-use borrow.Author.Rules.{rules}
 use Rattle.model.specs.Ascii.{ascii}
 use Rattle.model.specs.Seen.{kind_of}
 use Rattle.model.specs.Pddl.{kind_text}

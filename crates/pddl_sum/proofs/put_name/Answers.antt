@@ -1,24 +1,26 @@
 -- `put_name` meets its contract: three stores, one behind the other. Assumes nothing.
+use Prim.Native.Nat.{ℕ}
 use native.Mathlib.Omega.{arith}
-use mathlib.Core.List.{◌++◌}
-use borrow.Author.Rules.{rules}
+use mathlib.Core.List.{List, ◌++◌}
 use Rattle.model.specs.Ascii.{ascii}
 use Rattle.model.specs.Listing.{decimal}
 use Rattle.output.specs.Writing.{Room, written_join, room_first, room_next}
 use Rattle.pddl_sum.specs.Names.{name_text}
 use Rattle.pddl_sum.proofs.put_name.Goals as goal
 
-pub put_bytes-number-requires : goal.put_bytes-number-requires
+numbered_room : {at : ℕ} (word : List ℕ) (n : ℕ) → Room at (name_text word n) → Room at (word ++ decimal n)
 unfolding name_text
+numbered_room word n room = room_first (word ++ decimal n) (ascii ")") room
+
+pub put_bytes-number-requires : goal.put_bytes-number-requires
 put_bytes-number-requires c =
-    let room : Room c.args.at (c.args.word.now ++ decimal c.args.n) = let a = c.args in room_first (a.word.now ++ decimal a.n) (ascii ")") c.requires in
-    omega (arith, (room_first c.args.word.now (decimal c.args.n) (room)).short)
+    let a = c.args in
+    omega (arith, (room_first a.word.now (decimal a.n) (numbered_room a.word.now a.n c.requires)).short)
 
 pub put_decimal-close-requires : goal.put_decimal-close-requires
-unfolding name_text
 put_decimal-close-requires c =
-    let room : Room c.args.at (c.args.word.now ++ decimal c.args.n) = let a = c.args in room_first (a.word.now ++ decimal a.n) (ascii ")") c.requires in
-    omega (arith, (room_next (decimal c.args.n) c.put_bytes-number.ensures (room)).short)
+    let a = c.args in
+    omega (arith, (room_next (decimal a.n) c.put_bytes-number.ensures (numbered_room a.word.now a.n c.requires)).short)
 
 pub put_byte-requires : goal.put_byte-requires
 unfolding name_text

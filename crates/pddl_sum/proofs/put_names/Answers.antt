@@ -1,9 +1,5 @@
--- `put_names` meets its contract. The invariant: the names before `i` are written. The measure is the number of the others.
--- Assumes nothing.
-use Prim.Native.Nat.{◌-◌}
-use native.Mathlib.Omega.{arith}
-use Rattle.pddl_sum.specs.Names.{name_text}
-use Rattle.pddl_sum.specs.Names.{EachWriting, each_start, each_room, each_step, each_end}
+-- `put_names` meets its contract, name by name. Assumes nothing.
+use Rattle.pddl_sum.specs.Names.{name_text, each_start, each_room, each_step, each_end}
 use Rattle.pddl_sum.proofs.put_names.Goals as goal
 
 pub loop-i-init : goal.loop-i-init
@@ -11,9 +7,6 @@ loop-i-init c = let a = c.args in each_start (name_text a.word.now) a.n a.out.no
 
 pub put_name-to-requires : goal.put_name-to-requires
 put_name-to-requires c = each_room c.loop-i.invariant c.loop-i-test.true c.requires
-
-pub overflow_add-i : goal.overflow_add-i
-overflow_add-i c = omega (arith, c.loop-i-test.true)
 
 pub loop-i-preserved : goal.loop-i-preserved
 loop-i-preserved c = each_step c.loop-i.invariant c.loop-i-test.true c.put_name-to.ensures

@@ -1,10 +1,8 @@
 -- `put_sum` meets its contract: what opens the sum, its constant and what closes it. Assumes nothing.
 use mathlib.Core.Path.{◌≡◌, sym, ap, ◌∙◌}
-use mathlib.Core.List.{◌++◌}
+use mathlib.Core.List.{List, ◌++◌}
+use lib.IntN.{ℤ}
 use Prim.Native.Nat.{ℕ}
-use mir.Syntax.{w64}
-use mir.Val.{to_z, of_z}
-use borrow.Author.Rules.{rules}
 use Rattle.integer.specs.Linear.{back}
 use Rattle.model.specs.Pddl.{number_text, expression_text, sum_of}
 use Rattle.block.specs.Terms.{terms_at, length_terms}
@@ -12,39 +10,46 @@ use Rattle.output.specs.Writing.{Room, written_join, written_same, room_same, ro
 use Rattle.pddl_sum.specs.Sums.{term_texts, closes, sum_text}
 use Rattle.pddl_sum.proofs.put_sum.Goals as goal
 
-pub put_terms-constant-requires : goal.put_terms-constant-requires
-put_terms-constant-requires c =
-    let text : let ts = terms_at c.args.part.now c.args.from c.args.n in term_texts ts ++ number_text c.args.c ++ closes c.args.n ≡ expression_text (sum_of ts c.args.c) = let a = c.args in
-    let ts = terms_at a.part.now a.from a.n in
-    ap (λ (n : ℕ). term_texts ts ++ number_text a.c ++ closes n) (sym (length_terms a.part.now a.from a.n)) ∙ sum_text ts a.c in
-    let whole : Room c.args.at (term_texts (terms_at c.args.part.now c.args.from c.args.n) ++ number_text c.args.c ++ closes c.args.n) = room_same c.requires.2 (sym (text)) in
-    let opened : Room c.args.at (term_texts (terms_at c.args.part.now c.args.from c.args.n) ++ number_text c.args.c) = let a = c.args in room_first (term_texts (terms_at a.part.now a.from a.n) ++ number_text a.c) (closes a.n) (whole) in
-    let a = c.args in
-    (c.requires.0, room_first (term_texts (terms_at a.part.now a.from a.n)) (number_text a.c) (opened))
+-- the sum's text in its three pieces, and the room for those written first
+module _ (part : List ℕ) (from n : ℕ) (z : ℤ) where
+  abbrev opening : List ℕ
+  opening = term_texts (terms_at part from n)
+
+  pieces_are : opening ++ number_text z ++ closes n ≡ expression_text (sum_of (terms_at part from n) z)
+  pieces_are = ap (λ (m : ℕ). opening ++ number_text z ++ closes m) (sym (length_terms part from n)) ∙ sum_text (terms_at part from n) z
+
+  module _ {at : ℕ} (room : Room at (expression_text (sum_of (terms_at part from n) z))) where
+    whole_room : Room at (opening ++ number_text z ++ closes n)
+    whole_room = room_same room (sym pieces_are)
+
+    numbered_room : Room at (opening ++ number_text z)
+    numbered_room = room_first (opening ++ number_text z) (closes n) whole_room
+
+pub put_terms-number-requires : goal.put_terms-number-requires
+put_terms-number-requires c =
+    let t = c.args.terms.now in
+    let z = c.args.constant in
+    (c.requires.0, room_first (opening t.part.now t.from t.count z) (number_text z) (numbered_room t.part.now t.from t.count z c.requires.2))
 
 pub put_number-close-requires : goal.put_number-close-requires
 put_number-close-requires c =
-    let value : to_z w64 (of_z w64 c.args.c) ≡ c.args.c = back c.args.c c.ranges.c.sfits in
-    let text : let ts = terms_at c.args.part.now c.args.from c.args.n in term_texts ts ++ number_text c.args.c ++ closes c.args.n ≡ expression_text (sum_of ts c.args.c) = let a = c.args in
-    let ts = terms_at a.part.now a.from a.n in
-    ap (λ (n : ℕ). term_texts ts ++ number_text a.c ++ closes n) (sym (length_terms a.part.now a.from a.n)) ∙ sum_text ts a.c in
-    let whole : Room c.args.at (term_texts (terms_at c.args.part.now c.args.from c.args.n) ++ number_text c.args.c ++ closes c.args.n) = room_same c.requires.2 (sym (text)) in
-    let opened : Room c.args.at (term_texts (terms_at c.args.part.now c.args.from c.args.n) ++ number_text c.args.c) = let a = c.args in room_first (term_texts (terms_at a.part.now a.from a.n) ++ number_text a.c) (closes a.n) (whole) in
-    rw (value) (c.requires.1, room_next (number_text c.args.c) c.put_terms-constant.ensures (opened))
+    let t = c.args.terms.now in
+    let z = c.args.constant in
+    rw (back z c.ranges.constant.sfits)
+    (c.requires.1, room_next (number_text z) c.put_terms-number.ensures (numbered_room t.part.now t.from t.count z c.requires.2))
 
 pub put_closes-requires : goal.put_closes-requires
 put_closes-requires c =
-    let value : to_z w64 (of_z w64 c.args.c) ≡ c.args.c = back c.args.c c.ranges.c.sfits in
-    let text : let ts = terms_at c.args.part.now c.args.from c.args.n in term_texts ts ++ number_text c.args.c ++ closes c.args.n ≡ expression_text (sum_of ts c.args.c) = let a = c.args in
-    let ts = terms_at a.part.now a.from a.n in
-    ap (λ (n : ℕ). term_texts ts ++ number_text a.c ++ closes n) (sym (length_terms a.part.now a.from a.n)) ∙ sum_text ts a.c in
-    let whole : Room c.args.at (term_texts (terms_at c.args.part.now c.args.from c.args.n) ++ number_text c.args.c ++ closes c.args.n) = room_same c.requires.2 (sym (text)) in
-    room_next (closes c.args.n) (written_join c.put_terms-constant.ensures (rw (value) at c.put_number-close.ensures)) (whole)
+    let t = c.args.terms.now in
+    let z = c.args.constant in
+    room_next (closes t.count)
+    (written_join c.put_terms-number.ensures (rw (back z c.ranges.constant.sfits) at c.put_number-close.ensures))
+    (whole_room t.part.now t.from t.count z c.requires.2)
 
 pub returns : goal.returns
 returns c =
-    let value : to_z w64 (of_z w64 c.args.c) ≡ c.args.c = back c.args.c c.ranges.c.sfits in
-    let text : let ts = terms_at c.args.part.now c.args.from c.args.n in term_texts ts ++ number_text c.args.c ++ closes c.args.n ≡ expression_text (sum_of ts c.args.c) = let a = c.args in
-    let ts = terms_at a.part.now a.from a.n in
-    ap (λ (n : ℕ). term_texts ts ++ number_text a.c ++ closes n) (sym (length_terms a.part.now a.from a.n)) ∙ sum_text ts a.c in
-    written_same (written_join (written_join c.put_terms-constant.ensures (rw (value) at c.put_number-close.ensures)) c.put_closes.ensures) (text)
+    let t = c.args.terms.now in
+    let z = c.args.constant in
+    written_same
+    (written_join (written_join c.put_terms-number.ensures (rw (back z c.ranges.constant.sfits) at c.put_number-close.ensures)) c.put_closes.ensures)
+    (pieces_are t.part.now t.from t.count z)

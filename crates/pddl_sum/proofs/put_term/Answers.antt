@@ -5,9 +5,9 @@ use mathlib.Core.Path.{◌≡◌, ◌∙◌}
 use mathlib.Core.List.{List, ◌++◌}
 use mir.Syntax.{w64}
 use mir.Val.{to_z, of_z}
-use borrow.Author.Rules.{rules}
 use Rattle.integer.specs.Linear.{back}
 use Rattle.model.specs.Ascii.{ascii}
+use Rattle.model.specs.Task.{Term}
 use Rattle.model.specs.Pddl.{number_text}
 use Rattle.block.specs.Terms.{term_of, sum_term, term_variable, term_weighs}
 use Rattle.output.specs.Writing.{Room, written_join, room_first, room_next}
@@ -15,53 +15,57 @@ use Rattle.pddl_sum.specs.Names.{name_text}
 use Rattle.pddl_sum.specs.Sums.{term_text}
 use Rattle.pddl_sum.proofs.put_term.Goals as goal
 
+-- the text up to the weight, and the variable's name
+abbrev weighed : Term → List ℕ
+weighed t = ascii "(+ (* " ++ number_text t.weight
+
+abbrev variable_name : Term → List ℕ
+variable_name t = name_text (ascii " (v") t.var
+
+module _ {at : ℕ} (t : Term) (room : Room at (weighed t ++ variable_name t ++ ascii ") ")) where
+  named_room : Room at (weighed t ++ variable_name t)
+  named_room = room_first (weighed t ++ variable_name t) (ascii ") ") room
+
+  weighed_room : Room at (weighed t)
+  weighed_room = room_first (weighed t) (variable_name t) named_room
+
 pub weight-w-requires : goal.weight-w-requires
 weight-w-requires c = sum_term c.requires.0.sum c.requires.0.some
 
 pub variable-v-requires : goal.variable-v-requires
 variable-v-requires c = sum_term c.requires.0.sum c.requires.0.some
 
-pub put_bytes-weight-requires : goal.put_bytes-weight-requires
-unfolding ascii term_text
-put_bytes-weight-requires c =
-    let named-room : Room c.args.at ((ascii "(+ (* " ++ number_text (term_of c.args.part.now c.args.term).weight) ++ name_text (ascii " (v") (term_of c.args.part.now c.args.term).var) = room_first ((ascii "(+ (* " ++ number_text (term_of c.args.part.now c.args.term).weight) ++ name_text (ascii " (v") (term_of c.args.part.now c.args.term).var) (ascii ") ") c.requires.1 in
-    let weighed-room : Room c.args.at (ascii "(+ (* " ++ number_text (term_of c.args.part.now c.args.term).weight) = room_first (ascii "(+ (* " ++ number_text (term_of c.args.part.now c.args.term).weight) (name_text (ascii " (v") (term_of c.args.part.now c.args.term).var) (named-room) in
-    omega (arith, (room_first (ascii "(+ (* ") (number_text (term_of c.args.part.now c.args.term).weight) (weighed-room)).short)
-
 pub put_number-name-requires : goal.put_number-name-requires
 unfolding ascii term_text
 put_number-name-requires c =
-    let weighs : to_z w64 (of_z w64 c.weight-w.result) ≡ (term_of c.args.part.now c.args.term).weight = back c.weight-w.result c.weight-w.type_inv ∙ term_weighs c.requires.0.sum c.requires.0.some c.weight-w.ensures in
-    let named-room : Room c.args.at ((ascii "(+ (* " ++ number_text (term_of c.args.part.now c.args.term).weight) ++ name_text (ascii " (v") (term_of c.args.part.now c.args.term).var) = room_first ((ascii "(+ (* " ++ number_text (term_of c.args.part.now c.args.term).weight) ++ name_text (ascii " (v") (term_of c.args.part.now c.args.term).var) (ascii ") ") c.requires.1 in
-    let weighed-room : Room c.args.at (ascii "(+ (* " ++ number_text (term_of c.args.part.now c.args.term).weight) = room_first (ascii "(+ (* " ++ number_text (term_of c.args.part.now c.args.term).weight) (name_text (ascii " (v") (term_of c.args.part.now c.args.term).var) (named-room) in
-    let w = number_text (term_of c.args.part.now c.args.term).weight in (
-      rw (back c.weight-w.result c.weight-w.type_inv) (omega (arith, c.weight-w.ensures.small)),
-      rw (weighs) (room_next w c.put_bytes-weight.ensures (weighed-room)),
+    let t = term_of c.args.part.now c.args.term in
+    let word = back c.weight-w.result c.weight-w.type_inv in
+    let weighs : to_z w64 (of_z w64 c.weight-w.result) ≡ (term_of c.args.part.now c.args.term).weight = word ∙ term_weighs c.requires.0.sum c.requires.0.some c.weight-w.ensures in (
+      rw word (omega (arith, c.weight-w.ensures.small)),
+      rw weighs (room_next (number_text t.weight) c.put_bytes-weight.ensures (weighed_room t c.requires.1)),
     )
 
 pub put_name-close-requires : goal.put_name-close-requires
 unfolding ascii term_text
 put_name-close-requires c =
+    let t = term_of c.args.part.now c.args.term in
     let names : c.variable-v.result ≡ (term_of c.args.part.now c.args.term).var = (term_variable c.requires.0.sum c.requires.0.some c.variable-v.ensures).0 in
     let weighs : to_z w64 (of_z w64 c.weight-w.result) ≡ (term_of c.args.part.now c.args.term).weight = back c.weight-w.result c.weight-w.type_inv ∙ term_weighs c.requires.0.sum c.requires.0.some c.weight-w.ensures in
-    let named-room : Room c.args.at ((ascii "(+ (* " ++ number_text (term_of c.args.part.now c.args.term).weight) ++ name_text (ascii " (v") (term_of c.args.part.now c.args.term).var) = room_first ((ascii "(+ (* " ++ number_text (term_of c.args.part.now c.args.term).weight) ++ name_text (ascii " (v") (term_of c.args.part.now c.args.term).var) (ascii ") ") c.requires.1 in
-    let v = name_text (ascii " (v") (term_of c.args.part.now c.args.term).var in
-    rw (names)
-    (room_next v (written_join c.put_bytes-weight.ensures (rw (weighs) at c.put_number-name.ensures)) (named-room))
+    rw names
+    (room_next (variable_name t) (written_join c.put_bytes-weight.ensures (rw weighs at c.put_number-name.ensures)) (named_room t c.requires.1))
 
 pub put_bytes-requires : goal.put_bytes-requires
 unfolding ascii term_text
 put_bytes-requires c =
     let weighs : to_z w64 (of_z w64 c.weight-w.result) ≡ (term_of c.args.part.now c.args.term).weight = back c.weight-w.result c.weight-w.type_inv ∙ term_weighs c.requires.0.sum c.requires.0.some c.weight-w.ensures in
     let names : c.variable-v.result ≡ (term_of c.args.part.now c.args.term).var = (term_variable c.requires.0.sum c.requires.0.some c.variable-v.ensures).0 in
-    let numbered = written_join c.put_bytes-weight.ensures (rw (weighs) at c.put_number-name.ensures) in
-    let w = written_join numbered (rw (names) at c.put_name-close.ensures) in
-    omega (arith, (room_next (ascii ") ") w c.requires.1).short)
+    let numbered = written_join c.put_bytes-weight.ensures (rw weighs at c.put_number-name.ensures) in
+    omega (arith, (room_next (ascii ") ") (written_join numbered (rw names at c.put_name-close.ensures)) c.requires.1).short)
 
 pub returns : goal.returns
 unfolding ascii term_text
 returns c =
     let weighs : to_z w64 (of_z w64 c.weight-w.result) ≡ (term_of c.args.part.now c.args.term).weight = back c.weight-w.result c.weight-w.type_inv ∙ term_weighs c.requires.0.sum c.requires.0.some c.weight-w.ensures in
     let names : c.variable-v.result ≡ (term_of c.args.part.now c.args.term).var = (term_variable c.requires.0.sum c.requires.0.some c.variable-v.ensures).0 in
-    let numbered = written_join c.put_bytes-weight.ensures (rw (weighs) at c.put_number-name.ensures) in
-    written_join (written_join numbered (rw (names) at c.put_name-close.ensures)) c.put_bytes.ensures
+    let numbered = written_join c.put_bytes-weight.ensures (rw weighs at c.put_number-name.ensures) in
+    written_join (written_join numbered (rw names at c.put_name-close.ensures)) c.put_bytes.ensures

@@ -6,7 +6,6 @@ use mathlib.Core.List.{List, ◌++◌}
 use lib.IntN.{ℤ}
 use mir.Syntax.{w64}
 use mir.Val.{to_z, of_z}
-use borrow.Author.Rules.{rules}
 use Rattle.integer.specs.Linear.{back}
 use Rattle.model.specs.Ascii.{ascii}
 use Rattle.model.specs.StateTable.{value_offset, state_value, state_of}

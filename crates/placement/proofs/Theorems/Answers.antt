@@ -1,6 +1,6 @@
 -- The answer is right, whatever bytes are lent: what is written is the placement in which no entry starts later than in any other, with its
 -- end minute; 18, 19 and 13 as the request names them, each exactly there. Assumes nothing.
-use Prim.Native.Nat.{ℕ, ◌*◌, ◌^◌, ◌≤◌, ◌<◌}
+use Prim.Native.Nat.{ℕ, ◌^◌, ◌≤◌, ◌<◌}
 use Rattle.std.proofs.Common.{arith, sym, ap, subst, ltb→lt}
 use Rattle.std.specs.Prelude.{◌≡◌, Bool, true, false, List, T, ltb, get_or, drop}
 use Rattle.std.proofs.Math.Path.{refl}
@@ -10,13 +10,10 @@ use Rattle.std.proofs.Math.ListN.{length}
 use Rattle.std.proofs.Math.Seq.{drop-append_seam}
 use Rattle.model.specs.Memory.{overwrite}
 use Rattle.model.specs.Calls.{Output, writes, turns, fitted, output_after}
-use Rattle.placement.specs.declared.PlaceAnswer.{PlaceAnswer}
-use Rattle.placement.specs.declared.PlaceAnswer.TheVariants as place
-use Rattle.placement.specs.Day.{DayLimits, minute_at, pieces, first_duration, windows_of, durations_of}
+use Rattle.placement.specs.Day.{DayLimits, first_duration, windows_of, durations_of}
 use Rattle.placement.specs.Placing.{Placed, placed, stuck, start_bytes, starts_of, end_minute, checked, day_placed, placing, answered, place_answer, place_out}
-use Rattle.placement.specs.Theorems.Best.{Best, RightFrom, FirstWithout}
+use Rattle.placement.specs.Theorems.Best.{Best, RightFrom}
 use Rattle.placement.proofs.Theorems.Best.{best, place_right, stops_first}
-use Rattle.placement.specs.Theorems.Checks.{WindowOk, WindowsOk, DurationOk, DurationsOk}
 use Rattle.placement.proofs.Theorems.Checks.{windows_cases, durations_cases}
 use Rattle.placement.proofs.Theorems.Starts.{length_starts, start_at, windows_shut, starts_by}
 use Rattle.placement.specs.Theorems.Answers.{DayOk, PlaceRight, duration, short, window, without}

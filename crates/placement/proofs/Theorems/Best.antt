@@ -3,11 +3,11 @@
 use Rattle.std.specs.Prelude.{ℕ, zero, suc, ◌+◌, ◌-◌, ◌≤◌, ◌<◌, ◌≡◌, refl, ◌↔◌, length, get_or}
 use Rattle.std.proofs.Common.{arith, ap, subst, ◌∙◌}
 use mathlib.Core.List.{List, [], ◌∷◌}
-use Rattle.std.proofs.Math.Option.{Option, none}
+use Rattle.std.proofs.Math.Option.{Option}
 use Rattle.std.proofs.Math.ListN.{take}
 use Rattle.placement.specs.Day.{Window}
-use Rattle.placement.specs.Placement.{PlacementFrom, nothing, entry, Placement, end_from, end_of, NoneEarlier, none_left, both_left, NoPlacement}
-use Rattle.placement.specs.Placing.{earliest, Placed, placed, stuck, behind_entry, place_next, place_from}
+use Rattle.placement.specs.Placement.{PlacementFrom, nothing, entry, end_from, NoneEarlier, none_left, both_left, NoPlacement}
+use Rattle.placement.specs.Placing.{Placed, placed, stuck, behind_entry, place_next, place_from}
 use Rattle.placement.specs.Theorems.Earliest.{Rising, Earliest, NoStart}
 use Rattle.placement.proofs.Theorems.Earliest.{earliest_cases}
 use Rattle.placement.specs.Theorems.Best.{Best, BestFrom, FirstWithout, RightFrom, StopsFrom}

@@ -1,11 +1,9 @@
 -- Cases of a closure day, computed. Assumes nothing.
-use Rattle.std.specs.Prelude.{ℕ, zero, suc, ◌+◌, ◌≡◌, refl, List, [], ◌∷◌, ◌++◌}
+use Rattle.std.specs.Prelude.{refl}
 use Rattle.integer.specs.BigEndian.{unsigned, bytes}
 use Rattle.model.specs.Lists.{first_from, tabulate}
 use Rattle.model.specs.Memory.{overwrite}
 use Rattle.model.specs.Calls.{fitted, output_after}
-use Rattle.placement.specs.declared.PlaceAnswer.{PlaceAnswer}
-use Rattle.placement.specs.declared.PlaceAnswer.TheVariants as place
 use Rattle.placement.specs.Day.{paper_day, minute_at, window_at, duration_at, pieces, overlaps, wrong_window, wrong_duration, first_window, first_duration, windows_of, durations_of}
 use Rattle.placement.specs.Placing.{start_in, earliest, behind_entry, place_next, place_from, start_bytes, starts_of, end_minute, checked, day_placed, placing, answered, place_answer, place_out}
 use Rattle.placement.specs.Theorems.Cases.{DayCases, minutes, room}

@@ -9,7 +9,6 @@ use Rattle.std.proofs.Math.Path.{refl, subst}
 use Rattle.std.proofs.Math.Option.{Option, none, some}
 use Rattle.std.proofs.Math.Dec.{not_T, leb→le, ltb→lt, eqb→eq, nleb→lt, nltb→le}
 use Rattle.model.specs.Lists.{first_from, tabulate}
-use Rattle.model.specs.Theorems.Reading.WellFormed.{All}
 use Rattle.model.proofs.Theorems.Laws.Booleans.{T-cases, T-stable, T-equal, or_left, or_right, or_cases, true_t}
 use Rattle.model.proofs.Theorems.Laws.Searching.{first_from_cases}
 use Rattle.placement.specs.Day.{DayLimits, window_at, duration_at, pieces, overlaps, wrong_window, wrong_duration, first_window, first_duration, windows_of, durations_of}

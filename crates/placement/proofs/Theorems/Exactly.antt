@@ -1,11 +1,10 @@
 -- Which answer is given, exactly: 18 if a window or duration is at fault; otherwise 19 if the list has no placement; otherwise 13 if the
 -- output is shorter than the durations, which are as long as the starts; otherwise the timetable. Assumes nothing.
-use Rattle.std.specs.Prelude.{ℕ, ◌*◌, ◌^◌, ◌≤◌, ◌<◌, ◌≡◌, refl, ◌↔◌, List, length}
+use Rattle.std.specs.Prelude.{ℕ, ◌*◌, ◌^◌, ◌≤◌, ◌<◌, ◌≡◌, refl, ◌↔◌, List, length, Result, Ok, Err}
 use Rattle.std.proofs.Common.{arith, ap, subst, ◌∙◌}
 use Rattle.model.specs.declared.Refusal.{Refusal}
 use Rattle.model.proofs.Theorems.Laws.Searching.{length_tabulate}
-use Rattle.placement.specs.declared.PlaceAnswer.{PlaceAnswer}
-use Rattle.placement.specs.declared.PlaceAnswer.TheVariants as place
+use Rattle.placement.specs.declared.Placed.{Placed}
 use Rattle.placement.specs.Day.{DayLimits, paper_day, duration_at, pieces, windows_of, durations_of}
 use Rattle.placement.specs.Placement.{Placement, NoPlacement}
 use Rattle.placement.specs.Placing.{place_answer, place_out}
@@ -23,7 +22,7 @@ starts_size {ds} day {ys} b =
     omega (arith, same_count (durations_of ds) ys b.placement, length_tabulate (duration_at ds) 0 (pieces 4 (length ds)), day.durations.exact)
 
 module _ (L : DayLimits) (ws ds old : List ℕ) (four_bytes : L.last_minute < 256 ^ 4) where
-  abbrev Answer : PlaceAnswer → Type 0
+  abbrev Answer : Result Placed Refusal → Type 0
   Answer r = place_answer L ws ds old ≡ r
 
   abbrev Some : Type 0
@@ -70,40 +69,40 @@ module _ (L : DayLimits) (ws ds old : List ℕ) (four_bytes : L.last_minute < 25
   makes_13 (without ok first) day some = absurd (first.whole some.0 some.1)
   makes_13 (short {ys} ok b less) day some = (refl, refl, omega (arith, starts_size ok b))
 
-  refused_as : (q : Refusal) {n : ℕ} → q.number ≡ n → Answer (place.Refused q) → Answer (place.Refused (record { number = n; place = q.place }))
-  refused_as q e same = same ∙ ap (λ (k : ℕ). place.Refused (record { number = k; place = q.place })) e
+  refused_as : (q : Refusal) {n : ℕ} → q.number ≡ n → Answer (Err q) → Answer (Err (record { number = n; place = q.place }))
+  refused_as q e same = same ∙ ap (λ (k : ℕ). Err (record { number = k; place = q.place })) e
 
   -- by the answer, which is right
   by_answer :
       {X : Type 0}
-      → ((end n : ℕ) → Answer (place.Placed end n) → Timetable L ws ds old (place_out L ws ds old) end n → X)
-      → ((q : Refusal) → Answer (place.Refused q) → Back q.number q.place → X)
+      → ((end n : ℕ) → Answer (Ok (record { end = end; length = n })) → Timetable L ws ds old (place_out L ws ds old) end n → X)
+      → ((q : Refusal) → Answer (Err q) → Back q.number q.place → X)
       → X
   by_answer {X} accepted refused = go (place_answer L ws ds old) refl (answer_right L ws ds old four_bytes)
     where
-      go : (r : PlaceAnswer) → Answer r → PlaceRight L ws ds old (place_out L ws ds old) r → X
-      go (place.Placed end n) e right = accepted end n e right
-      go (place.Refused q) e right = refused q e right.0
+      go : (r : Result Placed Refusal) → Answer r → PlaceRight L ws ds old (place_out L ws ds old) r → X
+      go (Ok p) e right = accepted p.end p.length e right
+      go (Err q) e right = refused q e right.0
 
-  right_at : (r : PlaceAnswer) → Answer r → PlaceRight L ws ds old (place_out L ws ds old) r
+  right_at : (r : Result Placed Refusal) → Answer r → PlaceRight L ws ds old (place_out L ws ds old) r
   right_at r e = subst (PlaceRight L ws ds old (place_out L ws ds old)) e (answer_right L ws ds old four_bytes)
 
   -- "18, the first window out of order or range or beyond the 64th, then the first duration out of range"
-  pub eighteen_exactly : ((i : ℕ) × Answer (place.Refused (record { number = 18; place = i }))) ↔ (DayOk L ws ds → ⊥)
+  pub eighteen_exactly : ((i : ℕ) × Answer (Err (record { number = 18; place = i }))) ↔ (DayOk L ws ds → ⊥)
   eighteen_exactly = (
     λ a. says_18 (right_at _ a.1).0 refl,
     λ bad. by_answer (λ end n e table. absurd (bad table.day)) (λ q e back. (q.place, refused_as q (makes_18 back bad) e)),
   )
 
   -- "19, no placement exists"
-  pub nineteen_exactly : ((i : ℕ) × Answer (place.Refused (record { number = 19; place = i }))) ↔ (DayOk L ws ds × NoPlacement (windows_of ws) (durations_of ds))
+  pub nineteen_exactly : ((i : ℕ) × Answer (Err (record { number = 19; place = i }))) ↔ (DayOk L ws ds × NoPlacement (windows_of ws) (durations_of ds))
   nineteen_exactly = (
     λ a. says_19 (right_at _ a.1).0 refl,
     λ h. by_answer (λ end n e table. absurd (h.1 table.starts table.best.placement)) (λ q e back. (q.place, refused_as q (makes_19 back h.0 h.1) e)),
   )
 
   -- "13 for a short output last"
-  pub thirteen_exactly : Answer (place.Refused (record { number = 13; place = 0 })) ↔ (DayOk L ws ds × Some × (length old < length ds))
+  pub thirteen_exactly : Answer (Err (record { number = 13; place = 0 })) ↔ (DayOk L ws ds × Some × (length old < length ds))
   thirteen_exactly = (
     λ a. says_13 (right_at _ a).0 refl,
     λ h.
@@ -111,16 +110,16 @@ module _ (L : DayLimits) (ws ds old : List ℕ) (four_bytes : L.last_minute < 25
         (λ end n e table. absurd (omega (arith, table.fits, table.size, starts_size table.day table.best, h.2)))
         (λ q e back.
         let m = makes_13 back h.0 h.1 in
-        refused_as q m.0 e ∙ ap (λ (p : ℕ). place.Refused (record { number = 13; place = p })) m.1),
+        refused_as q m.0 e ∙ ap (λ (p : ℕ). Err (record { number = 13; place = p })) m.1),
   )
 
   -- the list is placed, and its starts are as long as the durations
-  pub placed_exactly : ((end : ℕ) × Answer (place.Placed end (length ds))) ↔ (DayOk L ws ds × Some × (length ds ≤ length old))
+  pub placed_exactly : ((end : ℕ) × Answer (Ok (record { end = end; length = length ds }))) ↔ (DayOk L ws ds × Some × (length ds ≤ length old))
   placed_exactly = (
     λ a. let table = right_at _ a.1 in (table.day, (table.starts, table.best.placement), table.fits),
     λ h.
         by_answer
-        (λ end n e table. (end, e ∙ ap (place.Placed end) (table.size ∙ starts_size table.day table.best)))
+        (λ end n e table. (end, e ∙ ap (λ (n : ℕ). Ok (record { end = end; length = n })) (table.size ∙ starts_size table.day table.best)))
         (λ q e back. absurd (let m = makes_13 back h.0 h.1 in omega (arith, m.2, h.2))),
   )
 

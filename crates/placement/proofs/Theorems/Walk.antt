@@ -1,7 +1,7 @@
 -- Earliest placing in one pass over windows and entries together. A walk stands at minute `from` in a window that shuts at `shut`: in each
 -- turn it places an entry there, or leaves the window for the next, and it never goes back. It makes earliest placing, and the windows and
 -- entries that are left are one fewer after each turn. Assumes nothing.
-use Rattle.std.specs.Prelude.{ℕ, suc, ◌+◌, ◌≤◌, ◌<◌, ◌≡◌, Bool, leb, length}
+use Rattle.std.specs.Prelude.{ℕ, ◌+◌, ◌≤◌, ◌<◌, ◌≡◌, Bool, leb, length}
 use Rattle.std.proofs.Common.{arith, ◌∙◌, le-leb}
 use Rattle.std.proofs.Math.Path.{refl, sym, ap, ap₂}
 use Rattle.std.proofs.Math.Bool.{true, false}

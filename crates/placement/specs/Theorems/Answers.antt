@@ -1,14 +1,13 @@
 -- The answer is right, whatever bytes are lent: what is written is the placement in which no entry starts later than in any other, with its
 -- end minute; 18, 19 and 13 as the request names them, each exactly there. Assumes nothing.
 use Prim.Native.Nat.{ℕ, ◌*◌, ◌≤◌, ◌<◌}
-use Rattle.std.specs.Prelude.{◌≡◌, List, get_or, drop}
+use Rattle.std.specs.Prelude.{◌≡◌, List, get_or, drop, Result, Ok, Err}
 use Rattle.std.proofs.Math.ListN.{length}
-use Rattle.placement.specs.declared.PlaceAnswer.{PlaceAnswer}
-use Rattle.placement.specs.declared.PlaceAnswer.TheVariants as place
+use Rattle.placement.specs.declared.Placed.{Placed as PlacedAnswer}
 use Rattle.placement.specs.Day.{DayLimits, minute_at, pieces, windows_of, durations_of}
-use Rattle.placement.specs.Placing.{Placed}
 use Rattle.placement.specs.Theorems.Best.{Best, FirstWithout}
 use Rattle.placement.specs.Theorems.Checks.{WindowOk, WindowsOk, DurationOk, DurationsOk}
+use Rattle.model.specs.declared.Refusal.{Refusal}
 
 -- ---- what an answer says of the lent windows and durations, and of an output that held `old` and holds `new`
 
@@ -40,6 +39,6 @@ module _ (L : DayLimits) (ws ds old new : List ℕ) where
     -- "13 for a short output last"
     short : {ys : List ℕ} {end : ℕ} → DayOk L ws ds → Best (windows_of ws) (durations_of ds) ys end → length old < 4 * length ys → Turned 13 0
 
-  abbrev pub PlaceRight : PlaceAnswer → Type 0
-  PlaceRight (place.Placed end n) = Timetable end n
-  PlaceRight (place.Refused r) = Turned r.number r.place × (new ≡ old)
+  abbrev pub PlaceRight : Result PlacedAnswer Refusal → Type 0
+  PlaceRight (Ok p) = Timetable p.end p.length
+  PlaceRight (Err r) = Turned r.number r.place × (new ≡ old)

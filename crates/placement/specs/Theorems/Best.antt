@@ -1,7 +1,7 @@
 -- Earliest placing is what the request asks for. What is placed is a placement, in every other one no entry starts earlier, and none ends
 -- earlier; and it stops exactly where there is no placement, at the first entry up to which there is none. Assumes nothing.
 use Rattle.std.specs.Prelude.{ℕ, suc, ◌+◌, ◌-◌, ◌≤◌, ◌<◌, ◌≡◌, length, get_or}
-use mathlib.Core.List.{List, []}
+use mathlib.Core.List.{List}
 use Rattle.std.proofs.Math.ListN.{take}
 use Rattle.placement.specs.Day.{Window}
 use Rattle.placement.specs.Placement.{PlacementFrom, Placement, end_from, end_of, NoneEarlier, NoPlacement}

@@ -11,7 +11,6 @@ use Rattle.table.specs.Names.{wanted_of}
 use Rattle.table.specs.Answer.{Outlined}
 use Rattle.reader.specs.Parts.{LiesAt}
 use Rattle.reader.specs.Handed.{Handed, part_refused, part_beyond, part_in, part_found}
-use borrow.Author.Rules.{rules}
 use Rattle.reader.proofs.block_at.Goals as goal
 
 handed :
@@ -25,23 +24,23 @@ handed table part b h l =
 pub returns-then-moves-b : goal.returns-then-moves-b
 unfolding wanted_of
 returns-then-moves-b c =
-    let outlined : Outlined c.args.table.now (reading paper both c.args.table.now) c.outline-answer.result c.outline-answer.new.marks = c.outline-answer.ensures in
-    handed _ _ c.args.b (part_beyond c.args.b (outlined) _ _ _ _ c.in-Head.is (omega arith) refl) (record { memory = refl; offset = omega arith })
+    let outlined : Outlined c.args.table.now (reading paper both c.args.table.now) c.outline.result c.outline.new.marks = c.outline.ensures in
+    rw c.number.ensures (handed _ _ c.args.b (part_beyond c.args.b (outlined) _ c.in-Ok.is (omega arith) refl) (record { memory = refl; offset = omega arith }))
 
-pub marked-requires : goal.marked-requires
+pub part-requires : goal.part-requires
 unfolding wanted_of
-marked-requires c =
-    let outlined : Outlined c.args.table.now (reading paper both c.args.table.now) c.outline-answer.result c.outline-answer.new.marks = c.outline-answer.ensures in
-    part_in _ (outlined) _ _ _ _ c.in-Head.is (omega arith)
+part-requires c =
+    let outlined : Outlined c.args.table.now (reading paper both c.args.table.now) c.outline.result c.outline.new.marks = c.outline.ensures in
+    part_in _ (outlined) _ c.in-Ok.is (omega arith)
 
-pub returns-in-Refused : goal.returns-in-Refused
+pub returns-in-Err : goal.returns-in-Err
 unfolding wanted_of
-returns-in-Refused c =
-    let outlined : Outlined c.args.table.now (reading paper both c.args.table.now) c.outline-answer.result c.outline-answer.new.marks = c.outline-answer.ensures in
-    handed _ _ c.args.b (part_refused c.args.b (outlined) _ c.in-Refused.is refl) (record { memory = refl; offset = omega arith })
+returns-in-Err c =
+    let outlined : Outlined c.args.table.now (reading paper both c.args.table.now) c.outline.result c.outline.new.marks = c.outline.ensures in
+    handed _ _ c.args.b (part_refused c.args.b (outlined) _ c.in-Err.is refl) (record { memory = refl; offset = omega arith })
 
 pub returns-else-moves-b : goal.returns-else-moves-b
 unfolding wanted_of
 returns-else-moves-b c =
-    let outlined : Outlined c.args.table.now (reading paper both c.args.table.now) c.outline-answer.result c.outline-answer.new.marks = c.outline-answer.ensures in
-    handed _ _ c.args.b (part_found c.args.b (outlined) _ _ _ _ c.in-Head.is (omega arith) c.marked.ensures.0) c.marked.ensures.1
+    let outlined : Outlined c.args.table.now (reading paper both c.args.table.now) c.outline.result c.outline.new.marks = c.outline.ensures in
+    handed _ _ c.args.b (part_found c.args.b (outlined) _ c.in-Ok.is (omega arith) c.part.ensures.0) c.part.ensures.1

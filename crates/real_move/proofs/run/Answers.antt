@@ -1,23 +1,21 @@
 -- `run` meets its contract. The invariant: in every reading, the items that are left decide, and those passed are taken in. The measure is
 -- what is left of the part. Assumes nothing.
-use Prim.Native.Nat.{ℕ, ◌-◌, ◌<◌}
+use Prim.Native.Nat.{ℕ, ◌<◌}
 use native.Mathlib.Omega.{arith}
-use mathlib.Core.Path.{◌≡◌, refl}
+use mathlib.Core.Path.{refl}
 use mathlib.Core.List.{List}
 use mathlib.Core.Bool.{Bool}
-use lib.IntN.{ℤ, nat_abs}
+use lib.IntN.{ℤ}
 use lib.ListN.{length}
-use mir.Syntax.{w64}
-use mir.Val.{to_z, of_z}
 use Rattle.integer.specs.Linear.{back_small}
 use Rattle.model.specs.Lists.{all}
 use Rattle.model.specs.Move.{applicable}
 use Rattle.model.proofs.Theorems.Laws.Booleans.{clash}
-use Rattle.block.specs.Items.{Next, next_ahead}
-use Rattle.block.specs.Blocks.{Walk, walk_start, walk_next, walk_stop, walk_done}
-use Rattle.block.specs.Streams.{Addable, item_by, sum_item, Over, Asked, Judged, Verdict}
+use Rattle.block.specs.Items.{next_ahead}
+use Rattle.block.specs.Blocks.{walk_start, walk_next, walk_stop, walk_done}
+use Rattle.block.specs.Streams.{Addable, sum_item, Over, Asked, Judged}
 use Rattle.real_move.specs.Running.{Runnable}
-use Rattle.real_move.specs.Walking.{Going, going_start, going_end, Takable}
+use Rattle.real_move.specs.Walking.{Going, going_start, going_end}
 use Rattle.real_move.proofs.run.Goals as goal
 
 -- the items that are left, in the caller's reading
@@ -44,9 +42,9 @@ unfolding left_here
 fails-requires c =
     let p = c.requires in
     let total = c.sum_at-sum.result.total in
-    let judged : Judged c.args.part.now c.loop-from.from c.sum_at-sum.result.terms total c.args.had.now =
+    let judged : Judged c.args.part.now c.loop-from.from c.sum_at-sum.result.terms total c.args.state.now.has =
     record {
-      values = c.args.values.now;
+      values = c.args.state.now.values;
       addable = left_here c.loop-from.invariant.1 p.runnable c.loop-from-test.true;
       sum = c.sum_at-sum.ensures;
       over = p.runnable.over;
@@ -63,17 +61,6 @@ returns-then-fails c =
       test = record { is = walk_stop (Over _ _) Asked c.loop-from.invariant.0 (sum_item left c.sum_at-sum.ensures) ((told.is _ c.sum_at-sum.ensures).0 c.if-fails.true) };
       ran = λ e. clash cc;
     }
-
-pub take_in-from-requires : goal.take_in-from-requires
-take_in-from-requires c =
-    rw (back_small c.sum_at-sum.result.total (omega (arith, c.sum_at-sum.ensures.sum.small))) (record {
-      inside = c.loop-from-test.true;
-      sum = c.sum_at-sum.ensures;
-      has₀ = _;
-      next₀ = _;
-      going = c.loop-from.invariant.1;
-      runnable = c.requires.runnable;
-    })
 
 pub loop-from-smaller : goal.loop-from-smaller
 loop-from-smaller c =

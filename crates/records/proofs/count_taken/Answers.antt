@@ -1,20 +1,15 @@
--- `count_taken` meets its contract. The invariant: the moves below `b` are counted. The measure is the number of moves that are
--- left. Assumes nothing.
-use Prim.Native.Nat.{◌-◌, ◌≤◌}
-use native.Mathlib.Omega.{arith}
-use Rattle.records.specs.Records.{count_at, Counting, counting_start, counting_skip, counting_take, counting_end}
+-- `count_taken` meets its contract: the records are as many as the counts that are not 0. Assumes nothing.
+use Rattle.std.proofs.Common.{◌≡◌, ◌≤◌, sym, ◌∙◌, rules, arith, take, ltb}
+use Rattle.std.specs.Prelude.{count_by}
+use Rattle.std.proofs.lemmas.List.{length-take}
+use Rattle.std.proofs.lemmas.List.Sums.{length-filter, count_by-le-length}
+use Rattle.records.specs.Records.{records_counted}
 use Rattle.records.proofs.count_taken.Goals as goal
 
-pub loop-b-init : goal.loop-b-init
-loop-b-init c = (omega arith, counting_start _ _)
-
-pub loop-b-preserved-then-count-eq0 : goal.loop-b-preserved-then-count-eq0
-unfolding count_at
-loop-b-preserved-then-count-eq0 c = (omega arith, counting_skip _ c.loop-b-test.true c.if-count-eq0.true c.loop-b.invariant.1)
-
-pub loop-b-preserved : goal.loop-b-preserved
-unfolding count_at
-loop-b-preserved c = (omega arith, counting_take _ c.loop-b-test.true c.if-count-eq0.false c.loop-b.invariant.1)
-
 pub returns : goal.returns
-returns c = (counting_end _ c.loop-b-test.false c.loop-b.invariant.1, omega (arith, c.loop-b.invariant.1.few))
+returns c =
+    let m = c.args.moves in
+    let xs = c.args.counts.now in
+    let counted : c.count.result ≡ count_by (ltb 0) (take c.args.moves c.args.counts.now) = search rules in
+    let few : c.count.result ≤ c.args.moves = omega (arith, count_by-le-length (ltb 0) (take m xs), length-take m xs, counted) in
+    (counted ∙ sym (length-filter (ltb 0) (take m xs)) ∙ records_counted xs m c.requires, few)

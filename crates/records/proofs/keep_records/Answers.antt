@@ -1,6 +1,5 @@
 -- `keep_records` meets its contract. Assumes nothing.
 use native.Mathlib.Omega.{arith}
-use borrow.Author.Rules.{rules}
 use Rattle.records.proofs.keep_records.Goals as goal
 
 pub returns-then-records-gt-KEPT : goal.returns-then-records-gt-KEPT

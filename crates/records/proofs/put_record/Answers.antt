@@ -2,7 +2,6 @@
 use native.Mathlib.Omega.{arith}
 use lib.ListN.{length-set}
 use Rattle.records.specs.Records.{put_one}
-use borrow.Author.Rules.{rules}
 use Rattle.records.proofs.put_record.Goals as goal
 
 pub bounds-out-at-2 : goal.bounds-out-at-2

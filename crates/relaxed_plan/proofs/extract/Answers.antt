@@ -1,16 +1,12 @@
 -- `extract` meets its contract. Assumes nothing.
 use native.Mathlib.Omega.{arith}
 use mathlib.Core.Path.{refl}
-use borrow.Author.Rules.{rules}
 use Rattle.model.proofs.Theorems.Sizes.Plans.{records_most}
-use Rattle.stored_layer.specs.Stored.{stored_vars, stored_room, stored_entries, stored_start}
+use Rattle.stored_layer.specs.Stored.{stored_vars, stored_room, stored_start}
 use Rattle.relaxed_plan.specs.Answer.{extracted_short, extracted_written}
 use Rattle.passes.specs.Passes.{walk_goal, walk_begun}
 use Rattle.passes.specs.Keeping.{kept_copied}
 use Rattle.relaxed_plan.proofs.extract.Goals as goal
-
-pub overflow_add-props : goal.overflow_add-props
-overflow_add-props c = omega (arith, stored_entries c.requires.memory)
 
 pub read_row-requires : goal.read_row-requires
 read_row-requires c =
@@ -37,7 +33,7 @@ returns-then-out-records c x =
     let a = c.args in
     let row = stored_start x.memory c.read_row.ensures in
     let k = (c.survey-summary.ensures (walk_begun x row (c.want_goal-wants.ensures (walk_goal x row)))).0 in
-    extracted_short x.task x.start a.m a.out.now k.total k.helpful c.if-out-records.true
+    rw c.at.ensures (extracted_short x.task x.start a.m a.out.now k.total k.helpful c.if-out-records.true)
 
 pub write_plan-requires : goal.write_plan-requires
 write_plan-requires c =

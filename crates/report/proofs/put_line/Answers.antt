@@ -3,7 +3,6 @@ use native.Mathlib.Omega.{arith}
 use Rattle.model.specs.Listing.{newline}
 use Rattle.output.specs.Writing.{written_join}
 use Rattle.report.specs.Lines.{line_text, length_line}
-use borrow.Author.Rules.{rules}
 use Rattle.report.proofs.put_line.Goals as goal
 
 pub put_bytes-next-requires : goal.put_bytes-next-requires

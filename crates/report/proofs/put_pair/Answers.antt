@@ -2,7 +2,6 @@
 use native.Mathlib.Omega.{arith}
 use Rattle.output.specs.Writing.{written_join}
 use Rattle.report.specs.Lines.{length_pair, pair_line}
-use borrow.Author.Rules.{rules}
 use Rattle.report.proofs.put_pair.Goals as goal
 
 pub put_bytes-next-requires : goal.put_bytes-next-requires

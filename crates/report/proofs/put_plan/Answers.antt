@@ -1,8 +1,7 @@
 -- `put_plan` meets its contract: one line. Assumes nothing.
 use native.Mathlib.Omega.{arith}
 use Rattle.model.specs.Listing.{plan_word, layers_word}
-use Rattle.report.specs.Lines.{plan_line, pair_room}
-use borrow.Author.Rules.{rules}
+use Rattle.report.specs.Lines.{plan_line, pair_room, plan_room}
 use Rattle.report.proofs.put_plan.Goals as goal
 
 pub put_pair-requires : goal.put_pair-requires
@@ -13,4 +12,4 @@ put_pair-requires c =
 
 pub returns : goal.returns
 unfolding plan_line plan_word layers_word
-returns c = c.put_pair.ensures
+returns c = (c.put_pair.ensures, plan_room c.args.records c.args.layers (omega arith) (omega arith))

@@ -2,7 +2,6 @@
 use native.Mathlib.Omega.{arith}
 use Rattle.model.specs.Listing.{space}
 use Rattle.report.specs.Lines.{record_line, record_room}
-use borrow.Author.Rules.{rules}
 use Rattle.report.proofs.put_record.Goals as goal
 
 pub put_pair-requires : goal.put_pair-requires

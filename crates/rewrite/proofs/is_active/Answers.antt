@@ -1,30 +1,41 @@
 -- `is_active` meets its contract. The invariant: the items that are left decide. The measure is what is left of the part.
 -- Assumes nothing.
-use Prim.Native.Nat.{ℕ, ◌-◌, ◌<◌}
+use Prim.Native.Nat.{ℕ, ◌<◌}
 use lib.IntN.{ℤ}
 use native.Mathlib.Omega.{arith}
 use mathlib.Core.Path.{◌≡◌, refl, sym, subst}
-use mathlib.Core.Bool.{Bool}
-use mathlib.Core.List.{List, [], ◌∷◌}
-use borrow.Author.Rules.{rules}
+use mathlib.Core.Bool.{true}
+use mathlib.Core.Logic.{◌⊎◌, inl, inr}
+use mathlib.Core.List.{List}
 use lib.ListN.{length}
 use Rattle.model.specs.Lists.{any}
-use Rattle.model.specs.Task.{Block, changes, active}
-use Rattle.block.specs.Items.{Ranges, readable, next_ahead}
-use Rattle.block.specs.Blocks.{Walk, Passing, walk_start, walk_next, walk_stop, next_is, any_true, any_false}
+use Rattle.model.specs.Task.{changes, active}
+use Rattle.block.specs.Items.{readable, next_ahead}
+use Rattle.block.specs.Blocks.{Walk, Passing, Deciding, walk_next, walk_stop, next_is, any_true, any_false}
 use Rattle.block.specs.declared.ItemAt.{ItemAt}
 use Rattle.block.specs.declared.ItemAt.TheVariants.{Need, Add, Delete, Condition as ConditionAt, Effect as EffectAt, End}
 use Rattle.block.proofs.Passed.{before_end}
 use Rattle.rewrite.proofs.is_active.Invariants.{Over, changing}
 use Rattle.rewrite.proofs.is_active.Goals as goal
 
-pub loop-at-init : goal.loop-at-init
-loop-at-init c = walk_start Over changing c.requires.left.bytes.within
-
 pub next-item-requires : goal.next-item-requires
 next-item-requires c =
     let p = c.requires in
     readable (c.loop-at.invariant.reading p.ranges p.rest tt p.left tt).left
+
+-- an item that changes something decides
+some_change :
+    (part : List ℕ) (x : ItemAt)
+    → ((p : ℕ) × (after : ℕ) × x ≡ Add p after)
+    ⊎ (((p : ℕ) × (after : ℕ) × x ≡ Delete p after)
+    ⊎ ((kd : ℕ) × (v : ℕ) × (z : ℤ) × (from : ℕ) × (n : ℕ) × (after : ℕ) × x ≡ EffectAt kd v z from n after))
+    → Deciding part Over changing true x
+some_change part x (inl (p, after, e)) =
+    subst (Deciding part Over changing true) (sym e) (λ k s w h. any_true changes (unfold changes in refl))
+some_change part x (inr (inl (p, after, e))) =
+    subst (Deciding part Over changing true) (sym e) (λ k s w h. any_true changes (unfold changes in refl))
+some_change part x (inr (inr (kd, v, z, from, n, after, e))) =
+    subst (Deciding part Over changing true) (sym e) (λ k s e w v h. any_true changes (unfold changes in refl))
 
 pub returns-in-Add : goal.returns-in-Add
 unfolding active
@@ -32,28 +43,7 @@ returns-in-Add c =
     record {
       is =
           λ k b l.
-          walk_stop Over changing c.loop-at.invariant (next_is c.next-item.ensures c.in-Add.is)
-          (λ k s w h. any_true changes (unfold changes in refl)) k b tt l tt;
-    }
-
-pub returns-in-Delete : goal.returns-in-Delete
-unfolding active
-returns-in-Delete c =
-    record {
-      is =
-          λ k b l.
-          walk_stop Over changing c.loop-at.invariant (next_is c.next-item.ensures c.in-Delete.is)
-          (λ k s w h. any_true changes (unfold changes in refl)) k b tt l tt;
-    }
-
-pub returns-in-Effect : goal.returns-in-Effect
-unfolding active
-returns-in-Effect c =
-    record {
-      is =
-          λ k b l.
-          walk_stop Over changing c.loop-at.invariant (next_is c.next-item.ensures c.in-Effect.is)
-          (λ k s e w v h. any_true changes (unfold changes in refl)) k b tt l tt;
+          walk_stop Over changing c.loop-at.invariant c.next-item.ensures (some_change _ c.next-item.result c.in-Add.is) k b tt l tt;
     }
 
 pub returns-in-End : goal.returns-in-End

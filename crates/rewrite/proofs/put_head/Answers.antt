@@ -1,5 +1,4 @@
 -- `put_head` meets its contract: two stores side by side. Assumes nothing.
-use borrow.Author.Rules.{rules}
 use Rattle.output.specs.Writing.{written_join}
 use Rattle.rewrite.proofs.put_head.Goals as goal
 

@@ -1,7 +1,4 @@
 -- `put_kept` meets its contract: the part whole, or nothing. Assumes nothing.
-use native.Mathlib.Omega.{arith}
-use borrow.Author.Rules.{rules}
-use borrow.Author.Tests.{not-true, not-false}
 use Rattle.rewrite.specs.Active.{kept_not, kept_whole}
 use Rattle.rewrite.proofs.put_kept.Goals as goal
 

@@ -1,21 +1,22 @@
 -- `normalise` meets its contract. Assumes nothing.
 use mathlib.Core.Path.{sym, ◌∙◌}
+use Rattle.std.proofs.lemmas.Result.{err_from_is_err_and}
 use Rattle.model.specs.Limits.{paper}
 use Rattle.ceiling.proofs.Theorems.Calls.{same_writing, turned_writing}
 use Rattle.table.specs.Names.{wanted_of}
 use Rattle.ceiling.specs.Heads.{ceiling_of}
 use Rattle.rig.specs.Admission.{admitted, turned}
-use borrow.Author.Rules.{rules}
 use Rattle.rig.proofs.normalise.Goals as goal
 
-pub returns-in-Admitted : goal.returns-in-Admitted
+pub returns : goal.returns
 unfolding wanted_of
-returns-in-Admitted c =
-    let same = same_writing (ceiling_of c.args.c) paper _ (admitted _ _ _ c.admit.ensures c.in-Admitted.is) in
+returns c =
+    let same = same_writing (ceiling_of c.args.c) paper _ (admitted _ _ _ c.admit.ensures c.in_ok-admit.was) in
     (c.normalise.ensures.0 ∙ sym (same.normalise _), c.normalise.ensures.1 ∙ sym (same.normal_form _))
 
-pub returns-in-Refused : goal.returns-in-Refused
+pub returns-in_err-admit : goal.returns-in_err-admit
 unfolding wanted_of
-returns-in-Refused c =
-    let back = turned_writing (ceiling_of c.args.c) paper _ _ (turned _ _ _ c.admit.ensures c.in-Refused.is) in
-    (sym (back.normalise _), sym (back.normal_form _))
+returns-in_err-admit c =
+    let p = err_from_is_err_and c.from_residual.result c.from_residual.ensures.1 in
+    let back = turned_writing (ceiling_of c.args.c) paper _ _ (turned _ _ _ c.admit.ensures c.in_err-admit.was) in
+    rw (p.1, p.2) (sym (back.normalise _), sym (back.normal_form _))

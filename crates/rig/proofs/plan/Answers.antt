@@ -1,6 +1,7 @@
 -- `plan` meets its contract. Assumes nothing.
 use mathlib.Core.Path.{sym}
 use lib.Seq.{length-take-le}
+use Rattle.std.proofs.lemmas.Result.{err_from_is_err_and}
 use Rattle.model.specs.Limits.{paper}
 use Rattle.ceiling.proofs.Theorems.Calls.{turned_planning}
 use Rattle.model.specs.Theorems.Campaigns.Demand3.{plan_layers}
@@ -9,26 +10,26 @@ use Rattle.ceiling.specs.Heads.{ceiling_of}
 use Rattle.ceiling.proofs.Numbers.{split}
 use Rattle.rig.specs.Admission.{admitted, turned}
 use Rattle.rig.specs.Planning.{plan_answers, plan_leaves_lem, plan_writes}
-use borrow.Author.Rules.{rules}
 use Rattle.rig.proofs.plan.Goals as goal
 
 pub slice_bounds-plan-end : goal.slice_bounds-plan-end
 slice_bounds-plan-end c = let a = c.args in (split a.c a.layers.now c.used-n.ensures).inside
 
-pub slice_bounds-plan-end-in-Admitted : goal.slice_bounds-plan-end-in-Admitted
-slice_bounds-plan-end-in-Admitted c = let a = c.args in sym (length-take-le _ _ (split a.c a.layers.now c.used-n.ensures).inside)
+pub slice_bounds-plan-end-2 : goal.slice_bounds-plan-end-2
+slice_bounds-plan-end-2 c = let a = c.args in sym (length-take-le _ _ (split a.c a.layers.now c.used-n.ensures).inside)
 
-pub returns-in-Admitted : goal.returns-in-Admitted
+pub returns : goal.returns
 unfolding wanted_of
-returns-in-Admitted c =
+returns c =
     let a = c.args in
     let s = split a.c a.layers.now c.used-n.ensures in
-    let h = admitted _ _ _ c.admit.ensures c.in-Admitted.is in
+    let h = admitted _ _ _ c.admit.ensures c.in_ok-admit.was in
     let e = c.plan.ensures in
     (plan_answers a.c _ _ _ s h _ e.0, plan_leaves_lem a.c _ _ _ s h e.1, plan_writes a.c _ _ _ s h _ e.2, e.3)
 
-pub returns-in-Refused : goal.returns-in-Refused
+pub returns-in_err-admit : goal.returns-in_err-admit
 unfolding wanted_of plan_layers
-returns-in-Refused c =
-    let back = turned_planning (ceiling_of c.args.c) paper _ _ (turned _ _ _ c.admit.ensures c.in-Refused.is) _ _ in
-    (sym (back.plans _), sym back.plan_leaves, sym (back.writes _), tt)
+returns-in_err-admit c =
+    let p = err_from_is_err_and c.from_residual.result c.from_residual.ensures.1 in
+    let back = turned_planning (ceiling_of c.args.c) paper _ _ (turned _ _ _ c.admit.ensures c.in_err-admit.was) _ _ in
+    rw (p.1, p.2) (sym (back.plans _), sym back.plan_leaves, sym (back.writes _), tt)

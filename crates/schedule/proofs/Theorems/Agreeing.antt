@@ -11,7 +11,6 @@ use Rattle.model.specs.Task.{Form, Task}
 use Rattle.model.specs.Move.{State, applicable, real, move_at}
 use Rattle.model.specs.StateTable.{state_of, state_refusal, state_bytes}
 use Rattle.model.specs.Theorems.Reading.WellFormed.{BlockOk, TaskOk}
-use Rattle.model.specs.Theorems.Reading.Agreeing.{AgreeBelow}
 use Rattle.model.proofs.Theorems.Reading.Agreeing.{agree_sym, agree_applicable, agree_real, agree_solves}
 use Rattle.model.proofs.Theorems.Layers.NextLayer.{move_ok}
 use Rattle.state.specs.RoundTrip.{truths_back, values_back, bytes_accepted}

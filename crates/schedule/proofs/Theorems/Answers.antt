@@ -3,7 +3,7 @@
 -- fit. Nothing but a yes writes. Assumes nothing.
 use Prim.Native.Nat.{ℕ, ◌+◌, ◌*◌, ◌≤◌, ◌<◌}
 use Rattle.std.proofs.Common.{arith, ap, ltb→lt}
-use Rattle.std.specs.Prelude.{◌≡◌, Bool, true, false, T, ltb, length}
+use Rattle.std.specs.Prelude.{◌≡◌, Bool, true, false, T, ltb, length, Err}
 use Rattle.std.proofs.Math.Path.{refl}
 use mathlib.Core.List.{List}
 use Rattle.std.proofs.Math.Option.{Option, none, some}
@@ -17,12 +17,9 @@ use Rattle.model.specs.StateTable.{state_of, state_refusal, state_bytes}
 use Rattle.model.specs.Memory.{overwrite}
 use Rattle.model.specs.Calls.{writes, turns, on_output, fitted}
 use Rattle.model.proofs.Theorems.Reading.States.{accepted_state, length_state_bytes}
-use Rattle.schedule.specs.declared.Fault.{Fault}
-use Rattle.schedule.specs.declared.CheckAnswer.{CheckAnswer}
-use Rattle.schedule.specs.declared.CheckAnswer.TheVariants as check
 use Rattle.schedule.specs.Run.{state_after, ValuesInRange, SolvesInRange}
 use Rattle.schedule.specs.Check.{Checked, passes, fails, unmet, check_from, Reply, yes_with, other, reply_of, check_state, check_table, fitted_reply, checking, reply_answer, reply_out, check_answer, check_out}
-use Rattle.schedule.specs.Theorems.Lists.{FirstFault, Unmet, ListRight}
+use Rattle.schedule.specs.Theorems.Lists.{ListRight}
 use Rattle.schedule.proofs.Theorems.Lists.{check_right, passed_solves}
 use Rattle.schedule.proofs.Theorems.Exactly.{fails_first}
 use Rattle.schedule.specs.Theorems.Answers.{Given, start_of, of_table, of_state, short, CheckRight}
@@ -62,7 +59,7 @@ module _ (L : Limits) (t bs ms old : List ℕ) where
           → (T b → length old < n)
           → ((T b → ⊥) → n ≤ length old)
           → ReplyRight
-          (on_output (elim b [ true ↦ turns (record { number = 13; place = 0 }) | false ↦ writes end ]) yes_with (λ r. other (check.Refused r)))
+          (on_output (elim b [ true ↦ turns (record { number = 13; place = 0 }) | false ↦ writes end ]) yes_with (λ r. other (Err r)))
       go true less more = (short g solved (omega (arith, less tt, size)), refl)
       go false less more =
           record {

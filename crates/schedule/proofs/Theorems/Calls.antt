@@ -1,6 +1,6 @@
 -- Which answer the call gives on an accepted table and state, exactly: yes where the list solves the table with all its values in range and
 -- its end state fits, 13 where it does not fit; the first entry that cannot be made, with its fault; "goal not met". Assumes nothing.
-use Rattle.std.specs.Prelude.{ℕ, ◌+◌, ◌*◌, ◌≤◌, ◌<◌, ◌≡◌, ◌↔◌, List, length}
+use Rattle.std.specs.Prelude.{ℕ, ◌+◌, ◌*◌, ◌≤◌, ◌<◌, ◌≡◌, ◌↔◌, List, length, Result, Ok, Err}
 use Rattle.std.proofs.Common.{arith, sym, ◌∙◌}
 use Rattle.std.proofs.Math.Path.{refl, ap, subst}
 use Rattle.std.proofs.Math.Option.{Option, some-ne-none}
@@ -18,7 +18,7 @@ use Rattle.schedule.specs.declared.Fault.{Fault}
 use Rattle.schedule.specs.declared.CheckAnswer.{CheckAnswer}
 use Rattle.schedule.specs.declared.CheckAnswer.TheVariants as check
 use Rattle.schedule.specs.Run.{state_after, SolvesInRange}
-use Rattle.schedule.specs.Check.{Checked, passes, unmet, check_from, reply_of, check_state, check_table, fitted_reply, checking, reply_answer, check_answer, check_out}
+use Rattle.schedule.specs.Check.{Checked, passes, check_from, reply_of, check_state, check_table, fitted_reply, checking, reply_answer, check_answer, check_out}
 use Rattle.schedule.specs.Theorems.Lists.{FirstFault, Unmet}
 use Rattle.schedule.proofs.Theorems.Exactly.{fails_exactly, unmet_exactly, yes_exactly}
 use Rattle.schedule.specs.Theorems.Answers.{Given, start_of}
@@ -37,14 +37,14 @@ module _ (L : Limits) {t bs : List ℕ} {w : Table} (g : Given L t bs w) (ms old
   abbrev s : State
   s = start_of w bs
 
-  abbrev Answer : CheckAnswer → Type 0
+  abbrev Answer : Result CheckAnswer Refusal → Type 0
   Answer a = check_answer L t bs ms old ≡ a
 
   -- the bytes of a state
   abbrev pub state_length : ℕ
   state_length = k.props + 4 * k.vars
 
-  right_at : (a : CheckAnswer) → Answer a → CheckRight L t bs ms old (check_out L t bs ms old) a
+  right_at : (a : Result CheckAnswer Refusal) → Answer a → CheckRight L t bs ms old (check_out L t bs ms old) a
   right_at a e = subst (CheckRight L t bs ms old (check_out L t bs ms old)) e (answer_right L t bs ms old)
 
   -- one table is read from the bytes
@@ -63,18 +63,18 @@ module _ (L : Limits) {t bs : List ℕ} {w : Table} (g : Given L t bs w) (ms old
       ∙ ap (λ (c : Checked). reply_answer (fitted_reply (length old) (reply_of k c))) e
 
   -- "the first index whose move is missing, not allowed or out of range"
-  pub fails_call : (i : ℕ) (f : Fault) → Answer (check.Fails i f) ↔ FirstFault L k s ms i f
+  pub fails_call : (i : ℕ) (f : Fault) → Answer (Ok (check.Fails i f)) ↔ FirstFault L k s ms i f
   unfolding reply_of fitted_reply reply_answer
   fails_call i f = (
-    λ e. let r = right_at (check.Fails i f) e in subst (λ (v : Table). FirstFault L v.task (start_of v bs) ms i f) (same_table r.given.table) r.first,
+    λ e. let r = right_at (Ok (check.Fails i f)) e in subst (λ (v : Table). FirstFault L v.task (start_of v bs) ms i f) (same_table r.given.table) r.first,
     λ h. answer_at ((fails_exactly L k s ms i f).1 h),
   )
 
   -- "or "goal not met""
-  pub unmet_call : Answer check.GoalNotMet ↔ Unmet L k s ms
+  pub unmet_call : Answer (Ok check.GoalNotMet) ↔ Unmet L k s ms
   unfolding reply_of fitted_reply reply_answer
   unmet_call = (
-    λ e. let r = right_at check.GoalNotMet e in subst (λ (v : Table). Unmet L v.task (start_of v bs) ms) (same_table r.given.table) r.unmet,
+    λ e. let r = right_at (Ok check.GoalNotMet) e in subst (λ (v : Table). Unmet L v.task (start_of v bs) ms) (same_table r.given.table) r.unmet,
     λ h. answer_at ((unmet_exactly L k s ms).1 h),
   )
 
@@ -89,18 +89,18 @@ module _ (L : Limits) {t bs : List ℕ} {w : Table} (g : Given L t bs w) (ms old
   passes_at h = (yes_exactly L k s ms (given_range g)).1 h
 
   -- "Yes holds exactly when the list solves the table and all its values stay within ±1,000,000"; its end state fits
-  pub yes_call : Answer (check.Yes state_length) ↔ (SolvesInRange L k s ms × (state_length ≤ length old))
+  pub yes_call : Answer (Ok (check.Yes state_length)) ↔ (SolvesInRange L k s ms × (state_length ≤ length old))
   unfolding reply_of fitted_reply on_output reply_answer end
   yes_call = (
-    λ e. let r = right_at (check.Yes state_length) e in (subst (λ (v : Table). SolvesInRange L v.task (start_of v bs) ms) (same_table r.given.table) r.solves, r.fits),
-    λ h. answer_at (passes_at h.0) ∙ rw (fitted_whole (length old) end (omega (arith, size, h.1))) (ap check.Yes size),
+    λ e. let r = right_at (Ok (check.Yes state_length)) e in (subst (λ (v : Table). SolvesInRange L v.task (start_of v bs) ms) (same_table r.given.table) r.solves, r.fits),
+    λ h. answer_at (passes_at h.0) ∙ rw (fitted_whole (length old) end (omega (arith, size, h.1))) (ap (λ (n : ℕ). Ok (check.Yes n)) size),
   )
 
   -- "too short a buffer for it is 13, last"
-  pub short_call : Answer (check.Refused (record { number = 13; place = 0 })) ↔ (SolvesInRange L k s ms × (length old < state_length))
+  pub short_call : Answer (Err (record { number = 13; place = 0 })) ↔ (SolvesInRange L k s ms × (length old < state_length))
   unfolding reply_of fitted_reply on_output reply_answer end
   short_call = (
-    λ e. go refl (right_at (check.Refused (record { number = 13; place = 0 })) e).0,
+    λ e. go refl (right_at (Err (record { number = 13; place = 0 })) e).0,
     λ h. answer_at (passes_at h.0) ∙ rw (fitted_short (length old) end (omega (arith, size, h.1))) refl,
   )
     where

@@ -1,12 +1,7 @@
 -- Lists checked from their bytes, computed: M1 of document 01, and a table whose values can leave the range and come back. Assumes nothing.
-use Rattle.std.specs.Prelude.{ℕ, ◌≡◌, refl, List, [], ◌∷◌, ◌++◌, replicate}
-use Rattle.model.specs.Limits.{paper}
-use Rattle.model.specs.Theorems.Campaigns.Tables.{zeros, m1, m1_normal, empty_goal}
+use Rattle.std.specs.Prelude.{refl}
+use Rattle.model.specs.Theorems.Campaigns.Tables.{m1, m1_normal, empty_goal}
 use Rattle.model.specs.Theorems.Campaigns.Computing.{computing}
-use Rattle.schedule.specs.declared.Fault.{Fault}
-use Rattle.schedule.specs.declared.Fault.TheVariants as fault
-use Rattle.schedule.specs.declared.CheckAnswer.{CheckAnswer}
-use Rattle.schedule.specs.declared.CheckAnswer.TheVariants as check
 use Rattle.schedule.specs.Check.{range_fault, block_fault, fault_of, goal_tested, check_move, check_from, reply_of, check_state, check_table, fitted_reply, checking, reply_answer, reply_out, check_answer, check_out}
 use Rattle.schedule.specs.Theorems.Cases.{CheckCases, swing}
 

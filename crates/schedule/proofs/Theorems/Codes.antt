@@ -1,6 +1,6 @@
 -- The answer's two numbers, taken apart, are the answer: the length of a state takes less than 31 bits, and no refusal has the number 0.
 -- Assumes nothing.
-use Rattle.std.specs.Prelude.{ℕ, ◌+◌, ◌-◌, ◌^◌, ◌≤◌, ◌≡◌, refl, List}
+use Rattle.std.specs.Prelude.{ℕ, ◌+◌, ◌-◌, ◌^◌, ◌≤◌, ◌≡◌, refl, List, Result, Ok, Err}
 use native.Mathlib.Omega.{arith}
 use Rattle.std.proofs.Common.{◌∙◌, le-leb}
 use Rattle.std.proofs.Math.Path.{subst}
@@ -37,20 +37,20 @@ module _ (t bs ms old new : List ℕ) where
       small_wider (omega arith) (omega (arith, ok.props, ok.vars)) small
   back_small (short g solved less) = record { positive = omega arith; number = omega arith; place = omega arith }
 
-  right_small : (r : CheckAnswer) → CheckRight paper t bs ms old new r → CheckSmall r
+  right_small : (r : Result CheckAnswer Refusal) → CheckRight paper t bs ms old new r → CheckSmall r
   unfolding paper
-  right_small (check.Yes n) right =
+  right_small (Ok (check.Yes n)) right =
       let ok : TaskOk paper written right.table.task = reading_task paper written t right.given.table in
       omega (arith, right.size, ok.props, ok.vars)
-  right_small (check.Fails i f) right = tt
-  right_small check.GoalNotMet right = tt
-  right_small (check.Refused r) right = back_small right.0
+  right_small (Ok (check.Fails i f)) right = tt
+  right_small (Ok check.GoalNotMet) right = tt
+  right_small (Err r) right = back_small right.0
 
 pub check_small : (t bs ms out : List ℕ) → CheckSmall (check_answer paper t bs ms out)
 check_small t bs ms out =
     right_small t bs ms out (check_out paper t bs ms out) (check_answer paper t bs ms out) (answer_right paper t bs ms out)
 
-fault_back : (i : ℕ) (f : Fault) → no_apart i (fault_number f) ≡ check.Fails i f
+fault_back : (i : ℕ) (f : Fault) → no_apart i (fault_number f) ≡ Ok (check.Fails i f)
 unfolding no_apart fault_apart fault_number
 fault_back i fault.Missing = refl
 fault_back i fault.NotAllowed = refl
@@ -71,12 +71,12 @@ no_back i n few =
     result_apart _ _ code (omega arith) ∙ rw (le-leb (2 ^ 31) code (omega arith), below) refl
 
 -- an answer from its numbers; the index held x before
-pub check_back : (a : CheckAnswer) → CheckSmall a → (x : ℕ) → check_apart (check_code a) (check_index a x) ≡ a
+pub check_back : (a : Result CheckAnswer Refusal) → CheckSmall a → (x : ℕ) → check_apart (check_code a) (check_index a x) ≡ a
 unfolding check_apart check_code check_index no_apart
-check_back (check.Yes n) small x = result_apart _ _ n (omega arith) ∙ rw (lt-leb (2 ^ 31) n (omega arith)) refl
-check_back (check.Fails i f) small x = no_back i (fault_number f) (fault_most f) ∙ fault_back i f
-check_back check.GoalNotMet small x = no_back x 0 (omega arith)
-check_back (check.Refused r) small x = refusal_apart _ _ r small
+check_back (Ok (check.Yes n)) small x = result_apart _ _ n (omega arith) ∙ rw (lt-leb (2 ^ 31) n (omega arith)) refl
+check_back (Ok (check.Fails i f)) small x = no_back i (fault_number f) (fault_most f) ∙ fault_back i f
+check_back (Ok check.GoalNotMet) small x = no_back x 0 (omega arith)
+check_back (Err r) small x = refusal_apart _ _ r small
 
 pub check_apart_lem : (t bs ms out : List ℕ) (x : ℕ) → let a = check_answer paper t bs ms out in check_apart (check_code a) (check_index a x) ≡ a
 check_apart_lem t bs ms out x = check_back (check_answer paper t bs ms out) (check_small t bs ms out) x

@@ -17,7 +17,7 @@ use Rattle.schedule.specs.declared.Fault.{Fault}
 use Rattle.schedule.specs.Run.{state_after, ValuesInRange, InRange, SolvesInRange, CanMove}
 use Rattle.schedule.specs.Check.{fault_of, Checked, passes, fails, unmet, goal_tested, check_move, check_from}
 use Rattle.schedule.proofs.Theorems.Moves.{MoveRight, fault_right, fault_is}
-use Rattle.schedule.specs.Theorems.Lists.{fault_at, Made, FirstFault, Unmet, Passed, FailsFrom, ListRight}
+use Rattle.schedule.specs.Theorems.Lists.{fault_at, Made, FirstFault, Unmet, Passed, ListRight}
 
 module _ (L : Limits) (k : Task) where
   -- ---- one entry more in front

@@ -9,7 +9,7 @@ use Rattle.model.specs.Lists.{all_below}
 use Rattle.model.specs.Task.{Task}
 use Rattle.model.specs.Move.{State, applicable, real, move_at}
 use Rattle.model.specs.StateTable.{value_in_range, state_of, state_bytes}
-use Rattle.model.specs.Calls.{Output, writes, turns, result_of, moved, step_with_state}
+use Rattle.model.specs.Calls.{writes, turns, result_of, moved, step_with_state}
 use Rattle.model.proofs.Theorems.Laws.Booleans.{true_t}
 use Rattle.model.proofs.Theorems.Laws.Searching.{all_below_at, at_all_below, all_below_fails}
 use Rattle.schedule.specs.declared.Fault.{Fault}

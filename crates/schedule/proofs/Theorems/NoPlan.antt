@@ -1,16 +1,15 @@
 -- A yes and "no plan" never meet: where decide says "no plan" of a table and a state, in whatever memories, no list is a yes. Assumes nothing.
-use Rattle.std.specs.Prelude.{ℕ, ◌/◌, ◌≡◌, Bool, true, false, ltb, ℤ, length}
+use Rattle.std.specs.Prelude.{ℕ, ◌/◌, ◌≡◌, Bool, true, false, ltb, ℤ, length, Ok, Err}
 use Rattle.std.proofs.Math.Path.{refl, subst}
 use Rattle.std.proofs.Common.{sym}
 use mathlib.Core.List.{List}
 use Rattle.std.proofs.Math.Option.{Option, none, some}
 use Rattle.model.specs.declared.Refusal.{Refusal}
-use Rattle.model.specs.declared.DecideAnswer.{DecideAnswer}
 use Rattle.model.specs.declared.DecideAnswer.TheVariants as decide
 use Rattle.model.specs.Limits.{paper}
-use Rattle.model.specs.Task.{written, normal, Task}
+use Rattle.model.specs.Task.{written, Task}
 use Rattle.model.specs.Reading.{Table, Verdict, accepted, only, reading}
-use Rattle.model.specs.Move.{State, Solves, real}
+use Rattle.model.specs.Move.{State}
 use Rattle.model.specs.NormalForm.{normal_task, normal_state}
 use Rattle.model.specs.StateTable.{state_of, state_refusal}
 use Rattle.model.specs.Layer.{reached, exhausted}
@@ -71,18 +70,18 @@ module _ (t : List ℕ) {w : Table} (e : reading paper (only written) t ≡ acce
   pub campaign_means : (normalOut : List ℕ) (layers : List ℤ) → Meant w.task (start_of w bs) (campaign_decision paper t bs normalOut layers)
   unfolding campaign_decision on_output normalised normal_of
   campaign_means normalOut layers =
-      subst (λ (v : Verdict). Meant w.task (start_of w bs) (on_output (fitted (length normalOut) (normal_of v)) (λ nb. decide_answer paper nb bs layers) (λ r. decide.Refused r)))
+      subst (λ (v : Verdict). Meant w.task (start_of w bs) (on_output (fitted (length normalOut) (normal_of v)) (λ nb. decide_answer paper nb bs layers) (λ r. Err r)))
       (sym e) (go (fitted (length normalOut) (writes (normal_bytes w.task))) (fitted_cases (length normalOut) (normal_bytes w.task)))
     where
-      go : (o : Output) → FittedTo (normal_bytes w.task) o → Meant w.task (start_of w bs) (on_output o (λ nb. decide_answer paper nb bs layers) (λ r. decide.Refused r))
+      go : (o : Output) → FittedTo (normal_bytes w.task) o → Meant w.task (start_of w bs) (on_output o (λ nb. decide_answer paper nb bs layers) (λ r. Err r))
       go (writes nb) is = subst (λ (x : List ℕ). Meant w.task (start_of w bs) (decide_answer paper x bs layers)) (sym is) (decide_means layers)
       go (turns r) is = tt
 
 -- a list that the checker says yes to is none where decide says "no plan"
 pub yes_and_no_plan :
     {t bs : List ℕ} {w : Table} (g : Given paper t bs w) (ms out normalOut : List ℕ) (layers : List ℤ) {m : ℕ}
-    → check_answer paper t bs ms out ≡ check.Yes (state_length paper g ms out)
-    → campaign_decision paper t bs normalOut layers ≡ decide.NoPlan m
+    → check_answer paper t bs ms out ≡ Ok (check.Yes (state_length paper g ms out))
+    → campaign_decision paper t bs normalOut layers ≡ Ok (decide.NoPlan m)
     → ⊥
 yes_and_no_plan {t} {bs} {w} g ms out normalOut layers said no_plan =
     let never : Unsolvable w.task (start_of w bs) = subst (Meant w.task (start_of w bs)) no_plan (campaign_means t g.table bs normalOut layers) in

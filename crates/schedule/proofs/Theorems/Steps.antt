@@ -2,18 +2,17 @@
 -- next, and at that entry it turns back with the fault's number. Assumes nothing.
 use Prim.Native.Nat.{ℕ, zero, suc, ◌≤◌, ◌<◌}
 use Rattle.std.proofs.Common.{not-suc-le-zero, arith, sym, ap₂, ◌∙◌}
-use Rattle.std.specs.Prelude.{◌≡◌, length, take}
+use Rattle.std.specs.Prelude.{◌≡◌, length, take, Err}
 use Rattle.std.proofs.Math.Path.{refl, ap}
 use mathlib.Core.List.{List, [], ◌∷◌}
 use Rattle.std.proofs.Math.Option.{Option, none, some}
 use Rattle.std.proofs.Math.ListN.{get_or}
-use Rattle.model.specs.declared.WriteAnswer.TheVariants as write
 use Rattle.model.specs.Limits.{Limits, paper}
 use Rattle.model.specs.Task.{written, Task}
 use Rattle.model.specs.Reading.{Table, Verdict, only, reading}
 use Rattle.model.specs.Move.{State, real, move_at}
 use Rattle.model.specs.StateTable.{state_of, state_bytes}
-use Rattle.model.specs.Calls.{writes, turns, fitted, write_answer, output_after, step_with_state, step_of, stepped, step_answer, step_out}
+use Rattle.model.specs.Calls.{writes, fitted, write_answer, output_after, step_with_state, step_of, stepped, step_answer, step_out}
 use Rattle.model.specs.Theorems.Reading.WellFormed.{TaskOk}
 use Rattle.model.proofs.Theorems.Reading.Accepted.{reading_task}
 use Rattle.model.proofs.Theorems.Reading.Agreeing.{agree_bytes}
@@ -81,7 +80,7 @@ module _ {t bs : List ℕ} {w : Table} (g : Given paper t bs w) (ms : List ℕ) 
         ∙ ap (λ (o : Option Fault). step_output o after) (agree_fault ok (bytes_agree k (state_at i) small) b)
 
     -- at an entry that cannot be made, step turns back with the fault's number
-    pub step_refuses : (f : Fault) → fault_at paper k (start_of w bs) ms i ≡ some f → (out : List ℕ) → step_answer paper t (bytes_at i) (get_or ms i 0) out ≡ write.Refused (record { number = fault_number f; place = 0 })
+    pub step_refuses : (f : Fault) → fault_at paper k (start_of w bs) ms i ≡ some f → (out : List ℕ) → step_answer paper t (bytes_at i) (get_or ms i 0) out ≡ Err (record { number = fault_number f; place = 0 })
     unfolding step_answer stepped fitted write_answer step_output
     step_refuses f e out =
         let after = state_bytes k.props k.vars (real (move_at k (get_or ms i 0)) (state_of k.props (bytes_at i))) in
@@ -111,5 +110,5 @@ module _ {t bs : List ℕ} {w : Table} (g : Given paper t bs w) (ms : List ℕ) 
         step_next = step_is ∙ ap₂ step_output e same
 
   -- "the first index whose move is missing, not allowed or out of range": step's refusal in the state before it
-  pub first_step : {i : ℕ} {f : Fault} → FirstFault paper k (start_of w bs) ms i f → (out : List ℕ) → step_answer paper t (bytes_at i) (get_or ms i 0) out ≡ write.Refused (record { number = fault_number f; place = 0 })
+  pub first_step : {i : ℕ} {f : Fault} → FirstFault paper k (start_of w bs) ms i f → (out : List ℕ) → step_answer paper t (bytes_at i) (get_or ms i 0) out ≡ Err (record { number = fault_number f; place = 0 })
   first_step {i} {f} h out = step_refuses i h.inside h.before f h.fault out

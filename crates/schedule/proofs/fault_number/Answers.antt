@@ -1,5 +1,4 @@
 -- `fault_number` meets its contract. Assumes nothing.
-use borrow.Author.Rules.{rules}
 use mathlib.Core.Path.{sym, ap}
 use Rattle.schedule.specs.Check.{fault_number}
 use Rattle.schedule.proofs.fault_number.Goals as goal

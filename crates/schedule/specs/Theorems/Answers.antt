@@ -2,7 +2,7 @@
 -- written; an index is the first entry that cannot be made, with its fault; refusals are those of table and state, and 13 where a yes does not
 -- fit. Nothing but a yes writes. Assumes nothing.
 use Prim.Native.Nat.{ℕ, ◌+◌, ◌*◌, ◌≤◌, ◌<◌}
-use Rattle.std.specs.Prelude.{◌≡◌, length}
+use Rattle.std.specs.Prelude.{◌≡◌, length, Result, Ok, Err}
 use mathlib.Core.List.{List}
 use Rattle.std.proofs.Math.Option.{none, some}
 use Rattle.model.specs.Limits.{Limits}
@@ -15,7 +15,6 @@ use Rattle.model.specs.Memory.{overwrite}
 use Rattle.schedule.specs.declared.Fault.{Fault}
 use Rattle.schedule.specs.declared.CheckAnswer.{CheckAnswer}
 use Rattle.schedule.specs.Run.{state_after, SolvesInRange}
-use Rattle.schedule.specs.Check.{unmet}
 use Rattle.schedule.specs.Theorems.Lists.{FirstFault, Unmet}
 use Rattle.schedule.specs.declared.CheckAnswer.TheVariants as check
 
@@ -64,8 +63,8 @@ module _ (L : Limits) (t bs ms old new : List ℕ) where
         → length old < w.task.props + 4 * w.task.vars
         → Back (record { number = 13; place = 0 })
 
-  abbrev pub CheckRight : CheckAnswer → Type 0
-  CheckRight (check.Yes n) = YesRight n
-  CheckRight (check.Fails i f) = FailsRight i f
-  CheckRight check.GoalNotMet = UnmetRight
-  CheckRight (check.Refused r) = Back r × (new ≡ old)
+  abbrev pub CheckRight : Result CheckAnswer Refusal → Type 0
+  CheckRight (Ok (check.Yes n)) = YesRight n
+  CheckRight (Ok (check.Fails i f)) = FailsRight i f
+  CheckRight (Ok check.GoalNotMet) = UnmetRight
+  CheckRight (Err r) = Back r × (new ≡ old)

@@ -1,11 +1,10 @@
 -- `check_truths` meets its contract. The invariant: no byte passed is wrong. The measure is what is left of the truth bytes.
 -- Assumes nothing.
-use Prim.Native.Nat.{◌-◌}
 use native.Mathlib.Omega.{arith}
-use mathlib.Core.Option.{none}
-use Rattle.model.specs.Theorems.Laws.Searching.{Searched}
+use mathlib.Core.Option.{none, some}
+use mathlib.Core.Path.{◌∙◌, ap}
 use Rattle.model.proofs.Theorems.Laws.Searching.{searched_start, searched_next, searched_found, searched_all}
-use Rattle.state.specs.Checking.{check_of, wrong_truth, truth_wrong, truth_right, truths_found, truths_none}
+use Rattle.state.specs.Checking.{check_of, truth_wrong, truth_right, truths_found, truths_none}
 use Rattle.state.proofs.check_truths.Goals as goal
 
 pub loop-p-init : goal.loop-p-init
@@ -16,7 +15,8 @@ unfolding check_of
 returns-then-state-p-gt1 c =
     let l = c.loop-p in
     let a = c.args in
-    truths_found a.props a.state.now none
+    ap some c.at.ensures
+    ∙ truths_found a.props a.state.now none
     (searched_found l.invariant (omega arith) (truth_wrong a.state.now l.p c.if-state-p-gt1.true))
 
 pub loop-p-preserved : goal.loop-p-preserved

@@ -1,15 +1,14 @@
 -- `check_values` meets its contract. The invariant: no value passed is out of range. The measure is what is left of the
 -- variables. Assumes nothing.
-use Prim.Native.Nat.{◌-◌}
 use native.Mathlib.Omega.{arith}
-use mathlib.Core.Path.{◌≡◌, ◌∙◌, ap}
+use mathlib.Core.Option.{some}
+use mathlib.Core.Path.{◌∙◌, ap}
 use mathlib.Core.Bool.{not}
 use Rattle.integer.specs.Linear.{back}
 use Rattle.model.specs.Limits.{paper}
 use Rattle.model.specs.StateTable.{value_in_range}
-use Rattle.model.specs.Theorems.Laws.Searching.{Searched}
 use Rattle.model.proofs.Theorems.Laws.Searching.{searched_start, searched_next, searched_found, searched_all}
-use Rattle.state.specs.Checking.{check_of, wrong_value, value_flag, values_found, values_none}
+use Rattle.state.specs.Checking.{check_of, value_flag, values_found, values_none}
 use Rattle.state.specs.Loading.{value_read}
 use Rattle.state.proofs.check_values.Goals as goal
 
@@ -18,26 +17,28 @@ loop-v-init c = searched_start _ _
 
 pub loop-v-preserved : goal.loop-v-preserved
 loop-v-preserved c =
-    let flag : wrong_value c.args.props c.args.state.now c.loop-v.v ≡ not c.in_range.result = let l = c.loop-v in
     let a = c.args in
+    let l = c.loop-v in
     let z = c.i32_at.result in
-    value_flag a.props a.state.now l.v c.in_range.result
+    searched_next l.invariant (omega arith)
+    (value_flag a.props a.state.now l.v c.in_range.result
     ((rw (back z c.i32_at.type_inv) at c.in_range.ensures)
-    ∙ ap (value_in_range paper) (c.i32_at.ensures.0 ∙ value_read a.props a.state.now l.v)) in
-    searched_next c.loop-v.invariant (omega arith) (flag ∙ ap not c.if-in_range.true)
+    ∙ ap (value_in_range paper) (c.i32_at.ensures.0 ∙ value_read a.props a.state.now l.v))
+    ∙ ap not c.if-not-in_range.false)
 
-pub returns-else-in_range : goal.returns-else-in_range
+pub returns-then-not-in_range : goal.returns-then-not-in_range
 unfolding check_of
-returns-else-in_range c =
-    let flag : wrong_value c.args.props c.args.state.now c.loop-v.v ≡ not c.in_range.result = let l = c.loop-v in
+returns-then-not-in_range c =
     let a = c.args in
+    let l = c.loop-v in
     let z = c.i32_at.result in
-    value_flag a.props a.state.now l.v c.in_range.result
+    ap some c.at.ensures
+    ∙ values_found a.props a.state.now a.vars
+    (searched_found l.invariant (omega arith)
+    (value_flag a.props a.state.now l.v c.in_range.result
     ((rw (back z c.i32_at.type_inv) at c.in_range.ensures)
-    ∙ ap (value_in_range paper) (c.i32_at.ensures.0 ∙ value_read a.props a.state.now l.v)) in
-    let a = c.args in
-    values_found a.props a.state.now a.vars
-    (searched_found c.loop-v.invariant (omega arith) (flag ∙ ap not c.if-in_range.false))
+    ∙ ap (value_in_range paper) (c.i32_at.ensures.0 ∙ value_read a.props a.state.now l.v))
+    ∙ ap not c.if-not-in_range.true))
 
 pub returns : goal.returns
 unfolding check_of

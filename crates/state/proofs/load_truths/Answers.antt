@@ -1,10 +1,9 @@
 -- `load_truths` meets its contract. The invariant: the truths passed are written. The measure is what is left of them.
 -- Assumes nothing.
-use Prim.Native.Nat.{◌-◌}
 use native.Mathlib.Omega.{arith}
 use mathlib.Core.Path.{refl}
 use Rattle.model.specs.StateTable.{state_of}
-use Rattle.state.specs.Loading.{Written, written_start, written_length_lem, written_step, written_end}
+use Rattle.state.specs.Loading.{written_start, written_length_lem, written_step, written_end}
 use Rattle.state.proofs.load_truths.Goals as goal
 
 pub loop-p-init : goal.loop-p-init

@@ -1,11 +1,9 @@
 -- `load_values` meets its contract. The invariant: the values passed are written. The measure is what is left of them.
 -- Assumes nothing.
-use Prim.Native.Nat.{◌-◌}
 use native.Mathlib.Omega.{arith}
 use mathlib.Core.Path.{◌∙◌}
 use Rattle.integer.specs.Linear.{back}
-use Rattle.model.specs.StateTable.{state_value}
-use Rattle.state.specs.Loading.{Written, written_start, written_length_lem, written_step, written_end, value_read}
+use Rattle.state.specs.Loading.{written_start, written_length_lem, written_step, written_end, value_read}
 use Rattle.state.proofs.load_values.Goals as goal
 
 pub loop-v-init : goal.loop-v-init

@@ -3,7 +3,6 @@ use native.Mathlib.Omega.{arith}
 use mathlib.Core.Path.{ap, ◌∙◌}
 use mathlib.Core.List.{List}
 use Prim.Native.Nat.{ℕ}
-use borrow.Author.Rules.{rules}
 use Rattle.integer.specs.Store.{put}
 use Rattle.model.specs.Lists.{tabulate}
 use Rattle.model.specs.StateTable.{values_bytes}

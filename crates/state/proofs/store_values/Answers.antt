@@ -1,11 +1,11 @@
 -- `store_values` meets its contract. The invariant: the values passed are stored. The measure is what is left of them.
 -- Assumes nothing.
-use Prim.Native.Nat.{ℕ, ◌+◌, ◌*◌, ◌-◌, ◌≤◌}
+use Prim.Native.Nat.{◌+◌, ◌*◌, ◌≤◌}
 use native.Mathlib.Omega.{arith}
 use lib.IntN.{pos}
 use lib.ListN.{length, get_or}
 use Rattle.integer.specs.Linear.{back}
-use Rattle.state.specs.Storing.{state_in, ValuesStored, values_start, values_length, values_step, values_end}
+use Rattle.state.specs.Storing.{state_in, values_start, values_length, values_step, values_end}
 use Rattle.state.proofs.store_values.Goals as goal
 
 pub loop-v-init : goal.loop-v-init

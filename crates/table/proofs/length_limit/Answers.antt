@@ -1,7 +1,7 @@
 -- `length_limit` meets its contract, by the heads wanted.
 -- Assumes nothing.
+use mathlib.Core.Logic.{inl, inr}
 use mathlib.Core.Path.{refl}
-use borrow.Author.Rules.{rules}
 use Rattle.model.specs.Limits.{paper}
 use Rattle.model.specs.Reading.{length_limit}
 use Rattle.command.specs.Names.{wanted_of}
@@ -16,9 +16,5 @@ unfolding wanted_of length_limit paper
 returns-in-Normal c = rw c.in-Normal.is refl
 
 pub returns-in-Both : goal.returns-in-Both
-unfolding wanted_of
-returns-in-Both c = rw c.in-Both.is c.read_limit.ensures
-
-pub returns-in-Stored : goal.returns-in-Stored
 unfolding wanted_of length_limit
-returns-in-Stored c = rw c.in-Stored.is c.read_limit-in-Stored.ensures
+returns-in-Both c = elim c.in-Both.is [ inl e ↦ rw e c.read_limit.ensures | inr e ↦ rw e c.read_limit.ensures ]

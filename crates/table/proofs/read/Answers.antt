@@ -1,6 +1,5 @@
 -- `read` meets its contract: it is what outline answers.
 -- Assumes nothing.
-use borrow.Author.Rules.{rules}
 use Rattle.model.specs.Calls.{read_answer}
 use Rattle.command.specs.Names.{wanted_of}
 use Rattle.table.proofs.read.Goals as goal

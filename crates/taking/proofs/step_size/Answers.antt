@@ -5,7 +5,6 @@ use Rattle.integer.specs.Linear.{zlin, back, nat_abs_split}
 use Rattle.block.specs.Sums.{is_mark}
 use Rattle.targets.specs.Wanting.{non_negative}
 use Rattle.taking.specs.Taking.{step_unbounded, step_finite, above_finite}
-use borrow.Author.Rules.{rules}
 use Rattle.taking.proofs.step_size.Goals as goal
 
 pub returns-then-is_unbounded : goal.returns-then-is_unbounded

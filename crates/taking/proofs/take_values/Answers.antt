@@ -1,196 +1,135 @@
--- `take_values` meets its contract. The invariant: in every reading, the moves for the variables below `done` are taken. The measure is
--- the number of variables that are left. Assumes nothing.
-use Prim.Native.Nat.{◌+◌, ◌-◌, ◌≤◌}
+-- `take_values` meets its contract. Assumes nothing.
+use Prim.Native.Nat.{ℕ, ◌+◌, ◌^◌, ◌<◌, ◌≤◌}
 use native.Mathlib.Omega.{arith}
-use mathlib.Core.Path.{◌≡◌, refl, sym, ap, ◌∙◌, subst}
+use mathlib.Core.Path.{◌≡◌, refl, sym, ap, ◌∙◌}
 use mathlib.Core.Bool.{false}
 use lib.IntN.{ℤ, pos, nat_abs, ◌-ℤ◌}
 use lib.ListN.{get_or}
-use Rattle.integer.specs.Linear.{back, back_small}
+use lib.Signed.{mag}
+use mir.Syntax.{w64}
+use mir.Val.{SFits, of_z, to_z}
+use Rattle.integer.specs.Linear.{back, small_fits, op2_fits, op2_back, abs_sub}
 use Rattle.model.specs.Layer.{reaches}
 use Rattle.block.specs.Blocks.{effect_base}
-use Rattle.achievers.specs.Search.{IsAchiever, AchieverIs, part_in, demand_by, demand_size}
-use Rattle.taking.specs.Taking.{Takeable, encoded_mag, move_wantable, move_small, no_achiever, effect_wantable, effect_above, achiever_taken}
+use Rattle.achievers.specs.Search.{part_in, demand_by, demand_size}
+use Rattle.taking.specs.Taking.{encoded_mag, move_wantable, move_small, no_achiever, effect_wantable, effect_above, achiever_taken}
 use Rattle.targets.specs.Encoding.{is_free}
-use Rattle.taking.specs.Descending.{ValuesTakeable, ValuesTaken, values_start, values_end, value_room, row_room, start_room, target_size, value_is, old_is, old_size, value_free, value_had, value_take, takeable}
-use borrow.Author.Rules.{rules}
+use Rattle.taking.specs.Descending.{values_start, values_end, value_room, start_room, target_size, value_is, old_is, old_size, value_free, value_had, value_take, takeable, achievable}
 use Rattle.taking.proofs.take_values.Goals as goal
 
-pub loop-done-init : goal.loop-done-init
-loop-done-init c = (omega arith, λ x. values_start x)
+pub loop-v-init : goal.loop-v-init
+loop-v-init c x = values_start x
 
 pub offset_bounds-wanted-v : goal.offset_bounds-wanted-v
-offset_bounds-wanted-v c = omega (arith, value_room c.requires c.loop-done-test.true)
+offset_bounds-wanted-v c = omega (arith, value_room c.requires c.loop-v-test.true)
 
 pub bounds-wanted-v : goal.bounds-wanted-v
-bounds-wanted-v c = value_room c.requires c.loop-done-test.true
+bounds-wanted-v c = value_room c.requires c.loop-v-test.true
 
-pub loop-done-preserved-then-is_free : goal.loop-done-preserved-then-is_free
-loop-done-preserved-then-is_free c =
-    let freed : c.is_free.result ≡ is_free (get_or c.args.wanted.now c.loop-done.done (pos 0)) = c.is_free.ensures ∙ ap is_free (back _ c.target-1.given) in
-    (omega arith, λ x. value_free x c.loop-done-test.true (c.loop-done.invariant.1 x) (sym (freed) ∙ c.if-is_free.true))
-
-pub offset_bounds-row-v : goal.offset_bounds-row-v
-offset_bounds-row-v c = omega (arith, row_room c.requires c.loop-done-test.true)
-
-pub bounds-row-v : goal.bounds-row-v
-bounds-row-v c = row_room c.requires c.loop-done-test.true
-
-pub loop-done-preserved-then-reaches : goal.loop-done-preserved-then-reaches
-loop-done-preserved-then-reaches c =
-    let freed : c.is_free.result ≡ is_free (get_or c.args.wanted.now c.loop-done.done (pos 0)) = c.is_free.ensures ∙ ap is_free (back _ c.target-1.given) in
-    let reached : (x : ValuesTakeable c.args.table.now c.args.marks.now c.args.used.now c.args.row.now c.args.lows.now c.args.start.now c.args.moves c.args.vars c.args.wanted.now c.args.wants c.args.counts.now) → reaches (x.scene.search.over.val c.loop-done.done) (get_or c.args.wanted.now c.loop-done.done (pos 0)) ≡ c.reaches.result = λ x. value_is x c.loop-done-test.true _ (λ w e. c.reaches.ensures w (back _ c.x-1.given ∙ e) ∙ ap (reaches w) (back _ c.target-1.given)) in
-    (omega arith, λ x. value_had x c.loop-done-test.true (c.loop-done.invariant.1 x) (sym (freed) ∙ c.if-is_free.false) (reached x ∙ c.if-reaches.true))
+pub loop-v-preserved-then-is_free : goal.loop-v-preserved-then-is_free
+loop-v-preserved-then-is_free c x =
+    let freed : c.is_free.result ≡ is_free (get_or c.args.wanted.now c.loop-v.v (pos 0)) = c.is_free.ensures ∙ ap is_free (back _ c.target-1.given) in
+    value_free x c.loop-v-test.true (c.loop-v.invariant x) (sym freed ∙ c.if-is_free.true)
 
 pub offset_bounds-start-v : goal.offset_bounds-start-v
-offset_bounds-start-v c = omega (arith, start_room c.requires c.loop-done-test.true)
+offset_bounds-start-v c = omega (arith, start_room c.requires c.loop-v-test.true)
 
 pub bounds-start-v : goal.bounds-start-v
-bounds-start-v c = start_room c.requires c.loop-done-test.true
+bounds-start-v c = start_room c.requires c.loop-v-test.true
 
 pub find_achiever-requires : goal.find_achiever-requires
-find_achiever-requires c =
-    let x = c.requires in
-    record { search = x.scene.search; values = x.scene.values }
+find_achiever-requires c = achievable c.requires
 
-pub loop-done-preserved-in_default : goal.loop-done-preserved-in_default
-loop-done-preserved-in_default c =
-    let freed : c.is_free.result ≡ is_free (get_or c.args.wanted.now c.loop-done.done (pos 0)) = c.is_free.ensures ∙ ap is_free (back _ c.target-1.given) in
-    let aimed : is_free (get_or c.args.wanted.now c.loop-done.done (pos 0)) ≡ false = sym freed ∙ c.if-is_free.false in
-    let reached : (x : ValuesTakeable c.args.table.now c.args.marks.now c.args.used.now c.args.row.now c.args.lows.now c.args.start.now c.args.moves c.args.vars c.args.wanted.now c.args.wants c.args.counts.now) → reaches (x.scene.search.over.val c.loop-done.done) (get_or c.args.wanted.now c.loop-done.done (pos 0)) ≡ c.reaches.result =
-    λ x. value_is x c.loop-done-test.true _ (λ w e. c.reaches.ensures w (back _ c.x-1.given ∙ e) ∙ ap (reaches w) (back _ c.target-1.given)) in
-    let missed : (x : ValuesTakeable c.args.table.now c.args.marks.now c.args.used.now c.args.row.now c.args.lows.now c.args.start.now c.args.moves c.args.vars c.args.wanted.now c.args.wants c.args.counts.now) → reaches (x.scene.search.over.val c.loop-done.done) (get_or c.args.wanted.now c.loop-done.done (pos 0)) ≡ false =
-    λ x. reached x ∙ c.if-reaches.false in
-    let so_far : ValuesTakeable c.args.table.now c.args.marks.now c.args.used.now c.args.row.now c.args.lows.now c.args.start.now c.args.moves c.args.vars c.args.wanted.now c.args.wants c.args.counts.now → Takeable c.args.table.now c.args.marks.now c.args.used.now c.args.row.now c.args.lows.now c.args.moves c.loop-done.wants c.loop-done.counts =
-    λ x. takeable x.scene (c.loop-done.invariant.1 x).is in (
-      omega arith,
-      λ x.
-          let k = x.scene.search in
-          let none = rw (back (get_or c.args.wanted.now c.loop-done.done (pos 0)) c.target-1.given) at
-          (subst (IsAchiever _ _ k.task k.over _ _ _) c.in_default.is (c.find_achiever.ensures (record { search = k; values = x.scene.values }))) in
-          value_take x c.loop-done-test.true (c.loop-done.invariant.1 x) aimed (missed x) (no_achiever (so_far x) none),
-    )
+pub loop-v-preserved-then-reaches : goal.loop-v-preserved-then-reaches
+loop-v-preserved-then-reaches c x =
+    let z = get_or c.args.wanted.now c.loop-v.v (pos 0) in
+    let aimed : is_free z ≡ false = sym (c.is_free.ensures ∙ ap is_free (back z c.target-1.given)) ∙ c.if-is_free.false in
+    let missed = value_is x c.loop-v-test.true _ (λ w e. c.reaches.ensures w (back _ c.x-1.given ∙ e) ∙ ap (reaches w) (back z c.target-1.given)) ∙ c.if-reaches.true in
+    value_had x c.loop-v-test.true (c.loop-v.invariant x) aimed missed
+
+pub loop-v-preserved-in_default : goal.loop-v-preserved-in_default
+loop-v-preserved-in_default c x =
+    let z = get_or c.args.wanted.now c.loop-v.v (pos 0) in
+    let aimed : is_free z ≡ false = sym (c.is_free.ensures ∙ ap is_free (back z c.target-1.given)) ∙ c.if-is_free.false in
+    let missed = value_is x c.loop-v-test.true _ (λ w e. c.reaches.ensures w (back _ c.x-1.given ∙ e) ∙ ap (reaches w) (back z c.target-1.given)) ∙ c.if-reaches.false in
+    let none = rw (back z c.target-1.given) at (c.in_default.ensures (achievable x)) in
+    value_take x c.loop-v-test.true (c.loop-v.invariant x) aimed missed (no_achiever (takeable x.scene (c.loop-v.invariant x).is) none)
 
 pub runs-requires : goal.runs-requires
 runs-requires c =
-    let freed : c.is_free.result ≡ is_free (get_or c.args.wanted.now c.loop-done.done (pos 0)) = c.is_free.ensures ∙ ap is_free (back _ c.target-1.given) in
-    let aimed : is_free (get_or c.args.wanted.now c.loop-done.done (pos 0)) ≡ false = sym freed ∙ c.if-is_free.false in
-    let so_far : ValuesTakeable c.args.table.now c.args.marks.now c.args.used.now c.args.row.now c.args.lows.now c.args.start.now c.args.moves c.args.vars c.args.wanted.now c.args.wants c.args.counts.now → Takeable c.args.table.now c.args.marks.now c.args.used.now c.args.row.now c.args.lows.now c.args.moves c.loop-done.wants c.loop-done.counts =
-    λ x. takeable x.scene (c.loop-done.invariant.1 x).is in
-    let found : (x : ValuesTakeable c.args.table.now c.args.marks.now c.args.used.now c.args.row.now c.args.lows.now c.args.start.now c.args.moves c.args.vars c.args.wanted.now c.args.wants c.args.counts.now) → AchieverIs c.args.table.now c.args.marks.now x.scene.search.task x.scene.search.over c.loop-done.done (get_or c.args.wanted.now c.loop-done.done (pos 0)) c.args.moves c.in-Effect.index c.in-Effect.kind c.in-Effect.base c.in-Effect.from c.in-Effect.terms c.in-Effect.value =
-    λ x.
-    let k = x.scene.search in
-    rw (back (get_or c.args.wanted.now c.loop-done.done (pos 0)) c.target-1.given) at
-    (subst (IsAchiever _ _ k.task k.over _ _ _) c.in-Effect.is (c.find_achiever.ensures (record { search = k; values = x.scene.values }))) in
     let x = c.requires in
-    let h = found x in
-    let value = c.in-Effect.value in
-    rw (back (get_or c.args.wanted.now c.loop-done.done (pos 0)) c.target-1.given, back _ c.old-1.given, back value (encoded_mag h.encoded))
-    (omega (arith, target_size x c.loop-done-test.true aimed), old_size x c.loop-done-test.true, effect_above (so_far x) h refl)
+    let z = get_or c.args.wanted.now c.loop-v.v (pos 0) in
+    let aimed : is_free z ≡ false = sym (c.is_free.ensures ∙ ap is_free (back z c.target-1.given)) ∙ c.if-is_free.false in
+    let h = rw (back z c.target-1.given) at (c.in-Some.ensures (achievable x)) in
+    let value = c.in-Some.a.value in
+    rw (back z c.target-1.given, back _ c.old-1.given, back value (encoded_mag h.encoded))
+    (omega (arith, target_size x c.loop-v-test.true aimed), old_size x c.loop-v-test.true, effect_above (takeable x.scene (c.loop-v.invariant x).is) h refl)
 
 pub recount-requires : goal.recount-requires
 recount-requires c =
-    let so_far : ValuesTakeable c.args.table.now c.args.marks.now c.args.used.now c.args.row.now c.args.lows.now c.args.start.now c.args.moves c.args.vars c.args.wanted.now c.args.wants c.args.counts.now → Takeable c.args.table.now c.args.marks.now c.args.used.now c.args.row.now c.args.lows.now c.args.moves c.loop-done.wants c.loop-done.counts =
-    λ x. takeable x.scene (c.loop-done.invariant.1 x).is in
-    let found : (x : ValuesTakeable c.args.table.now c.args.marks.now c.args.used.now c.args.row.now c.args.lows.now c.args.start.now c.args.moves c.args.vars c.args.wanted.now c.args.wants c.args.counts.now) → AchieverIs c.args.table.now c.args.marks.now x.scene.search.task x.scene.search.over c.loop-done.done (get_or c.args.wanted.now c.loop-done.done (pos 0)) c.args.moves c.in-Effect.index c.in-Effect.kind c.in-Effect.base c.in-Effect.from c.in-Effect.terms c.in-Effect.value =
-    λ x.
-    let k = x.scene.search in
-    rw (back (get_or c.args.wanted.now c.loop-done.done (pos 0)) c.target-1.given) at
-    (subst (IsAchiever _ _ k.task k.over _ _ _) c.in-Effect.is (c.find_achiever.ensures (record { search = k; values = x.scene.values }))) in
-    move_small (so_far c.requires) (found c.requires).lt
+    let x = c.requires in
+    move_small (takeable x.scene (c.loop-v.invariant x).is) (c.in-Some.ensures (achievable x)).lt
 
 pub part-part-requires : goal.part-part-requires
-part-part-requires c =
-    let found : (x : ValuesTakeable c.args.table.now c.args.marks.now c.args.used.now c.args.row.now c.args.lows.now c.args.start.now c.args.moves c.args.vars c.args.wanted.now c.args.wants c.args.counts.now) → AchieverIs c.args.table.now c.args.marks.now x.scene.search.task x.scene.search.over c.loop-done.done (get_or c.args.wanted.now c.loop-done.done (pos 0)) c.args.moves c.in-Effect.index c.in-Effect.kind c.in-Effect.base c.in-Effect.from c.in-Effect.terms c.in-Effect.value =
-    λ x.
-    let k = x.scene.search in
-    rw (back (get_or c.args.wanted.now c.loop-done.done (pos 0)) c.target-1.given) at
-    (subst (IsAchiever _ _ k.task k.over _ _ _) c.in-Effect.is (c.find_achiever.ensures (record { search = k; values = x.scene.values }))) in
-    part_in c.requires.scene.search (found c.requires).lt
+part-part-requires c = let x = c.requires in part_in x.scene.search (c.in-Some.ensures (achievable x)).lt
 
-pub sub-c-requires : goal.sub-c-requires
-sub-c-requires c =
-    let freed : c.is_free.result ≡ is_free (get_or c.args.wanted.now c.loop-done.done (pos 0)) = c.is_free.ensures ∙ ap is_free (back _ c.target-1.given) in
-    let aimed : is_free (get_or c.args.wanted.now c.loop-done.done (pos 0)) ≡ false = sym freed ∙ c.if-is_free.false in
-    let found : (x : ValuesTakeable c.args.table.now c.args.marks.now c.args.used.now c.args.row.now c.args.lows.now c.args.start.now c.args.moves c.args.vars c.args.wanted.now c.args.wants c.args.counts.now) → AchieverIs c.args.table.now c.args.marks.now x.scene.search.task x.scene.search.over c.loop-done.done (get_or c.args.wanted.now c.loop-done.done (pos 0)) c.args.moves c.in-Effect.index c.in-Effect.kind c.in-Effect.base c.in-Effect.from c.in-Effect.terms c.in-Effect.value =
-    λ x.
-    let k = x.scene.search in
-    rw (back (get_or c.args.wanted.now c.loop-done.done (pos 0)) c.target-1.given) at
-    (subst (IsAchiever _ _ k.task k.over _ _ _) c.in-Effect.is (c.find_achiever.ensures (record { search = k; values = x.scene.values }))) in
-    let told : c.demand.result ≡ demand_by c.in-Effect.kind (get_or c.args.wanted.now c.loop-done.done (pos 0)) = rw (back (get_or c.args.wanted.now c.loop-done.done (pos 0)) c.target-1.given) at c.demand.ensures in
-    let base = c.in-Effect.base in
-    let base_small = effect_base (found c.requires).effect in
-    rw (back c.demand.result c.demand.type_inv, back_small base (omega (arith, base_small)))
-    (omega (arith, ap nat_abs told, base_small, demand_size c.in-Effect.kind (get_or c.args.wanted.now c.loop-done.done (pos 0)), target_size c.requires c.loop-done-test.true aimed))
+-- what is left for the sum of an effect
+module _ (kd : ℕ) (z base d : ℤ) (told : d ≡ demand_by kd z) (small : nat_abs base ≤ 1000000) where
+  needed_size : nat_abs (d -ℤ base) ≤ nat_abs z + 1000001
+  needed_size = omega (arith, abs_sub d base, ap nat_abs told, demand_size kd z)
+
+  module _ (p : mag d < 2 ^ 63) (h : nat_abs z + 1000001 < 2 ^ 63) where
+    needed_fits : SFits w64 (to_z w64 (of_z w64 d) -ℤ to_z w64 (of_z w64 base))
+    needed_fits = op2_fits ◌-ℤ◌ d base (record { sfits = p }) (small_fits base (omega arith)) (omega (arith, needed_size))
+
+    needed_is : to_z w64 (of_z w64 (to_z w64 (of_z w64 d) -ℤ to_z w64 (of_z w64 base))) ≡ d -ℤ base
+    needed_is = op2_back ◌-ℤ◌ d base (record { sfits = p }) (small_fits base (omega arith)) (omega (arith, needed_size))
+
+pub overflow_sub-c : goal.overflow_sub-c
+overflow_sub-c c =
+    let x = c.requires in
+    let z = get_or c.args.wanted.now c.loop-v.v (pos 0) in
+    let aimed : is_free z ≡ false = sym (c.is_free.ensures ∙ ap is_free (back z c.target-1.given)) ∙ c.if-is_free.false in
+    let h = rw (back z c.target-1.given) at (c.in-Some.ensures (achievable x)) in
+    let told = rw (back z c.target-1.given) at c.demand.ensures in
+    needed_fits c.in-Some.a.kind z c.in-Some.a.base c.demand.result told (effect_base h.effect) c.demand.type_inv (omega (arith, target_size x c.loop-v-test.true aimed))
 
 pub want_block-wants-requires : goal.want_block-wants-requires
 want_block-wants-requires c =
-    let so_far : ValuesTakeable c.args.table.now c.args.marks.now c.args.used.now c.args.row.now c.args.lows.now c.args.start.now c.args.moves c.args.vars c.args.wanted.now c.args.wants c.args.counts.now → Takeable c.args.table.now c.args.marks.now c.args.used.now c.args.row.now c.args.lows.now c.args.moves c.loop-done.wants c.loop-done.counts =
-    λ x. takeable x.scene (c.loop-done.invariant.1 x).is in
-    let found : (x : ValuesTakeable c.args.table.now c.args.marks.now c.args.used.now c.args.row.now c.args.lows.now c.args.start.now c.args.moves c.args.vars c.args.wanted.now c.args.wants c.args.counts.now) → AchieverIs c.args.table.now c.args.marks.now x.scene.search.task x.scene.search.over c.loop-done.done (get_or c.args.wanted.now c.loop-done.done (pos 0)) c.args.moves c.in-Effect.index c.in-Effect.kind c.in-Effect.base c.in-Effect.from c.in-Effect.terms c.in-Effect.value =
-    λ x.
-    let k = x.scene.search in
-    rw (back (get_or c.args.wanted.now c.loop-done.done (pos 0)) c.target-1.given) at
-    (subst (IsAchiever _ _ k.task k.over _ _ _) c.in-Effect.is (c.find_achiever.ensures (record { search = k; values = x.scene.values }))) in
-    move_wantable (so_far c.requires) (found c.requires).lt c.part-part.ensures.0
+    let x = c.requires in
+    move_wantable (takeable x.scene (c.loop-v.invariant x).is) (c.in-Some.ensures (achievable x)).lt c.part-part.ensures.0
 
 pub want_sum-wants-requires : goal.want_sum-wants-requires
 want_sum-wants-requires c =
-    let freed : c.is_free.result ≡ is_free (get_or c.args.wanted.now c.loop-done.done (pos 0)) = c.is_free.ensures ∙ ap is_free (back _ c.target-1.given) in
-    let aimed : is_free (get_or c.args.wanted.now c.loop-done.done (pos 0)) ≡ false = sym freed ∙ c.if-is_free.false in
-    let so_far : ValuesTakeable c.args.table.now c.args.marks.now c.args.used.now c.args.row.now c.args.lows.now c.args.start.now c.args.moves c.args.vars c.args.wanted.now c.args.wants c.args.counts.now → Takeable c.args.table.now c.args.marks.now c.args.used.now c.args.row.now c.args.lows.now c.args.moves c.loop-done.wants c.loop-done.counts =
-    λ x. takeable x.scene (c.loop-done.invariant.1 x).is in
-    let found : (x : ValuesTakeable c.args.table.now c.args.marks.now c.args.used.now c.args.row.now c.args.lows.now c.args.start.now c.args.moves c.args.vars c.args.wanted.now c.args.wants c.args.counts.now) → AchieverIs c.args.table.now c.args.marks.now x.scene.search.task x.scene.search.over c.loop-done.done (get_or c.args.wanted.now c.loop-done.done (pos 0)) c.args.moves c.in-Effect.index c.in-Effect.kind c.in-Effect.base c.in-Effect.from c.in-Effect.terms c.in-Effect.value =
-    λ x.
-    let k = x.scene.search in
-    rw (back (get_or c.args.wanted.now c.loop-done.done (pos 0)) c.target-1.given) at
-    (subst (IsAchiever _ _ k.task k.over _ _ _) c.in-Effect.is (c.find_achiever.ensures (record { search = k; values = x.scene.values }))) in
-    let told : c.demand.result ≡ demand_by c.in-Effect.kind (get_or c.args.wanted.now c.loop-done.done (pos 0)) = rw (back (get_or c.args.wanted.now c.loop-done.done (pos 0)) c.target-1.given) at c.demand.ensures in
-    let base = c.in-Effect.base in
-    let base_small = effect_base (found c.requires).effect in
-    let needed : (c.sub-c.result ≡ demand_by c.in-Effect.kind (get_or c.args.wanted.now c.loop-done.done (pos 0)) -ℤ base) × (nat_abs c.sub-c.result ≤ nat_abs (get_or c.args.wanted.now c.loop-done.done (pos 0)) + 1000001) =
-    let d = rw (back c.demand.result c.demand.type_inv, back_small base (omega (arith, base_small))) at c.sub-c.ensures in
-    (d.0 ∙ ap (λ (y : ℤ). y -ℤ base) told, omega (arith, d.1, ap nat_abs told, base_small, demand_size c.in-Effect.kind (get_or c.args.wanted.now c.loop-done.done (pos 0)))) in
-    let x = so_far c.requires in
-    let h = found c.requires in
+    let x = c.requires in
+    let z = get_or c.args.wanted.now c.loop-v.v (pos 0) in
+    let aimed : is_free z ≡ false = sym (c.is_free.ensures ∙ ap is_free (back z c.target-1.given)) ∙ c.if-is_free.false in
+    let h = rw (back z c.target-1.given) at (c.in-Some.ensures (achievable x)) in
+    let small = effect_base h.effect in
+    let told = rw (back z c.target-1.given) at c.demand.ensures in
+    let size = target_size x c.loop-v-test.true aimed in
+    let y = takeable x.scene (c.loop-v.invariant x).is in
     let e = c.part-part.ensures.0 in
-    (effect_wantable x h e (c.want_block-wants.ensures (move_wantable x h.lt e)), rw (back c.sub-c.result c.sub-c.type_inv) (omega (arith, needed.1, target_size c.requires c.loop-done-test.true aimed)))
+    (effect_wantable y h e (c.want_block-wants.ensures (move_wantable y h.lt e)), rw (needed_is c.in-Some.a.kind z c.in-Some.a.base c.demand.result told small c.demand.type_inv (omega (arith, size))) (omega (arith, needed_size c.in-Some.a.kind z c.in-Some.a.base c.demand.result told small, size)))
 
-pub loop-done-preserved : goal.loop-done-preserved
-loop-done-preserved c =
-    let freed : c.is_free.result ≡ is_free (get_or c.args.wanted.now c.loop-done.done (pos 0)) = c.is_free.ensures ∙ ap is_free (back _ c.target-1.given) in
-    let aimed : is_free (get_or c.args.wanted.now c.loop-done.done (pos 0)) ≡ false = sym freed ∙ c.if-is_free.false in
-    let reached : (x : ValuesTakeable c.args.table.now c.args.marks.now c.args.used.now c.args.row.now c.args.lows.now c.args.start.now c.args.moves c.args.vars c.args.wanted.now c.args.wants c.args.counts.now) → reaches (x.scene.search.over.val c.loop-done.done) (get_or c.args.wanted.now c.loop-done.done (pos 0)) ≡ c.reaches.result =
-    λ x. value_is x c.loop-done-test.true _ (λ w e. c.reaches.ensures w (back _ c.x-1.given ∙ e) ∙ ap (reaches w) (back _ c.target-1.given)) in
-    let missed : (x : ValuesTakeable c.args.table.now c.args.marks.now c.args.used.now c.args.row.now c.args.lows.now c.args.start.now c.args.moves c.args.vars c.args.wanted.now c.args.wants c.args.counts.now) → reaches (x.scene.search.over.val c.loop-done.done) (get_or c.args.wanted.now c.loop-done.done (pos 0)) ≡ false =
-    λ x. reached x ∙ c.if-reaches.false in
-    let so_far : ValuesTakeable c.args.table.now c.args.marks.now c.args.used.now c.args.row.now c.args.lows.now c.args.start.now c.args.moves c.args.vars c.args.wanted.now c.args.wants c.args.counts.now → Takeable c.args.table.now c.args.marks.now c.args.used.now c.args.row.now c.args.lows.now c.args.moves c.loop-done.wants c.loop-done.counts =
-    λ x. takeable x.scene (c.loop-done.invariant.1 x).is in
-    let found : (x : ValuesTakeable c.args.table.now c.args.marks.now c.args.used.now c.args.row.now c.args.lows.now c.args.start.now c.args.moves c.args.vars c.args.wanted.now c.args.wants c.args.counts.now) → AchieverIs c.args.table.now c.args.marks.now x.scene.search.task x.scene.search.over c.loop-done.done (get_or c.args.wanted.now c.loop-done.done (pos 0)) c.args.moves c.in-Effect.index c.in-Effect.kind c.in-Effect.base c.in-Effect.from c.in-Effect.terms c.in-Effect.value =
-    λ x.
-    let k = x.scene.search in
-    rw (back (get_or c.args.wanted.now c.loop-done.done (pos 0)) c.target-1.given) at
-    (subst (IsAchiever _ _ k.task k.over _ _ _) c.in-Effect.is (c.find_achiever.ensures (record { search = k; values = x.scene.values }))) in
-    let told : c.demand.result ≡ demand_by c.in-Effect.kind (get_or c.args.wanted.now c.loop-done.done (pos 0)) = rw (back (get_or c.args.wanted.now c.loop-done.done (pos 0)) c.target-1.given) at c.demand.ensures in
-    let base = c.in-Effect.base in
-    let base_small = effect_base (found c.requires).effect in
-    let needed : (c.sub-c.result ≡ demand_by c.in-Effect.kind (get_or c.args.wanted.now c.loop-done.done (pos 0)) -ℤ base) × (nat_abs c.sub-c.result ≤ nat_abs (get_or c.args.wanted.now c.loop-done.done (pos 0)) + 1000001) =
-    let d = rw (back c.demand.result c.demand.type_inv, back_small base (omega (arith, base_small))) at c.sub-c.ensures in
-    (d.0 ∙ ap (λ (y : ℤ). y -ℤ base) told, omega (arith, d.1, ap nat_abs told, base_small, demand_size c.in-Effect.kind (get_or c.args.wanted.now c.loop-done.done (pos 0)))) in
-    let value = c.in-Effect.value in
-    let old = get_or c.args.start.now c.loop-done.done (pos 0) in (
-      omega arith,
-      λ x.
-          let y = so_far x in
-          let h = found x in
-          let e = c.part-part.ensures.0 in
-          let block = c.want_block-wants.ensures (move_wantable y h.lt e) in
-          value_take x c.loop-done-test.true (c.loop-done.invariant.1 x) aimed (missed x)
-          (achiever_taken y h e block (old_is x c.loop-done-test.true) needed.0
-          (rw (back c.sub-c.result c.sub-c.type_inv) at (c.want_sum-wants.ensures (effect_wantable y h e block)))
-          (rw (back (get_or c.args.wanted.now c.loop-done.done (pos 0)) c.target-1.given, back old c.old-1.given, back value (encoded_mag h.encoded)) at c.runs.ensures)
-          c.recount.ensures),
-    )
+pub loop-v-preserved : goal.loop-v-preserved
+loop-v-preserved c x =
+    let z = get_or c.args.wanted.now c.loop-v.v (pos 0) in
+    let aimed : is_free z ≡ false = sym (c.is_free.ensures ∙ ap is_free (back z c.target-1.given)) ∙ c.if-is_free.false in
+    let missed = value_is x c.loop-v-test.true _ (λ w e. c.reaches.ensures w (back _ c.x-1.given ∙ e) ∙ ap (reaches w) (back z c.target-1.given)) ∙ c.if-reaches.false in
+    let h = rw (back z c.target-1.given) at (c.in-Some.ensures (achievable x)) in
+    let small = effect_base h.effect in
+    let told = rw (back z c.target-1.given) at c.demand.ensures in
+    let size = target_size x c.loop-v-test.true aimed in
+    let value = c.in-Some.a.value in
+    let y = takeable x.scene (c.loop-v.invariant x).is in
+    let e = c.part-part.ensures.0 in
+    let block = c.want_block-wants.ensures (move_wantable y h.lt e) in
+    value_take x c.loop-v-test.true (c.loop-v.invariant x) aimed missed
+    (achiever_taken y h e block (old_is x c.loop-v-test.true) (ap (λ (y : ℤ). y -ℤ c.in-Some.a.base) told)
+    (rw (needed_is c.in-Some.a.kind z c.in-Some.a.base c.demand.result told small c.demand.type_inv (omega (arith, size))) at (c.want_sum-wants.ensures (effect_wantable y h e block)))
+    (rw (back z c.target-1.given, back _ c.old-1.given, back value (encoded_mag h.encoded)) at c.runs.ensures)
+    c.recount.ensures)
 
 pub returns : goal.returns
-returns c x = values_end x c.loop-done.invariant.0 c.loop-done-test.false (c.loop-done.invariant.1 x)
+returns c x = values_end x c.loop-v.auto.v-end c.loop-v-test.false (c.loop-v.invariant x)

@@ -1,16 +1,17 @@
--- `keep_props` meets its contract. The invariant: of the propositions below `p` those are kept that the layer has. Assumes nothing.
-use Prim.Native.Nat.{◌-◌, ◌≤◌}
+-- `keep_props` meets its contract. Assumes nothing.
 use native.Mathlib.Omega.{arith}
-use mathlib.Core.Bool.{false}
-use Rattle.targets.specs.Carrying.{Mapped, mapped_none, mapped_step, mapped_end, held_in}
+use Rattle.targets.specs.Carrying.{mapped_none, mapped_step, mapped_end, held_in}
 use Rattle.targets.proofs.keep_props.Goals as goal
+use Rattle.targets.proofs.keep_props.Goals.{then-wanted-p, else-wanted-p}
 
 pub loop-p-init : goal.loop-p-init
-loop-p-init c = (omega arith, mapped_none)
+loop-p-init c = mapped_none
 
 pub loop-p-preserved : goal.loop-p-preserved
 unfolding held_in
-loop-p-preserved c = (omega arith, mapped_step (omega arith) c.loop-p.invariant.1 c.both.ensures)
+loop-p-preserved c =
+    mapped_step (omega arith) c.loop-p.invariant
+    (elim c.if-wanted-p.branch [ then-wanted-p w ↦ rw (w.wanted-is, w.if-wanted-p.true) | else-wanted-p w ↦ rw (w.wanted-is, w.if-wanted-p.false) ])
 
 pub returns : goal.returns
-returns c = mapped_end (omega arith) (omega arith) c.loop-p.invariant.1
+returns c = mapped_end c.loop-p.auto.p-end c.loop-p-test.false c.loop-p.invariant

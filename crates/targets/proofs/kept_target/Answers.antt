@@ -4,7 +4,6 @@ use Rattle.integer.specs.Linear.{back}
 use Rattle.model.specs.Layer.{Value, reaches}
 use Rattle.model.specs.Memory.{encode}
 use Rattle.targets.specs.Carrying.{kept_reached, kept_low}
-use borrow.Author.Rules.{rules}
 use Rattle.targets.proofs.kept_target.Goals as goal
 
 pub returns-then-reaches : goal.returns-then-reaches

@@ -1,14 +1,6 @@
--- `make_moves` meets its contract. The invariant: the entries so far are made, and the arrays hold the state after them. The measure is the
--- number of those that are left. Assumes nothing.
-use Prim.Native.Nat.{◌-◌}
-use native.Mathlib.Omega.{arith}
-use borrow.Author.Rules.{rules}
-use lib.ListN.{length}
-use Rattle.transition.specs.Entries.{Making, making_start, making_turnable, making_ended, making_made, making_fails}
+-- `make_moves` meets its contract. The invariant: the entries so far are made, and the arrays hold the state after them. Assumes nothing.
+use Rattle.transition.specs.Entries.{Making}
 use Rattle.transition.proofs.make_moves.Given as goal
 
-abbrev pub invariant-loop-i : goal.invariant-loop-i
-invariant-loop-i l = Making l.table l.marks l.props l.vars l.moves l.list l.initial.had l.initial.values l.initial.has l.initial.next l.i l.had l.values l.has l.next
-
-abbrev pub decreases-loop-i : goal.decreases-loop-i
-decreases-loop-i l = length l.list - l.i
+abbrev pub invariant-loop-index : goal.invariant-loop-index
+invariant-loop-index l = Making l.blocks.table.now l.blocks.marks.now l.blocks.props l.blocks.vars l.blocks.moves l.list l.initial.state.has l.initial.state.values l.initial.next.has l.initial.next.values l.index l.state.has l.state.values l.next.has l.next.values

@@ -2,7 +2,6 @@
 use Prim.Native.Nat.{◌+◌, ◌*◌}
 use native.Mathlib.Omega.{arith}
 use mathlib.Core.Path.{◌≡◌, sym}
-use borrow.Author.Rules.{rules}
 use lib.ListN.{length}
 use Rattle.model.specs.StateTable.{state_bytes}
 use Rattle.model.proofs.Theorems.Reading.States.{length_state_bytes}
@@ -11,16 +10,10 @@ use Rattle.output.specs.Answers.{answered_short, answered_whole}
 use Rattle.real_move.specs.Moving.{holds_small}
 use Rattle.transition.proofs.put_state.Goals as goal
 
-pub overflow_mul-size : goal.overflow_mul-size
-overflow_mul-size c = omega (arith, c.requires.few_vars)
-
-pub overflow_add-size : goal.overflow_add-size
-overflow_add-size c = omega (arith, c.requires.few_props, c.requires.few_vars)
-
 pub returns-then-out-size : goal.returns-then-out-size
 returns-then-out-size c =
-    let size : length (state_bytes c.args.props c.args.vars (state_in c.args.has.now c.args.values.now)) ≡ c.args.props + 4 * c.args.vars = length_state_bytes c.args.props c.args.vars (state_in c.args.has.now c.args.values.now) in
-    answered_short (sym (size)) (omega (arith, c.if-out-size.true))
+    let size : length (state_bytes c.args.props c.args.vars (state_in c.args.state.now.has c.args.state.now.values)) ≡ c.args.props + 4 * c.args.vars = length_state_bytes c.args.props c.args.vars (state_in c.args.state.now.has c.args.state.now.values) in
+    rw c.at.ensures (answered_short (sym size) (omega (arith, c.if-out-size.true)))
 
 pub store-requires : goal.store-requires
 store-requires c =
@@ -29,5 +22,5 @@ store-requires c =
 
 pub returns : goal.returns
 returns c =
-    let size : length (state_bytes c.args.props c.args.vars (state_in c.args.has.now c.args.values.now)) ≡ c.args.props + 4 * c.args.vars = length_state_bytes c.args.props c.args.vars (state_in c.args.has.now c.args.values.now) in
-    answered_whole (sym (size)) (omega (arith, c.if-out-size.false)) c.store.ensures
+    let size : length (state_bytes c.args.props c.args.vars (state_in c.args.state.now.has c.args.state.now.values)) ≡ c.args.props + 4 * c.args.vars = length_state_bytes c.args.props c.args.vars (state_in c.args.state.now.has c.args.state.now.values) in
+    answered_whole (sym size) (omega (arith, c.if-out-size.false)) c.store.ensures

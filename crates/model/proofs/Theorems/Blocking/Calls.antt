@@ -1,7 +1,7 @@
 -- The goal part that blocks, from the bytes of a normal table and a state to the answer: what an offset means, and that the answers are
 -- those of decide case by case: a part where decide answers "no plan", nothing where it answers a layer, the same refusals, the same
 -- layer memory. For all inputs. Assumes nothing.
-use Rattle.std.specs.Prelude.{ℕ, ◌/◌, ◌≤◌, ◌<◌, ◌≡◌, ◌↔◌, ◌⊎◌, List, ℤ, length, get_or}
+use Rattle.std.specs.Prelude.{ℕ, ◌/◌, ◌≤◌, ◌<◌, ◌≡◌, ◌↔◌, ◌⊎◌, List, ℤ, length, get_or, Option, Some, None, Result, Ok, Err}
 use Rattle.std.proofs.Math.Path.{refl}
 use Rattle.std.proofs.Common.{sym, ap, ap₂, ◌∙◌, subst, subst₂}
 use Rattle.std.proofs.Math.Option.{none}
@@ -9,8 +9,6 @@ use Rattle.integer.specs.BigEndian.{AllBytes}
 use Rattle.model.specs.declared.Refusal.{Refusal}
 use Rattle.model.specs.declared.DecideAnswer.{DecideAnswer}
 use Rattle.model.specs.declared.DecideAnswer.TheVariants as decide
-use Rattle.model.specs.declared.BlockingAnswer.{BlockingAnswer}
-use Rattle.model.specs.declared.BlockingAnswer.TheVariants as blocking
 use Rattle.model.specs.Limits.{paper}
 use Rattle.model.specs.Task.{normal}
 use Rattle.model.specs.Command.{task_bytes}
@@ -30,7 +28,7 @@ use Rattle.model.specs.Theorems.Blocking.Parts.{FirstUnmet}
 use Rattle.model.proofs.Theorems.Blocking.Parts.{first_one, first_unmet_holds, unmet_some, offset_inside, part_code}
 use Rattle.model.specs.Theorems.Blocking.Calls.{Blocks}
 
-module _ {t bs : List ℕ} {d : DecideAnswer} where
+module _ {t bs : List ℕ} {d : Result DecideAnswer Refusal} where
   -- one offset blocks at most
   pub blocks_one : {o p : ℕ} → Blocks t bs d o → Blocks t bs d p → o ≡ p
   blocks_one {o} {p} a b =
@@ -60,10 +58,10 @@ module _ {t bs : List ℕ} {d : DecideAnswer} where
 module _ (t bs : List ℕ) (mem : List ℤ) where
   -- the answers of decide and of blocking are one of three pairs: what holds of each pair holds of theirs
   pub answers_cases :
-      (P : DecideAnswer → BlockingAnswer → Type 0)
-      → ((m : ℕ) → P (decide.Plan m m) blocking.Nothing)
-      → ((d : DecideAnswer) (o : ℕ) → Blocks t bs d o → P d (blocking.Blocks o))
-      → ((r : Refusal) → P (decide.Refused r) (blocking.Refused r))
+      (P : Result DecideAnswer Refusal → Result (Option ℕ) Refusal → Type 0)
+      → ((m : ℕ) → P (Ok (decide.Plan m m)) (Ok None))
+      → ((d : Result DecideAnswer Refusal) (o : ℕ) → Blocks t bs d o → P d (Ok (Some o)))
+      → ((r : Refusal) → P (Err r) (Err r))
       → P (decide_answer paper t bs mem) (blocking_answer paper t bs mem)
   unfolding decide_answer blocking_answer decide_of blocking_of decided blocked unmet_answer meets_goal
   answers_cases P planned unplanned refused =
@@ -83,7 +81,7 @@ module _ (t bs : List ℕ) (mem : List ℤ) where
           let l = layer_at w.task (layer_zero w bs) m in
           let found = unmet_some w.task l end.unmet in
           rw found.1
-          (unplanned (decide.NoPlan m) (part_offset w.task found.0)
+          (unplanned (Ok (decide.NoPlan m)) (part_offset w.task found.0)
           (record {
             table = w;
             read = e;
@@ -98,36 +96,36 @@ module _ (t bs : List ℕ) (mem : List ℤ) where
       by_built w e state (stopped n m) h = refused (record { number = n; place = m })
 
   -- the answer is offset o exactly where the record above holds of it
-  pub blocks_means : (o : ℕ) → (blocking_answer paper t bs mem ≡ blocking.Blocks o) ↔ Blocks t bs (decide_answer paper t bs mem) o
+  pub blocks_means : (o : ℕ) → (blocking_answer paper t bs mem ≡ Ok (Some o)) ↔ Blocks t bs (decide_answer paper t bs mem) o
   blocks_means o = (
-    answers_cases (λ d b. b ≡ blocking.Blocks o → Blocks t bs d o) (λ m e. clash cc)
+    answers_cases (λ d b. b ≡ Ok (Some o) → Blocks t bs d o) (λ m e. clash cc)
         (λ d p a e. let same : p ≡ o = cc in subst (Blocks t bs d) same a) (λ r e. clash cc),
-    answers_cases (λ d b. Blocks t bs d o → b ≡ blocking.Blocks o) (λ m a. clash (cc a.decides))
-        (λ d p a b. ap blocking.Blocks (blocks_one a b)) (λ r a. clash (cc a.decides)),
+    answers_cases (λ d b. Blocks t bs d o → b ≡ Ok (Some o)) (λ m a. clash (cc a.decides))
+        (λ d p a b. ap (λ (o : ℕ). Ok (Some o)) (blocks_one a b)) (λ r a. clash (cc a.decides)),
   )
 
   -- "When a campaign comes back as "no plan"": there is an offset where decide answers so, and nowhere else
-  pub blocks_where : ((o : ℕ) × (blocking_answer paper t bs mem ≡ blocking.Blocks o)) ↔ DecideNoPlan (decide_answer paper t bs mem)
+  pub blocks_where : ((o : ℕ) × (blocking_answer paper t bs mem ≡ Ok (Some o))) ↔ DecideNoPlan (decide_answer paper t bs mem)
   blocks_where = (
-    answers_cases (λ d b. (o : ℕ) × (b ≡ blocking.Blocks o) → DecideNoPlan d) (λ m e. clash (cc e.1))
+    answers_cases (λ d b. (o : ℕ) × (b ≡ Ok (Some o)) → DecideNoPlan d) (λ m e. clash (cc e.1))
         (λ d o a e. record { layers = a.layers; is = a.decides }) (λ r e. clash (cc e.1)),
-    answers_cases (λ d b. DecideNoPlan d → (o : ℕ) × (b ≡ blocking.Blocks o)) (λ m e. clash (cc e.is))
+    answers_cases (λ d b. DecideNoPlan d → (o : ℕ) × (b ≡ Ok (Some o))) (λ m e. clash (cc e.is))
         (λ d o a e. (o, refl)) (λ r e. clash (cc e.is)),
   )
 
   -- "If decide answers otherwise, the tool says that nothing blocks."
-  pub nothing_where : (blocking_answer paper t bs mem ≡ blocking.Nothing) ↔ ((m : ℕ) × (decide_answer paper t bs mem ≡ decide.Plan m m))
+  pub nothing_where : (blocking_answer paper t bs mem ≡ Ok None) ↔ ((m : ℕ) × (decide_answer paper t bs mem ≡ Ok (decide.Plan m m)))
   nothing_where = (
-    answers_cases (λ d b. b ≡ blocking.Nothing → (m : ℕ) × (d ≡ decide.Plan m m)) (λ m e. (m, refl)) (λ d o a e. clash cc) (λ r e. clash cc),
-    answers_cases (λ d b. (m : ℕ) × (d ≡ decide.Plan m m) → b ≡ blocking.Nothing) (λ m e. refl)
+    answers_cases (λ d b. b ≡ Ok None → (m : ℕ) × (d ≡ Ok (decide.Plan m m))) (λ m e. (m, refl)) (λ d o a e. clash cc) (λ r e. clash cc),
+    answers_cases (λ d b. (m : ℕ) × (d ≡ Ok (decide.Plan m m)) → b ≡ Ok None) (λ m e. refl)
         (λ d o a e. clash (cc (e.1, a.decides))) (λ r e. clash (cc e.1)),
   )
 
   -- "Refusals and layer memory are those of decide."
-  pub refused_where : (r : Refusal) → (blocking_answer paper t bs mem ≡ blocking.Refused r) ↔ (decide_answer paper t bs mem ≡ decide.Refused r)
+  pub refused_where : (r : Refusal) → (blocking_answer paper t bs mem ≡ Err r) ↔ (decide_answer paper t bs mem ≡ Err r)
   refused_where r = (
-    answers_cases (λ d b. b ≡ blocking.Refused r → d ≡ decide.Refused r) (λ m e. clash cc) (λ d o a e. clash cc) (λ q e. cc),
-    answers_cases (λ d b. d ≡ decide.Refused r → b ≡ blocking.Refused r) (λ m e. clash cc) (λ d o a e. clash (cc a.decides)) (λ q e. cc),
+    answers_cases (λ d b. b ≡ Err r → d ≡ Err r) (λ m e. clash cc) (λ d o a e. clash cc) (λ q e. cc),
+    answers_cases (λ d b. d ≡ Err r → b ≡ Err r) (λ m e. clash cc) (λ d o a e. clash (cc a.decides)) (λ q e. cc),
   )
 
   pub same_memory : blocking_memory paper t bs mem ≡ decide_memory paper t bs mem

@@ -1,10 +1,6 @@
 -- Small cases of the goal part that blocks, for errors that document 02 excludes, from bytes, computed. Assumes nothing.
-use Rattle.std.specs.Prelude.{ℕ, ◌≡◌, refl, List, [], ◌∷◌, ◌++◌, ℤ, pos, negsuc, replicate}
-use Rattle.model.specs.Limits.{paper}
-use Rattle.model.specs.Calls.{normalise_out}
-use Rattle.model.specs.Blocking.{blocking_answer, blocking_memory}
-use Rattle.model.specs.declared.BlockingAnswer.TheVariants as blocking
-use Rattle.model.specs.Theorems.Campaigns.Tables.{zeros, m1_normal}
+use Rattle.std.specs.Prelude.{refl}
+use Rattle.model.specs.Theorems.Campaigns.Tables.{m1_normal}
 use Rattle.model.specs.Theorems.Campaigns.Computing.{computing}
 use Rattle.model.specs.Theorems.Blocking.Cases.{Cases, end, five_by, least5, least6, least_million, missed, needs0, term_in_move, two_props}
 

@@ -1,24 +1,21 @@
 -- The goal part that blocks, from bytes to its answer: an offset is the true reason, in the normal table and in the written table that it
 -- is the normal form of; there is one exactly when no list solves the relaxed task.
 -- Assumes nothing.
-use Rattle.std.specs.Prelude.{ℕ, ◌*◌, ◌/◌, ◌≤◌, ◌≡◌, refl, ◌↔◌, false, List, ℤ, length, replicate}
+use Rattle.std.specs.Prelude.{ℕ, ◌*◌, ◌/◌, ◌≤◌, ◌≡◌, refl, ◌↔◌, false, List, ℤ, length, replicate, Option, Some, None, Result, Ok, Err}
 use Rattle.std.proofs.Math.Path.{sym, subst}
 use Rattle.std.proofs.Common.{ap, ◌∙◌, arith}
 use Rattle.std.proofs.Math.Option.{none}
 use Rattle.std.proofs.lemmas.List.{length-replicate}
-use Rattle.model.specs.declared.BlockingAnswer.{BlockingAnswer}
-use Rattle.model.specs.declared.BlockingAnswer.TheVariants as blocking
 use Rattle.model.specs.Limits.{paper}
-use Rattle.model.specs.Lists.{In}
-use Rattle.model.specs.Task.{written, normal, Block, Task}
+use Rattle.model.specs.Task.{written, normal}
 use Rattle.model.specs.NormalForm.{normal_task}
-use Rattle.model.specs.Move.{State, real, relaxed, Solves}
+use Rattle.model.specs.Move.{relaxed, Solves}
 use Rattle.model.specs.Layer.{layer_at, reported}
 use Rattle.model.specs.Reading.{Table, accepted, only, reading}
 use Rattle.model.specs.StateTable.{state_refusal}
 use Rattle.model.specs.Memory.{room, wrong15, answered}
 use Rattle.model.specs.Calls.{normal_bytes, decide_answer, plan_records}
-use Rattle.model.specs.Blocking.{goal_part, part_offset, blocking_answer}
+use Rattle.model.specs.Blocking.{goal_part, blocking_answer}
 use Rattle.model.proofs.Theorems.Reading.Accepted.{reading_task, accepted_one}
 use Rattle.model.specs.Theorems.NormalForm.Print.{normal_table}
 use Rattle.model.proofs.Theorems.NormalForm.Print.{normal_accepted, normal_state}
@@ -28,15 +25,14 @@ use Rattle.model.specs.Theorems.Campaigns.Demand3.{relaxed_task, start_state, la
 use Rattle.model.proofs.Theorems.Campaigns.EndToEnd.{demand3}
 use Rattle.model.proofs.Theorems.Blocking.Parts.{first_unmet_holds}
 use Rattle.model.proofs.Theorems.Blocking.Calls.{blocks_means, blocks_where}
-use Rattle.model.specs.Theorems.Blocking.Goals.{with_goal}
-use Rattle.model.specs.Theorems.Blocking.Reason.{FirstUnreachable}
 use Rattle.model.proofs.Theorems.Blocking.Reason.{first_unreachable, keeping_unreachable}
 use Rattle.model.specs.Theorems.Blocking.Written.{CameFrom}
 use Rattle.model.proofs.Theorems.Blocking.Written.{came_from, keeping_item, keeping_item_relaxed}
 use Rattle.model.specs.Theorems.Blocking.EndToEnd.{Blocker, Reasoned, TrueReason, WrittenReason}
+use Rattle.model.specs.declared.Refusal.{Refusal}
 
 -- For any bytes whatever: an offset is the true reason.
-pub true_reason : (t bs : List ℕ) (mem : List ℤ) (offset : ℕ) → blocking_answer paper t bs mem ≡ blocking.Blocks offset → TrueReason t bs offset
+pub true_reason : (t bs : List ℕ) (mem : List ℤ) (offset : ℕ) → blocking_answer paper t bs mem ≡ Ok (Some offset) → TrueReason t bs offset
 true_reason t bs mem offset e =
     let a = (blocks_means t bs mem offset).0 e in
     let k = a.table.task in
@@ -60,10 +56,10 @@ true_reason t bs mem offset e =
 pub answer_reasoned : (t bs : List ℕ) (mem : List ℤ) → Reasoned t bs (blocking_answer paper t bs mem)
 answer_reasoned t bs mem = go (blocking_answer paper t bs mem) refl
   where
-    go : (r : BlockingAnswer) → blocking_answer paper t bs mem ≡ r → Reasoned t bs r
-    go (blocking.Blocks offset) e = true_reason t bs mem offset e
-    go blocking.Nothing e = tt
-    go (blocking.Refused r) e = tt
+    go : (r : Result (Option ℕ) Refusal) → blocking_answer paper t bs mem ≡ r → Reasoned t bs r
+    go (Ok (Some offset)) e = true_reason t bs mem offset e
+    go (Ok None) e = tt
+    go (Err r) e = tt
 
 module _ (t bs normalOut : List ℕ) (mem : List ℤ) (w : Table) (read : reading paper (only written) t ≡ accepted w)
     (fits : length (normal_bytes w.task) ≤ length normalOut) where
@@ -89,7 +85,7 @@ module _ (t bs normalOut : List ℕ) (mem : List ℤ) (w : Table) (read : readin
 
   -- For an accepted written table, and an output with room for its normal form: an offset that blocks in the bytes that normalise writes
   -- is the true reason in the written table too.
-  pub written_reason : (offset : ℕ) → blocking_answer paper nb bs mem ≡ blocking.Blocks offset → WrittenReason w bs offset
+  pub written_reason : (offset : ℕ) → blocking_answer paper nb bs mem ≡ Ok (Some offset) → WrittenReason w bs offset
   written_reason offset e =
       normal_reason offset
       (true_reason (normal_bytes w.task) bs mem offset
@@ -98,7 +94,7 @@ module _ (t bs normalOut : List ℕ) (mem : List ℤ) (w : Table) (read : readin
   -- "When a campaign comes back as "no plan", engineers want to know what to give up.": where decide answers so there is such an offset.
   pub no_plan_reason :
       DecideNoPlan (decide_answer paper nb bs mem)
-      → (offset : ℕ) × (blocking_answer paper nb bs mem ≡ blocking.Blocks offset) × WrittenReason w bs offset
+      → (offset : ℕ) × (blocking_answer paper nb bs mem ≡ Ok (Some offset)) × WrittenReason w bs offset
   no_plan_reason no_plan =
       let found = (blocks_where nb bs mem).1 no_plan in
       (found.0, found.1, written_reason found.0 found.1)
@@ -129,7 +125,7 @@ module _ (t bs normalOut : List ℕ) (layers : List ℤ) (w : Table)
       }
 
   pub blocks_unsolvable :
-      ((o : ℕ) × (blocking_answer paper (normal_part t normalOut (length (normal_bytes w.task))) bs layers ≡ blocking.Blocks o))
+      ((o : ℕ) × (blocking_answer paper (normal_part t normalOut (length (normal_bytes w.task))) bs layers ≡ Ok (Some o)))
       ↔ ((list : List ℕ) → Solves relaxed (relaxed_task w) (layer_zero w bs) list → ⊥)
   unfolding given
   blocks_unsolvable =

@@ -1,15 +1,14 @@
 -- The goal part that blocks at a written table whose goal is an `=`: its second half blocks. The premises of the theorems can be met, with
 -- the memories that document 01 names and no more. Assumes nothing.
-use Rattle.std.specs.Prelude.{ℕ, zero, suc, ◌≤◌, ◌≡◌, refl, false, List, [], ◌∷◌, pos, negsuc, length, replicate}
+use Rattle.std.specs.Prelude.{ℕ, zero, suc, ◌≤◌, ◌≡◌, refl, false, List, [], pos, length, replicate, Some, Ok}
 use Rattle.std.proofs.Common.{subst, arith, lit≤}
 use Rattle.std.proofs.Math.Option.{none}
-use Rattle.model.specs.declared.BlockingAnswer.TheVariants as blocking
 use Rattle.model.specs.Limits.{paper}
 use Rattle.model.specs.Lists.{In}
-use Rattle.model.specs.Task.{written, equal, Item, condition, Block}
+use Rattle.model.specs.Task.{written, Item, Block}
 use Rattle.model.specs.Move.{real, relaxed, Solves}
 use Rattle.model.specs.Layer.{reported}
-use Rattle.model.specs.Reading.{Table, accepted, only, reading}
+use Rattle.model.specs.Reading.{accepted, only, reading}
 use Rattle.model.specs.StateTable.{state_refusal}
 use Rattle.model.specs.Memory.{room, wrong15}
 use Rattle.model.specs.Calls.{normal_bytes}
@@ -17,7 +16,6 @@ use Rattle.model.specs.Blocking.{blocking_answer}
 use Rattle.model.specs.Theorems.Campaigns.Tables.{zeros}
 use Rattle.model.specs.Theorems.Campaigns.Computing.{computing}
 use Rattle.model.specs.Theorems.Campaigns.Instance.{table_in}
-use Rattle.model.specs.Theorems.Campaigns.Demand2.{normal_part}
 use Rattle.model.specs.Theorems.Campaigns.Demand3.{relaxed_task, start_state, layer_zero, end_of}
 use Rattle.model.specs.Theorems.Blocking.Cases.{missed}
 use Rattle.model.specs.Theorems.Blocking.Goals.{with_goal}
@@ -50,7 +48,7 @@ missed_small (suc zero) h = refl
 missed_small (suc (suc u)) h = absurd (omega arith)
 
 -- v ≥ −1 is met; the 43 of −v ≥ 1 stands at 34
-missed_blocks : blocking_answer paper missed_normal (zeros 4) (replicate 5 (pos 7)) ≡ blocking.Blocks 34
+missed_blocks : blocking_answer paper missed_normal (zeros 4) (replicate 5 (pos 7)) ≡ Ok (Some 34)
 unfolding computing missed missed_table table_in
 missed_blocks = refl
 

@@ -1,11 +1,7 @@
 -- Small cases for errors that documents 01 and 02 exclude and that no trial campaign shows, from bytes, computed.
 -- Assumes nothing.
-use Rattle.std.specs.Prelude.{◌≡◌, refl, List, [], ◌∷◌, ◌++◌, ℕ, zero, suc, pos, replicate}
-use Rattle.model.specs.Limits.{paper}
-use Rattle.model.specs.Calls.{read_answer, normalise_out, step_out, decide_answer}
-use Rattle.model.specs.declared.ReadAnswer.TheVariants as read
-use Rattle.model.specs.declared.DecideAnswer.TheVariants as decide
-use Rattle.model.specs.Theorems.Campaigns.Tables.{zeros, doubling}
+use Rattle.std.specs.Prelude.{refl}
+use Rattle.model.specs.Theorems.Campaigns.Tables.{doubling}
 use Rattle.model.specs.Theorems.Campaigns.Computing.{computing}
 use Rattle.model.specs.Theorems.Campaigns.Cases.{Cases, blanks, exchange, grid, grid_normal, relay, swap}
 

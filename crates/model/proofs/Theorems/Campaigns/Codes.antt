@@ -1,20 +1,15 @@
 -- The code of every answer can be taken apart: its halves are the refusal's number (0 where accepted) and the place or the
 -- result, and two answers with the same code are the same answer. Assumes nothing.
-use Rattle.std.specs.Prelude.{ℕ, ◌+◌, ◌-◌, ◌*◌, ◌^◌, ◌/◌, ◌%◌, ◌≤◌, ◌<◌, ◌≡◌, List, ℤ}
+use Rattle.std.specs.Prelude.{ℕ, ◌+◌, ◌-◌, ◌*◌, ◌^◌, ◌/◌, ◌%◌, ◌≤◌, ◌<◌, ◌≡◌, List, ℤ, Option, Some, None, Result, Ok, Err}
 use Rattle.std.proofs.Math.Path.{refl}
 use Rattle.std.proofs.Common.{sym, ap, ◌∙◌, arith}
 use borrow.Author.Tests.{ne_eqb, le-leb, lt-leb}
 use Rattle.model.specs.declared.Refusal.{Refusal}
-use Rattle.model.specs.declared.ReadAnswer.{ReadAnswer}
-use Rattle.model.specs.declared.ReadAnswer.TheVariants as read
-use Rattle.model.specs.declared.WriteAnswer.{WriteAnswer}
-use Rattle.model.specs.declared.WriteAnswer.TheVariants as write
+use Rattle.model.specs.declared.Head.{Head}
 use Rattle.model.specs.declared.DecideAnswer.{DecideAnswer}
 use Rattle.model.specs.declared.DecideAnswer.TheVariants as decide
 use Rattle.model.specs.declared.PlanAnswer.{PlanAnswer}
 use Rattle.model.specs.declared.PlanAnswer.TheVariants as plan
-use Rattle.model.specs.declared.BlockingAnswer.{BlockingAnswer}
-use Rattle.model.specs.declared.BlockingAnswer.TheVariants as blocking
 use Rattle.model.specs.Limits.{paper}
 use Rattle.model.specs.Pddl.{pddl_answer}
 use Rattle.model.specs.Calls.{read_answer, block_part, block_refusal, normalise_answer, step_answer, decide_answer, plan_answer, campaign_decision, campaign_plan}
@@ -51,52 +46,52 @@ module _ {A : Type 0} (result : ℕ → A) (back : Refusal → A) where
       rw (number, apart, ne_eqb r.number 0 (λ z. omega (arith, s.positive)), number, place) refl
 
 -- ---- each kind of answer
-pub read_back : (a : ReadAnswer) → ReadSmall a → read_apart (read_code a) ≡ a
+pub read_back : (a : Result Head Refusal) → ReadSmall a → read_apart (read_code a) ≡ a
 unfolding read_apart read_code
-read_back (read.Refused r) s = refusal_apart _ _ r s
-read_back (read.Head kind props vars moves) s =
-    let n = kind * 2 ^ 24 + props * 2 ^ 16 + vars * 2 ^ 8 + moves in
-    let k : n / 2 ^ 24 ≡ kind = omega arith in
-    let p : n / 2 ^ 16 % 2 ^ 8 ≡ props = omega arith in
-    let v : n / 2 ^ 8 % 2 ^ 8 ≡ vars = omega arith in
-    let m : n % 2 ^ 8 ≡ moves = omega arith in
+read_back (Err r) s = refusal_apart _ _ r s
+read_back (Ok h) s =
+    let n = h.kind * 2 ^ 24 + h.props * 2 ^ 16 + h.vars * 2 ^ 8 + h.moves in
+    let k : n / 2 ^ 24 ≡ h.kind = omega arith in
+    let p : n / 2 ^ 16 % 2 ^ 8 ≡ h.props = omega arith in
+    let v : n / 2 ^ 8 % 2 ^ 8 ≡ h.vars = omega arith in
+    let m : n % 2 ^ 8 ≡ h.moves = omega arith in
     result_apart _ _ n (omega arith) ∙ rw (k, p, v, m) refl
 
-pub write_back : (a : WriteAnswer) → WriteSmall result_limit a → write_apart (write_code a) ≡ a
+pub write_back : (a : Result ℕ Refusal) → WriteSmall result_limit a → write_apart (write_code a) ≡ a
 unfolding write_apart write_code
-write_back (write.Refused r) s = refusal_apart _ _ r s
-write_back (write.Written n) s = result_apart _ _ n (omega arith)
+write_back (Err r) s = refusal_apart _ _ r s
+write_back (Ok n) s = result_apart _ _ n (omega arith)
 
-pub decide_back : (a : DecideAnswer) → DecideSmall a → decide_apart (decide_code a) ≡ a
+pub decide_back : (a : Result DecideAnswer Refusal) → DecideSmall a → decide_apart (decide_code a) ≡ a
 unfolding decide_apart decide_code
-decide_back (decide.Refused r) s = refusal_apart _ _ r s
-decide_back (decide.Plan layer layers) s =
+decide_back (Err r) s = refusal_apart _ _ r s
+decide_back (Ok (decide.Plan layer layers)) s =
     result_apart _ _ layers (omega arith)
-    ∙ rw (lt-leb (2 ^ 31) layers (omega arith)) (ap (λ (n : ℕ). decide.Plan n layers) (sym s.0))
-decide_back (decide.NoPlan layers) s =
-    let code = decide_code (decide.NoPlan layers) in
+    ∙ rw (lt-leb (2 ^ 31) layers (omega arith)) (ap (λ (n : ℕ). Ok (decide.Plan n layers)) (sym s.0))
+decide_back (Ok (decide.NoPlan layers)) s =
+    let code = decide_code (Ok (decide.NoPlan layers)) in
     let bit : 2 ^ 31 ≤ code = omega arith in
     let below : code - 2 ^ 31 ≡ layers = omega arith in
     result_apart _ _ code (omega arith) ∙ rw (le-leb (2 ^ 31) code bit, below) refl
 
-pub plan_back : (a : PlanAnswer) → PlanSmall a → (x y : ℕ) → plan_apart (plan_code a) (plan_record_count a x) (plan_first_moves a y) ≡ a
+pub plan_back : (a : Result PlanAnswer Refusal) → PlanSmall a → (x y : ℕ) → plan_apart (plan_code a) (plan_record_count a x) (plan_first_moves a y) ≡ a
 unfolding plan_apart plan_code plan_record_count plan_first_moves
-plan_back (plan.Refused r) s x y = refusal_apart _ _ r s
-plan_back (plan.Plan layer layers records moves) s x y =
+plan_back (Err r) s x y = refusal_apart _ _ r s
+plan_back (Ok (plan.Plan layer layers records moves)) s x y =
     result_apart _ _ layers (omega arith)
-    ∙ rw (lt-leb (2 ^ 31) layers (omega arith)) (ap (λ (n : ℕ). plan.Plan n layers records moves) (sym s.0))
-plan_back (plan.NoPlan layers records moves) s x y =
-    let code = plan_code (plan.NoPlan layers records moves) in
+    ∙ rw (lt-leb (2 ^ 31) layers (omega arith)) (ap (λ (n : ℕ). Ok (plan.Plan n layers records moves)) (sym s.0))
+plan_back (Ok (plan.NoPlan layers records moves)) s x y =
+    let code = plan_code (Ok (plan.NoPlan layers records moves)) in
     let bit : 2 ^ 31 ≤ code = omega arith in
     let below : code - 2 ^ 31 ≡ layers = omega arith in
     result_apart _ _ code (omega arith) ∙ rw (le-leb (2 ^ 31) code bit, below) refl
 
 -- no offset is 0
-blocking_back : (a : BlockingAnswer) → BlockingSmall a → blocking_apart (blocking_code a) ≡ a
+blocking_back : (a : Result (Option ℕ) Refusal) → BlockingSmall a → blocking_apart (blocking_code a) ≡ a
 unfolding blocking_apart blocking_code
-blocking_back (blocking.Refused r) s = refusal_apart _ _ r s
-blocking_back (blocking.Blocks offset) s = result_apart _ _ offset (omega arith) ∙ rw (ne_eqb offset 0 (λ z. omega arith)) refl
-blocking_back blocking.Nothing s = result_apart _ _ 0 (omega arith)
+blocking_back (Err r) s = refusal_apart _ _ r s
+blocking_back (Ok (Some offset)) s = result_apart _ _ offset (omega arith) ∙ rw (ne_eqb offset 0 (λ z. omega arith)) refl
+blocking_back (Ok None) s = result_apart _ _ 0 (omega arith)
 
 -- ---- the exported calls: each code taken apart is the answer, and the same code is the same answer
 module _ {A : Type 0} (back : ℕ → A) where
@@ -110,7 +105,7 @@ pub read_one : (t u : List ℕ) → read_code (read_answer paper t) ≡ read_cod
 read_one t u = one_answer read_apart (read_apart_lem t) (read_apart_lem u)
 
 -- the block reader: the refusal, or the part's length
-abbrev part_answer : List ℕ → ℕ → WriteAnswer
+abbrev part_answer : List ℕ → ℕ → Result ℕ Refusal
 part_answer t b = block_answer (block_part paper t b) (block_refusal paper t b)
 
 pub block_apart : (t : List ℕ) (b : ℕ) → write_apart (write_code (part_answer t b)) ≡ part_answer t b
@@ -168,7 +163,7 @@ pub decide_one :
     → decide_answer paper t bs mem ≡ decide_answer paper u cs other
 decide_one t bs mem u cs other = one_answer decide_apart (decide_apart_lem t bs mem) (decide_apart_lem u cs other)
 
-one_plan : (a b : PlanAnswer) → PlanSmall a → PlanSmall b → (x y v w : ℕ) → SameNumbers a x y b v w → a ≡ b
+one_plan : (a b : Result PlanAnswer Refusal) → PlanSmall a → PlanSmall b → (x y v w : ℕ) → SameNumbers a x y b v w → a ≡ b
 one_plan a b f g x y v w e =
     one_answer (λ (n : ℕ). plan_apart (plan_code b) (plan_record_count b v) n)
     (rw (← e.0, ← e.1) (plan_back a f x y)) (plan_back b g v w) e.2

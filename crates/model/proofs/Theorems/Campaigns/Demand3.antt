@@ -1,26 +1,17 @@
 -- Demand 3, as one theorem from the bytes of a written table and of a state to the answers of normalise, decide and plan.
 -- Assumes nothing.
-use Rattle.std.specs.Prelude.{ℕ, ◌*◌, ◌/◌, ◌≤◌, ◌≡◌, ◌↔◌, false, List, map, ℤ, length}
+use Rattle.std.specs.Prelude.{ℕ, ◌*◌, ◌/◌, ◌≤◌, ◌≡◌, List, ℤ, length}
 use Rattle.std.proofs.Math.Path.{refl, ap}
 use Rattle.std.proofs.Common.{◌∙◌, arith}
-use Rattle.std.proofs.Math.Option.{Option, none, some}
+use Rattle.std.proofs.Math.Option.{none}
 use Rattle.model.specs.Limits.{paper}
-use Rattle.model.specs.Task.{written, normal, Task}
-use Rattle.model.specs.Move.{State, Solves, real, relaxed}
-use Rattle.model.specs.NormalForm.{normal_task, normal_state}
-use Rattle.model.specs.Layer.{Reached, Exhausted, Outcome, reported, outcome}
+use Rattle.model.specs.Task.{normal}
+use Rattle.model.specs.NormalForm.{normal_task}
 use Rattle.model.specs.Reading.{Table, accepted, only, reading}
-use Rattle.model.specs.StateTable.{state_of, state_refusal}
-use Rattle.model.specs.Memory.{Built, room, wrong15, answered, build, overwrite}
-use Rattle.model.specs.Plan.{Record, records, helpful_moves, move_and_count, plan_list}
-use Rattle.integer.specs.BigEndian.{AllBytes}
-use Rattle.model.specs.Calls.{Ready, Output, writes, fitted, output_after, ready, ready_with, ready_of, prepared, normal_bytes, decide_answer, plan_answer, plan_out, plan_records, record_bytes, records_read, decided, decide_of, planned, plan_of, plan_fitted, plan_out_of}
-use Rattle.model.specs.declared.WriteAnswer.{WriteAnswer}
-use Rattle.model.specs.declared.WriteAnswer.TheVariants as write
-use Rattle.model.specs.declared.DecideAnswer.{DecideAnswer}
-use Rattle.model.specs.declared.DecideAnswer.TheVariants as decide
-use Rattle.model.specs.declared.PlanAnswer.{PlanAnswer}
-use Rattle.model.specs.declared.PlanAnswer.TheVariants as plan
+use Rattle.model.specs.StateTable.{state_refusal}
+use Rattle.model.specs.Memory.{Built, answered, build, overwrite}
+use Rattle.model.specs.Plan.{Record}
+use Rattle.model.specs.Calls.{Ready, Output, writes, fitted, output_after, ready, ready_with, ready_of, prepared, normal_bytes, decide_answer, plan_answer, plan_out, plan_records, record_bytes, decided, decide_of, planned, plan_of, plan_fitted, plan_out_of}
 use Rattle.model.proofs.Theorems.Plans.Records.{length_record_bytes}
 use Rattle.model.proofs.Theorems.Printing.Outputs.{fitted_whole, plan_whole}
 use Rattle.model.specs.Theorems.Campaigns.Demand3.{end_of, layer_zero, relaxed_task}

@@ -1,6 +1,6 @@
 -- Demand 3 proved: from the bytes of an accepted written table and state to the answers; and the bound on layers for every
 -- answer whatever. Assumes nothing.
-use Rattle.std.specs.Prelude.{ℕ, ◌/◌, ◌≤◌, ◌≡◌, refl, false, ℤ, length, drop}
+use Rattle.std.specs.Prelude.{ℕ, ◌/◌, ◌≤◌, ◌≡◌, refl, false, ℤ, length, drop, Result, Ok}
 use Rattle.std.proofs.Common.{sym, subst, ◌∙◌, arith}
 use Rattle.std.proofs.Math.Path.{ap}
 use mathlib.Core.List.{List, map}
@@ -11,11 +11,12 @@ use Rattle.model.specs.Move.{State, Solves, relaxed}
 use Rattle.model.specs.NormalForm.{normal_task}
 use Rattle.model.specs.StateTable.{state_refusal}
 use Rattle.model.specs.declared.Refusal.{Refusal}
-use Rattle.model.specs.Layer.{Outcome, reached, exhausted, reported, bound}
+use Rattle.model.specs.Layer.{Outcome, reached, exhausted, reported}
 use Rattle.model.specs.Reading.{Table, accepted, refused, Verdict, only, reading}
 use Rattle.model.specs.Memory.{Built, answered, stopped, wrong15, build, overwrite}
 use Rattle.model.specs.Plan.{Record, helpful_moves, move_and_count, plan_list}
 use Rattle.model.specs.Calls.{Ready, ready, unready, ready_with, ready_of, prepared, decide_of, plan_of, plan_fitted, normal_bytes, normalise_answer, decided, planned, plan_records, decide_answer, plan_answer, plan_out, record_bytes, records_read}
+use Rattle.model.specs.declared.DecideAnswer.{DecideAnswer}
 use Rattle.model.specs.declared.DecideAnswer.TheVariants as decide
 use Rattle.model.specs.declared.PlanAnswer.{PlanAnswer}
 use Rattle.model.specs.declared.PlanAnswer.TheVariants as plan
@@ -43,10 +44,10 @@ use Rattle.model.proofs.Theorems.Campaigns.Demand3.{ready_normal, decide_answers
 use Rattle.model.specs.Theorems.Campaigns.EndToEnd.{LayersWithin, Within}
 
 -- different answers
-decide_differs : (m n r : ℕ) → decide.Plan m n ≡ decide.NoPlan r → ⊥
+decide_differs : (m n r : ℕ) → ◌≡◌ {A = Result DecideAnswer Refusal} (Ok (decide.Plan m n)) (Ok (decide.NoPlan r)) → ⊥
 decide_differs m n r e = let z : ◌≡◌ {A = ℕ} 0 1 = cc in omega arith
 
-plan_differs : (m n a b r : ℕ) → plan.Plan m n a b ≡ plan.NoPlan r 0 0 → ⊥
+plan_differs : (m n a b r : ℕ) → ◌≡◌ {A = Result PlanAnswer Refusal} (Ok (plan.Plan m n a b)) (Ok (plan.NoPlan r 0 0)) → ⊥
 plan_differs m n a b r e = let z : ◌≡◌ {A = ℕ} 0 1 = cc in omega arith
 
 module _ (t bs normalOut : List ℕ) (layers : List ℤ) (out : List ℕ) (g : Given t bs normalOut layers out) (ok : TaskOk paper written g.table.task) (n : Table) (back : reading paper (only normal) (normal_bytes g.table.task) ≡ accepted n) (same : n.task ≡ relaxed_task g.table) where
@@ -209,7 +210,7 @@ module _ (t : List ℕ) (w : Table) (e : reading paper (only normal) t ≡ accep
 
   within_planned : (room : ℕ) (b : Built) → build paper w.task s size ≡ b → LayersWithin t (plan_layers (plan_fitted room w.task s b))
   unfolding planned plan_layers reported
-  within_planned room b h = plan_cases room w.task s b (λ (a : PlanAnswer). LayersWithin t (plan_layers a)) (λ whole. go b h) tt
+  within_planned room b h = plan_cases room w.task s b (λ (a : Result PlanAnswer Refusal). LayersWithin t (plan_layers a)) (λ whole. go b h) tt
     where
       go : (b : Built) → build paper w.task s size ≡ b → LayersWithin t (plan_layers (planned w.task s b))
       go (answered (reached m)) h = within (reached m) h

@@ -1,12 +1,11 @@
 -- Demands 2 and 3 at M1, and at a table with terms of weight 0: their premises can be met, with the memories that document 01 names and
 -- no more. Assumes nothing.
-use Rattle.std.specs.Prelude.{ℕ, zero, suc, ◌≤◌, ◌≡◌, refl, false, List, [], ◌∷◌, ◌++◌, pos, length, replicate}
+use Rattle.std.specs.Prelude.{ℕ, zero, suc, ◌≤◌, ◌≡◌, refl, false, [], ◌∷◌, pos, length, replicate}
 use Rattle.std.proofs.Math.Option.{some}
 use Rattle.std.proofs.Common.{arith, lit≤}
 use Rattle.model.specs.Limits.{paper}
 use Rattle.model.specs.Task.{written}
-use Rattle.model.specs.Seen.{nothing_seen}
-use Rattle.model.specs.Reading.{Table, Verdict, accepted, refused, table_of, only, reading}
+use Rattle.model.specs.Reading.{Table, only, reading}
 use Rattle.model.specs.Layer.{reported}
 use Rattle.model.specs.Memory.{wrong15}
 use Rattle.model.specs.Calls.{normal_bytes, normalise_answer, decide_answer, plan_answer, plan_out, records_read}

@@ -3,14 +3,11 @@
 use Rattle.std.specs.Prelude.{ℕ, ◌≡◌, List, ℤ, length}
 use Rattle.std.proofs.Math.Path.{refl}
 use Rattle.std.proofs.Common.{sym, ap, ◌∙◌}
-use Rattle.model.specs.declared.DecideAnswer.{DecideAnswer}
-use Rattle.model.specs.declared.PlanAnswer.{PlanAnswer}
 use Rattle.model.specs.Limits.{paper}
 use Rattle.model.specs.Calls.{Output, writes, turns, normal_bytes, normalised, normalise_answer, decide_answer, plan_answer, plan_memory, plan_out, on_output, campaign_decision, campaign_plan, campaign_memory, campaign_out}
 use Rattle.model.specs.Theorems.Campaigns.Demand2.{normal_part}
 use Rattle.model.proofs.Theorems.Campaigns.Demand2.{normalise_writes, normalise_leaves}
-use Rattle.model.specs.Theorems.Campaigns.Demand3.{Given, Answers, decide_layers, plan_layers}
-use Rattle.model.specs.Theorems.Campaigns.EndToEnd.{LayersWithin}
+use Rattle.model.specs.Theorems.Campaigns.Demand3.{Given, Answers}
 use Rattle.model.proofs.Theorems.Campaigns.EndToEnd.{demand3, decide_within, plan_within}
 use Rattle.model.specs.Theorems.Campaigns.OneCall.{Bounded, Promise}
 

@@ -1,6 +1,6 @@
 -- The trial campaigns of document 01 that are marked *, settled together from their bytes: one theorem, computed.
 -- Assumes nothing.
-use Rattle.std.specs.Prelude.{ℕ, zero, suc, ◌+◌, ◌*◌, ◌^◌, ◌-◌, ◌≤◌, ◌<◌, ◌≡◌, refl, true, ◌&&◌, List, [], ◌∷◌, ◌++◌, T, ℤ, pos, negsuc, ◌+ℤ◌, ◌*ℤ◌, ◌≤ℤ◌, length, replicate}
+use Rattle.std.specs.Prelude.{ℕ, zero, suc, ◌*◌, ◌<◌, ◌≡◌, refl, true, ◌&&◌, List, [], ◌∷◌, T, ℤ, pos, ◌+ℤ◌, ◌*ℤ◌, ◌≤ℤ◌}
 use Rattle.std.proofs.Common.{ap, subst, ◌∙◌, arith}
 use Rattle.std.specs.Int.Signed.{le_z, le_z_yes}
 use Rattle.integer.specs.Linear.{zlin, +-zero, one-*}
@@ -9,12 +9,6 @@ use Rattle.model.specs.Task.{written, equal, increase, condition, effect}
 use Rattle.model.specs.Move.{State, Solves, real, applicable, move_at}
 use Rattle.model.specs.Reading.{Table, only, reading, accepted}
 use Rattle.model.specs.StateTable.{state_of}
-use Rattle.model.specs.Calls.{read_answer, normalise_answer, normalise_out, decide_answer, plan_answer, plan_memory, plan_out}
-use Rattle.model.specs.Listing.{listing}
-use Rattle.model.specs.declared.ReadAnswer.TheVariants as read
-use Rattle.model.specs.declared.WriteAnswer.TheVariants as write
-use Rattle.model.specs.declared.DecideAnswer.TheVariants as decide
-use Rattle.model.specs.declared.PlanAnswer.TheVariants as plan
 use Rattle.model.specs.Theorems.Campaigns.Tables.{zeros, m1, m1_normal, empty_goal, doubling, even_steps, below, below_normal, chain, chain_state, self_reading}
 use Rattle.model.proofs.Theorems.Laws.Booleans.{and_left, and_right}
 use Rattle.model.specs.Theorems.Campaigns.Computing.{computing}

@@ -1,10 +1,11 @@
 -- The set of helpful moves in plan's answer, from the bytes of a table and a state (document 02, request 6): of a normal table for all
 -- inputs, and of a written table where demand 3 finds a plan. Assumes nothing.
-use Rattle.std.specs.Prelude.{ℕ, ◌/◌, ◌<◌, ◌≡◌, refl, Bool, ◌↔◌, List, T, ℤ, length}
+use Rattle.std.specs.Prelude.{ℕ, ◌/◌, ◌<◌, ◌≡◌, refl, Bool, ◌↔◌, List, T, ℤ, length, Result, Ok, Err}
 use Rattle.std.proofs.Common.{sym, subst, subst₂, ◌∙◌, lt-ltb}
 use Rattle.std.proofs.Math.Path.{ap}
 use Rattle.std.proofs.Math.Bool.{true, false}
 use Rattle.std.proofs.Math.Option.{none}
+use Rattle.model.specs.declared.Refusal.{Refusal}
 use Rattle.model.specs.declared.DecideAnswer.{DecideAnswer}
 use Rattle.model.specs.declared.PlanAnswer.{PlanAnswer}
 use Rattle.model.specs.declared.PlanAnswer.TheVariants as plan
@@ -60,10 +61,10 @@ pub record PlanSet (t bs : List ℕ) (m x : ℕ) : Type 0 where
   pub right : SetRight table.task (layer_zero table bs) m x
 
 -- what an answer says of the set: with "no plan" it is empty
-abbrev pub SetOfAnswer : List ℕ → List ℕ → PlanAnswer → Type 0
-SetOfAnswer t bs (plan.Plan layer layers n x) = PlanSet t bs layer x
-SetOfAnswer t bs (plan.NoPlan layers n x) = x ≡ 0
-SetOfAnswer t bs (plan.Refused r) = Unit {0}
+abbrev pub SetOfAnswer : List ℕ → List ℕ → Result PlanAnswer Refusal → Type 0
+SetOfAnswer t bs (Ok (plan.Plan layer layers n x)) = PlanSet t bs layer x
+SetOfAnswer t bs (Ok (plan.NoPlan layers n x)) = x ≡ 0
+SetOfAnswer t bs (Err r) = Unit {0}
 
 pub plan_set : (t bs : List ℕ) (mem : List ℤ) (out : List ℕ) → SetOfAnswer t bs (plan_answer paper t bs mem out)
 unfolding plan_answer plan_of planned
@@ -87,7 +88,7 @@ plan_set t bs mem out =
     by_built w e state (stopped n m) h = tt
 
 -- ---- written tables, where demand 3 finds a plan
-module _ (t bs : List ℕ) {w : Table} (e : reading paper (only written) t ≡ accepted w) {d : DecideAnswer} {p : PlanAnswer} {before after : List ℕ} (f : Found w bs d p before after) {layer layers n x : ℕ} (is : p ≡ plan.Plan layer layers n x) where
+module _ (t bs : List ℕ) {w : Table} (e : reading paper (only written) t ≡ accepted w) {d : Result DecideAnswer Refusal} {p : Result PlanAnswer Refusal} {before after : List ℕ} (f : Found w bs d p before after) {layer layers n x : ℕ} (is : p ≡ Ok (plan.Plan layer layers n x)) where
   -- the set that plan answers, of the relaxed task
   pub found_set : SetRight (relaxed_task w) (layer_zero w bs) layer x
   found_set =

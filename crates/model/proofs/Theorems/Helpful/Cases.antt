@@ -1,9 +1,5 @@
 -- The set of helpful moves from bytes, computed: a case for each part of the sentence (document 02, request 6). Assumes nothing.
-use Rattle.std.specs.Prelude.{◌≡◌, refl, List, [], ◌∷◌, ◌++◌, ℕ, ◌*◌, pos, replicate}
-use Rattle.model.specs.declared.PlanAnswer.TheVariants as plan
-use Rattle.model.specs.Limits.{paper}
-use Rattle.model.specs.Calls.{normalise_out, plan_answer}
-use Rattle.model.specs.Theorems.Campaigns.Tables.{zeros}
+use Rattle.std.specs.Prelude.{refl}
 use Rattle.model.specs.Theorems.Campaigns.Computing.{computing}
 use Rattle.model.specs.Theorems.Helpful.Cases.{Cases}
 

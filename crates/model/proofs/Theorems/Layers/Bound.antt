@@ -2,16 +2,16 @@
 -- usable moves and unbounded variables never falls and is at most A + N; where it stands still over N + 1 steps, the layer
 -- stays (`Quiet`). For all N, 0 too. Assumes nothing.
 use Prim.Native.Nat.{ℕ, zero, suc, ◌+◌, ◌*◌, ◌≤◌, ◌<◌}
-use Rattle.std.specs.Prelude.{◌≡◌, Bool, false, [], T, get_or}
+use Rattle.std.specs.Prelude.{◌≡◌, false, T}
 use Rattle.std.proofs.Math.Nat.{lt_of_not-le}
 use Rattle.std.proofs.Common.{le_of_suc-le-suc, suc-mul, add-one, arith}
 use Rattle.std.proofs.Math.ListN.{length}
 use Rattle.model.specs.Limits.{Limits}
 use Rattle.model.specs.Task.{normal, Task}
 use Rattle.model.specs.Move.{State}
-use Rattle.model.specs.Layer.{unbounded, Layer, usable, layer, layer_at, settled, bound}
+use Rattle.model.specs.Layer.{unbounded, Layer, layer, layer_at, settled, bound}
 use Rattle.model.specs.Theorems.Reading.WellFormed.{TaskOk}
-use Rattle.model.specs.Theorems.Layers.Order.{is_below, ◌≼◌}
+use Rattle.model.specs.Theorems.Layers.Order.{◌≼◌}
 use Rattle.model.proofs.Theorems.Layers.Order.{⊑_trans, usable_mono}
 use Rattle.model.proofs.Theorems.Layers.NextLayer.{next_above, move_ok, layer_mono}
 use Rattle.model.proofs.Theorems.Layers.Settled.{unsettled_cases}

@@ -1,12 +1,12 @@
 -- Entries of layer memory: how one more layer changes an entry, and what an entry says of a layer.
 -- Assumes nothing.
-use Rattle.std.specs.Prelude.{ℕ, suc, ◌+◌, ◌≤◌, ◌<◌, ◌≡◌, Bool, true, false, cond, ◌&&◌, T, leb, ltb, ℤ, negsuc}
+use Rattle.std.specs.Prelude.{ℕ, suc, ◌+◌, ◌≤◌, ◌<◌, ◌≡◌, Bool, true, false, ◌&&◌, T, leb, ltb, negsuc}
 use Rattle.std.proofs.Math.Path.{refl, sym, ap}
 use Rattle.std.proofs.Common.{subst, ◌∙◌, arith, ltb→lt, leb→le, le→leb, nltb→le}
 use Rattle.std.proofs.Math.Option.{Option, none, some}
 use Rattle.std.proofs.Math.Dec.{not_T, nleb→lt}
 use Rattle.std.proofs.Math.IntN.{pos}
-use Rattle.std.specs.Int.Signed.{le_z, lt_z}
+use Rattle.std.specs.Int.Signed.{le_z}
 use Rattle.integer.specs.Linear.{le_lt_z, pos_mono}
 use Rattle.model.specs.Lists.{first_from}
 use Rattle.model.specs.Memory.{entry}

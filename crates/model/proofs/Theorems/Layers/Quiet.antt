@@ -7,9 +7,9 @@ use Rattle.std.proofs.Math.Option.{Option}
 use Rattle.std.proofs.Math.Dec.{T, eqb_refl}
 use Rattle.model.specs.Limits.{Limits}
 use Rattle.model.specs.Lists.{any}
-use Rattle.model.specs.Task.{normal, Term, Kind, assign, increase, decrease, Effect, Item, need, effect, Block, Task}
+use Rattle.model.specs.Task.{normal, Term, Kind, assign, increase, decrease, Effect, need, effect, Block, Task}
 use Rattle.model.specs.Move.{State}
-use Rattle.model.specs.Layer.{Value, finite, unbounded, Layer, reaches, usable, layer_value, offer, offered, gained, next, layer, layer_at}
+use Rattle.model.specs.Layer.{Value, finite, unbounded, Layer, reaches, layer_value, offer, offered, gained, next, layer, layer_at}
 use Rattle.model.specs.Circle.{is_assign, item_edge, edge}
 use Rattle.model.specs.Theorems.Reading.WellFormed.{All, TermOk, EffectOk, ItemOk, TaskOk}
 use Rattle.model.proofs.Theorems.Laws.Booleans.{T_true, and_both, or_right, or_cases, cond_cases}

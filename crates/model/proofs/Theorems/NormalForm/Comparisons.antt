@@ -10,7 +10,7 @@ use Rattle.std.specs.Int.Signed.{le_z, lt_z, le_z_yes, lt_z_yes, ≤ℤ_refl}
 use Rattle.integer.specs.Linear.{zlin, sum as sum-split, diff, neg_up, neg_dn, ≤-antisym}
 use Rattle.model.specs.Lists.{all}
 use Rattle.model.specs.Limits.{Limits, comparison_in_range}
-use Rattle.model.specs.Task.{Term, Comparison, at_least, above, at_most, below, equal, Item, condition, Block, Form, written}
+use Rattle.model.specs.Task.{Term, at_least, above, at_most, below, equal, Form, written}
 use Rattle.model.specs.Move.{State, sum, compares, holds}
 use Rattle.model.specs.Command.{comparison_code, close_condition, code_of, command_of, width, after_term, in_place}
 use Rattle.model.specs.Seen.{Seen, byte_after}

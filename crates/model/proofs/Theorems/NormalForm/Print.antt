@@ -24,7 +24,7 @@ use Rattle.model.specs.Theorems.Printing.Passing.{SmallLimits}
 use Rattle.model.proofs.Theorems.Printing.Passing.{paper_small}
 use Rattle.model.specs.Theorems.Printing.Items.{item_command}
 use Rattle.model.proofs.Theorems.Printing.Items.{length_item}
-use Rattle.model.specs.Theorems.Printing.Tables.{marks_of, head_of, printed_table}
+use Rattle.model.specs.Theorems.Printing.Tables.{head_of, printed_table}
 use Rattle.model.proofs.Theorems.Printing.Tables.{print_read_only}
 use Rattle.model.specs.Theorems.NormalForm.Print.{normal_table}
 

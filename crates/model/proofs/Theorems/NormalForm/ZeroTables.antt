@@ -1,14 +1,12 @@
 -- An accepted written table and the print of its task without the terms of weight 0: that one is accepted too. Accepted tables that
 -- differ only in terms of weight 0: normalise, step, campaign and the listing program do the same for both. Terms of weight 0 put into an
 -- accepted table: it stays accepted. Assumes nothing.
-use Rattle.std.specs.Prelude.{ℕ, ◌≤◌, ◌≡◌, refl, true, false, ◌||◌, T, ltb, ℤ, length}
+use Rattle.std.specs.Prelude.{ℕ, ◌≤◌, ◌≡◌, refl, true, false, ◌||◌, T, ltb, length, Err}
 use Rattle.std.proofs.Common.{arith, sym, ap₂, ◌∙◌, subst, length-append}
 use Rattle.std.proofs.Math.Path.{ap}
 use mathlib.Core.List.{List, [], ◌∷◌, map}
 use Rattle.std.proofs.Math.Option.{Option, none, some}
 use Rattle.model.specs.declared.Refusal.{Refusal}
-use Rattle.model.specs.declared.DecideAnswer.TheVariants as decide
-use Rattle.model.specs.declared.PlanAnswer.TheVariants as plan
 use Rattle.model.specs.Limits.{Limits, paper}
 use Rattle.model.specs.Lists.{any}
 use Rattle.model.specs.Task.{written, Item, need, add, delete, condition, effect, Block, Task, terms_of, changes, active}
@@ -189,9 +187,9 @@ module _
           alike (λ (l : List ℕ). step_out paper l bs b out) (lean_step_out t first bs b out) (lean_step_out u second bs b out),
         );
         decision = λ bs normalOut mem.
-            ap (λ (o : Output). on_output o (λ nb. decide_answer paper nb bs mem) (λ r. decide.Refused r)) (same_normalised (length normalOut));
+            ap (λ (o : Output). on_output o (λ nb. decide_answer paper nb bs mem) (λ r. Err r)) (same_normalised (length normalOut));
         plan = λ bs normalOut mem out.
-            ap (λ (o : Output). on_output o (λ nb. plan_answer paper nb bs mem out) (λ r. plan.Refused r)) (same_normalised (length normalOut));
+            ap (λ (o : Output). on_output o (λ nb. plan_answer paper nb bs mem out) (λ r. Err r)) (same_normalised (length normalOut));
         memory = λ bs normalOut mem.
             ap (λ (o : Output). on_output o (λ nb. plan_memory paper nb bs mem) (λ r. mem)) (same_normalised (length normalOut));
         records = λ bs normalOut mem out.

@@ -1,15 +1,13 @@
 -- The call that writes PDDL text, over bytes: it writes the text of an accepted table and state wherever it fits, texts that are the same
 -- come from the same state, moves and goal, and the plans of the text are the lists that solve the table. Assumes nothing.
-use Rattle.std.specs.Prelude.{ℕ, ◌+◌, ◌*◌, ◌≤◌, ◌<◌, ◌≡◌, ◌↔◌, List, ◌++◌, ℤ, length, take}
+use Rattle.std.specs.Prelude.{ℕ, ◌+◌, ◌*◌, ◌≤◌, ◌<◌, ◌≡◌, ◌↔◌, List, ◌++◌, ℤ, length, take, Ok}
 use Rattle.std.proofs.Math.Path.{refl, sym, ap, subst₂}
 use Rattle.std.proofs.Common.{ap₂, ◌∙◌, subst, arith}
 use Rattle.std.proofs.Math.Option.{Option, none, some}
-use Rattle.integer.specs.BigEndian.{AllBytes}
 use Rattle.model.specs.declared.Refusal.{Refusal}
-use Rattle.model.specs.declared.WriteAnswer.TheVariants as write
 use Rattle.model.specs.Limits.{Limits, paper}
 use Rattle.model.specs.Task.{written, Task}
-use Rattle.model.specs.Move.{State, real, Solves}
+use Rattle.model.specs.Move.{real, Solves}
 use Rattle.model.specs.Reading.{Table, Verdict, accepted, refused, only, reading}
 use Rattle.model.specs.StateTable.{state_of, state_refusal, state_bytes}
 use Rattle.model.specs.Calls.{Output, writes, turns, fitted, campaign_decision}
@@ -89,7 +87,7 @@ text_always t bs size read right h = text_fits paper t bs size read right (omega
 -- an answer of n bytes: the first n bytes of the output are the text
 pub wrote_part :
     (L : Limits) (t bs out : List ℕ) (n : ℕ)
-    → pddl_answer L t bs out ≡ write.Written n
+    → pddl_answer L t bs out ≡ Ok n
     → Wrote L t bs (take n (pddl_out L t bs out))
 unfolding pddl_answer pddl_out
 wrote_part L t bs out n e =
@@ -123,7 +121,7 @@ same_text {L} {t} {u} {bs} {cs} w z e =
 -- as many as each answers, were given the same
 pub same_output :
     (L : Limits) (t bs out u cs dest : List ℕ) (m n : ℕ)
-    (first : pddl_answer L t bs out ≡ write.Written m) (second : pddl_answer L u cs dest ≡ write.Written n)
+    (first : pddl_answer L t bs out ≡ Ok m) (second : pddl_answer L u cs dest ≡ Ok n)
     → take m (pddl_out L t bs out) ≡ take n (pddl_out L u cs dest)
     → SameCampaign (wrote_part L t bs out m first) (wrote_part L u cs dest n second)
 same_output L t bs out u cs dest m n first second =

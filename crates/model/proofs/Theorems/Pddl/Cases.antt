@@ -1,14 +1,10 @@
 -- PDDL text computed from bytes: M1's, that of a table with every form, the empty table's, that of a table with a term of weight 0; the
 -- order of refusals; a plan of M1's text. Assumes nothing.
-use Rattle.std.specs.Prelude.{ℕ, ◌≡◌, refl, List, [], ◌∷◌, ◌++◌}
-use Prim.Native.String.{String}
+use Rattle.std.specs.Prelude.{refl, [], ◌∷◌}
 use Rattle.std.proofs.Common.{lit≤}
-use Rattle.model.specs.declared.WriteAnswer.TheVariants as write
 use Rattle.model.specs.Limits.{paper}
-use Rattle.model.specs.Ascii.{ascii}
 use Rattle.model.specs.Move.{real, Solves}
 use Rattle.model.specs.StateTable.{state_of}
-use Rattle.model.specs.Pddl.{pddl_answer, pddl_out}
 use Rattle.model.specs.PddlMeaning.{TextPlan}
 use Rattle.model.specs.Theorems.Campaigns.Tables.{zeros, m1, m1_normal, empty_goal}
 use Rattle.model.specs.Theorems.Campaigns.Cases.{grid}

@@ -1,14 +1,14 @@
 -- The text is well formed as PDDL 2.1 asks beyond its grammar: every name is declared, once; each fluent has one initial value; and an
 -- action names an atom or a fluent once in its effects, so that the order of effects and what is undefined never matter. Assumes nothing.
-use Rattle.std.specs.Prelude.{ℕ, zero, suc, ◌≤◌, ◌<◌, ◌≡◌, refl, Bool, false, not, T, eqb, ℤ, pos, length}
+use Rattle.std.specs.Prelude.{ℕ, zero, suc, ◌<◌, ◌≡◌, refl, Bool, not, T, ℤ, pos, length}
 use Rattle.std.proofs.Common.{arith, sym, ap, inl, inr}
 use Rattle.std.proofs.Math.Path.{subst}
 use mathlib.Core.List.{List, [], ◌∷◌, map}
 use Rattle.model.specs.Limits.{Limits}
-use Rattle.model.specs.Lists.{In, any, tabulate}
+use Rattle.model.specs.Lists.{In, tabulate}
 use Rattle.model.specs.Task.{Form, Term, need, add, delete, condition, effect, Block, Task, clashes}
 use Rattle.model.specs.Move.{State}
-use Rattle.model.specs.Pddl.{Expression, number, fluent, plus, times, Formula, atom, compare, Change, gain, lose, alter, Action, Domain, Fact, given, equals, Problem, sum_of, compare_of, alter_of, formulas_of, changes_of, action_of, actions_from, domain_of, problem_of}
+use Rattle.model.specs.Pddl.{gain, lose, Action, Fact, given, equals, sum_of, compare_of, alter_of, formulas_of, changes_of, action_of, actions_from, domain_of, problem_of}
 use Rattle.model.specs.Theorems.Reading.WellFormed.{All, TermOk, ItemOk, Once, BlockOk, TaskOk}
 use Rattle.model.proofs.Theorems.Laws.Listed.{in_all, in_tabulate, tabulate_in}
 use Rattle.model.proofs.Theorems.Pddl.Facts.{given_in, in_equals, equals_in}

@@ -1,6 +1,6 @@
 -- "The PDDL text writes it out": tables that differ only in terms of weight 0 have different texts, and these have the same plans.
 -- Assumes nothing.
-use Rattle.std.specs.Prelude.{ℕ, ◌≡◌, refl, ◌↔◌, nat_abs, length}
+use Rattle.std.specs.Prelude.{ℕ, ◌≡◌, refl, ◌↔◌, length}
 use Rattle.std.proofs.Common.{arith, sym, ap, ap₂, ◌∙◌, subst, inl, inr}
 use mathlib.Core.List.{List, [], ◌∷◌, map, head-eq_of_cons-eq, tail-eq_of_cons-eq}
 use Rattle.integer.specs.BigEndian.{AllBytes}

@@ -1,6 +1,6 @@
 -- The wants of a move or the goal, and of an effect's value: they can be had in a layer where the conditions hold, and every
 -- state at least as high as the first that meets them has the conditions and the value (document 01, "Plan"). Assumes nothing.
-use Rattle.std.specs.Prelude.{ℕ, ◌<◌, T, ◌+ℤ◌, ◌-ℤ◌, ◌≤ℤ◌}
+use Rattle.std.specs.Prelude.{ℕ, T, ◌+ℤ◌, ◌-ℤ◌, ◌≤ℤ◌}
 use mathlib.Core.List.{List, [], ◌∷◌}
 use Rattle.std.proofs.Math.IntN.{ℤ}
 use Rattle.integer.specs.Linear.{zlin, diff, +-mono, ≤-refl, ≤_trans}
@@ -9,13 +9,13 @@ use Rattle.model.specs.Limits.{Limits}
 use Rattle.model.specs.Lists.{all}
 use Rattle.model.specs.Task.{normal, Term, Effect, Item, need, add, delete, condition, effect, Block}
 use Rattle.model.specs.Move.{State, sum, value}
-use Rattle.model.specs.Layer.{Value, finite, unbounded, Layer, plus, layer_sum, reaches, holds_in, usable, layer_value, layer_of}
+use Rattle.model.specs.Layer.{Value, finite, unbounded, Layer, plus, layer_sum, holds_in, usable, layer_value, layer_of}
 use Rattle.model.specs.Plan.{Wants, want_sum, want_item, want_block, low_value}
 use Rattle.model.specs.Theorems.Reading.WellFormed.{All, TermOk, SumOk, EffectOk, ItemOk}
 use Rattle.model.proofs.Theorems.Laws.Booleans.{and_left, and_right, and_both}
 use Rattle.model.proofs.Theorems.Laws.Searching.{All-map}
 use Rattle.model.proofs.Theorems.Layers.Order.{finite-⊑, ⊑-reaches, layer_sum_finite}
-use Rattle.model.specs.Theorems.Plans.Targets.{Above, Each, Sat}
+use Rattle.model.specs.Theorems.Plans.Targets.{Above, Sat}
 use Rattle.model.proofs.Theorems.Plans.Targets.{low_reaches, each_map, want_prop_each, want_prop_old, want_prop_new}
 use Rattle.model.proofs.Theorems.Plans.Wanting.{want_sum_each, want_sum_old, want_sum_enough}
 use Rattle.model.specs.Theorems.Plans.Conditions.{Had}

@@ -1,13 +1,13 @@
 -- The wants and counts of one layer while they are made: what holds of them, and what a want carried down or a move taken adds
 -- (document 01, "Plan"). Assumes nothing.
-use Rattle.std.specs.Prelude.{ℕ, ◌+◌, ◌≤◌, ◌<◌, max, ◌≡◌, T, eqb, length}
+use Rattle.std.specs.Prelude.{ℕ, ◌≤◌, ◌<◌, max, ◌≡◌, T, eqb, length}
 use Rattle.std.proofs.Common.{arith, eqb→eq}
 use Rattle.std.proofs.Math.Dec.{eqb_refl}
 use Rattle.model.specs.Limits.{Limits}
 use Rattle.model.specs.Task.{normal, Block, Task}
 use Rattle.model.specs.Move.{State, move_at}
 use Rattle.model.specs.Layer.{Layer, usable, layer_of}
-use Rattle.model.specs.Plan.{Wants, no_wants, want_block, Descent, counted}
+use Rattle.model.specs.Plan.{Wants, want_block, Descent, counted}
 use Rattle.model.specs.Theorems.Reading.WellFormed.{All, ItemOk, TaskOk}
 use Rattle.model.proofs.Theorems.Laws.Booleans.{cond_cases}
 use Rattle.model.proofs.Theorems.Layers.NextLayer.{move_ok}

@@ -9,7 +9,7 @@ use Rattle.integer.proofs.BigEndian.{length_signed_bytes}
 use Rattle.model.specs.Limits.{Limits, base_in_range}
 use Rattle.model.specs.Lists.{any}
 use Rattle.model.specs.Task.{Form, Term, Condition, Effect, Item, need, add, delete, condition, effect, clashes, terms_of}
-use Rattle.model.specs.Command.{Command, need_prop, add_prop, delete_prop, close_condition, close_effect, code_of, width, comparison_code, kind_code, term_bytes, item_bytes, after_term}
+use Rattle.model.specs.Command.{close_condition, close_effect, code_of, width, comparison_code, kind_code, term_bytes, item_bytes, after_term}
 use Rattle.model.specs.Seen.{Seen, byte_after, number_after, item_at, with_item, advance}
 use Rattle.model.specs.Reading.{Wanted, head_wanted, leaves_open, wrong6, wrong5, operands, named_again, wrong16}
 use Rattle.model.specs.Theorems.Reading.WellFormed.{All, SumOk, ConditionOk, EffectOk, ItemOk}

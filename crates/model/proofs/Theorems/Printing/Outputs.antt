@@ -1,5 +1,5 @@
 -- What stands in a lent memory whose start was written over, and when an output is too short (13). Assumes nothing.
-use Rattle.std.specs.Prelude.{ℕ, ◌+◌, ◌-◌, ◌≤◌, ◌<◌, ◌≡◌, ltb, get_or, take, drop}
+use Rattle.std.specs.Prelude.{ℕ, ◌+◌, ◌-◌, ◌≤◌, ◌<◌, ◌≡◌, ltb, get_or, take, drop, Result, Ok, Err}
 use Rattle.std.proofs.Common.{zero-add, sym, ◌∙◌, subst, lt-ltb, le-ltb, ltb→lt, nltb→le, get_or-append-add}
 use native.Mathlib.Omega.{arith}
 use Rattle.std.proofs.Math.Path.{refl, ap}
@@ -11,9 +11,8 @@ use Rattle.integer.specs.Store.{put}
 use Rattle.model.specs.Memory.{overwrite, Built}
 use Rattle.model.specs.Task.{Task}
 use Rattle.model.specs.Move.{State}
+use Rattle.model.specs.declared.Refusal.{Refusal}
 use Rattle.model.specs.declared.PlanAnswer.{PlanAnswer}
-use Rattle.model.specs.declared.PlanAnswer.TheVariants as plan
-use Rattle.model.specs.declared.WriteAnswer.TheVariants as write
 use Rattle.model.specs.Calls.{Output, writes, turns, on_output, fitted, write_answer, output_after, record_bytes, plan_records, planned, plan_fitted}
 use Rattle.model.proofs.Theorems.Laws.Booleans.{T-cases}
 
@@ -77,7 +76,7 @@ fitted_length out (writes bs) =
     fitted_cases (length out) bs (λ (o : Output). length (output_after o out) ≡ length out) (λ h. length_overwrite bs out h) (λ h. refl)
 
 -- an answer of n bytes: what was written is the first n bytes of the output
-pub written_part : (o : Output) (out : List ℕ) (n : ℕ) → write_answer o ≡ write.Written n → o ≡ writes (take n (output_after o out))
+pub written_part : (o : Output) (out : List ℕ) (n : ℕ) → write_answer o ≡ Ok n → o ≡ writes (take n (output_after o out))
 unfolding write_answer output_after overwrite
 written_part (turns r) out n e = cc
 written_part (writes bs) out n e =
@@ -85,7 +84,7 @@ written_part (writes bs) out n e =
     let rest = drop (length bs) out in
     ap writes (subst (λ (m : ℕ). bs ≡ take m (bs ++ rest)) same (sym (take-append_seam bs rest)))
 
-pub written_inside : (o : Output) (out : List ℕ) (n : ℕ) → write_answer o ≡ write.Written n → n ≤ length (output_after o out)
+pub written_inside : (o : Output) (out : List ℕ) (n : ℕ) → write_answer o ≡ Ok n → n ≤ length (output_after o out)
 unfolding write_answer output_after overwrite
 written_inside (turns r) out n e = let z : ◌≡◌ {A = ℕ} 0 1 = cc in absurd (omega arith)
 written_inside (writes bs) out n e =
@@ -100,15 +99,15 @@ module _ (size : ℕ) (k : Task) (s : State) (b : Built) where
   unfolding plan_fitted on_output
   plan_whole h = rw (fitted_whole size bytes_of h) refl
 
-  pub plan_short : size < length bytes_of → plan_fitted size k s b ≡ plan.Refused (record { number = 13; place = 0 })
+  pub plan_short : size < length bytes_of → plan_fitted size k s b ≡ Err (record { number = 13; place = 0 })
   unfolding plan_fitted on_output
   plan_short h = rw (fitted_short size bytes_of h) refl
 
   pub plan_cases :
-      (P : PlanAnswer → Type 0)
+      (P : Result PlanAnswer Refusal → Type 0)
       → (length bytes_of ≤ size → P (planned k s b))
-      → P (plan.Refused (record { number = 13; place = 0 }))
+      → P (Err (record { number = 13; place = 0 }))
       → P (plan_fitted size k s b)
   unfolding plan_fitted on_output
   plan_cases P whole short =
-      fitted_cases size bytes_of (λ (o : Output). P (on_output o (λ bs. planned k s b) (λ r. plan.Refused r))) whole (λ h. short)
+      fitted_cases size bytes_of (λ (o : Output). P (on_output o (λ bs. planned k s b) (λ r. Err r))) whole (λ h. short)

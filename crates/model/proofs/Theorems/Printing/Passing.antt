@@ -1,6 +1,6 @@
 -- Reading on: which bytes are left at an offset, and that a command which passes every check of document 01's table "Where a
 -- call turns back" takes the reading to the next command. Assumes nothing.
-use Rattle.std.specs.Prelude.{ℕ, suc, ◌+◌, ◌^◌, ◌<◌, ◌≡◌, true, false, not, ◌&&◌, List, ◌∷◌, ◌++◌, T, ltb, ℤ, nat_abs, length, get_or, take, drop}
+use Rattle.std.specs.Prelude.{ℕ, suc, ◌+◌, ◌<◌, ◌≡◌, true, false, not, ◌&&◌, List, ◌∷◌, ◌++◌, T, ltb, ℤ, nat_abs, length, get_or, take, drop}
 use Rattle.std.proofs.Common.{add-zero, arith, sym, ap, ◌∙◌, length-drop, get_or-drop, drop-drop, take_at, drop_at}
 use Rattle.integer.specs.BigEndian.{signed, signed_bytes, half}
 use Rattle.integer.proofs.BigEndian.{length_signed_bytes, signed_signed_bytes}

@@ -4,11 +4,11 @@ use Rattle.std.specs.Prelude.{ℕ, suc, ◌+◌, ◌≤◌, ◌<◌, ◌≡◌, 
 use Rattle.std.proofs.Common.{add-suc, add-zero, arith, ap₂, ◌∙◌, subst, length-append, length-drop, drop-cons, take-add, length-take-le}
 use Rattle.std.proofs.Math.Path.{sym, ap}
 use mathlib.Core.List.{List, [], ◌∷◌, ◌++◌, append_assoc, append-nil}
-use Rattle.integer.specs.BigEndian.{AllBytes, signed, signed_bytes}
+use Rattle.integer.specs.BigEndian.{signed, signed_bytes}
 use Rattle.integer.proofs.BigEndian.{all_take, all_drop, length_signed_bytes, signed_bytes_signed}
 use Rattle.model.specs.Limits.{Limits}
 use Rattle.model.specs.Task.{Form, Term, Item, Block}
-use Rattle.model.specs.Command.{Command, head, open_move, open_goal, end_table, term, code_of, width, term_bytes, item_bytes, items_bytes, moves_bytes, Place, start, preamble, in_move, in_goal, finished, in_place}
+use Rattle.model.specs.Command.{Command, head, open_move, open_goal, term, code_of, width, term_bytes, item_bytes, items_bytes, moves_bytes, Place, start, preamble, in_move, in_goal, finished, in_place}
 use Rattle.model.specs.Seen.{Head, Seen, closed}
 use Rattle.model.specs.Reading.{Wanted}
 use Rattle.model.proofs.Theorems.Reading.Appending.{term_bytes_snoc, items_bytes_snoc, moves_bytes_snoc}

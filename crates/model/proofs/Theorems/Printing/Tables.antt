@@ -8,8 +8,8 @@ use Rattle.std.proofs.Math.ListN.{length, length-append}
 use Rattle.model.specs.Limits.{Limits}
 use Rattle.model.specs.Task.{Form, written, normal, Task}
 use Rattle.model.specs.Command.{head, open_move, open_goal, end_table, code_of, width, items_bytes, moves_bytes, task_bytes, preamble, in_place}
-use Rattle.model.specs.Seen.{Head, nothing_seen, byte_after, with_head, advance}
-use Rattle.model.specs.Reading.{Table, accepted, Wanted, only, both, head_wanted, leaves_open, wrong6, wrong5, operands, table_of, verdict_of, length_limit, reading, wrong16}
+use Rattle.model.specs.Seen.{nothing_seen, byte_after, with_head, advance}
+use Rattle.model.specs.Reading.{accepted, Wanted, only, both, head_wanted, leaves_open, wrong6, wrong5, operands, table_of, verdict_of, length_limit, reading, wrong16}
 use Rattle.model.specs.Theorems.Reading.WellFormed.{TaskOk, All}
 use Rattle.model.specs.Theorems.Reading.Active.{AllActive, Lively}
 use Rattle.model.proofs.Theorems.Reading.Active.{all_lively}

@@ -1,6 +1,6 @@
 -- What an accepted table is (document 01, "Campaign table"): its task is within every limit, its head says what the task has,
 -- its bytes are the bytes of its task, and its marks are where the blocks begin. Assumes nothing.
-use Rattle.std.specs.Prelude.{ℕ, ◌≤◌, ◌≡◌, refl, false, not, ◌&&◌, List, [], ◌∷◌, ◌++◌, T, length, get_or}
+use Rattle.std.specs.Prelude.{ℕ, ◌≤◌, ◌≡◌, refl, false, not, ◌&&◌, List, [], ◌∷◌, ◌++◌, T, length}
 use Rattle.std.proofs.Common.{arith, sym, ap, ap₂, ◌∙◌, subst, subst₂, append-nil, take_all}
 use Rattle.integer.specs.BigEndian.{AllBytes}
 use Rattle.model.specs.Limits.{Limits}
@@ -15,12 +15,11 @@ use Rattle.model.proofs.Theorems.Reading.Active.{passes_lively, lively_active}
 use Rattle.model.proofs.Theorems.Reading.Appending.{All-snoc}
 use Rattle.model.specs.Theorems.Reading.Commands.{Passes}
 use Rattle.model.proofs.Theorems.Reading.Reads.{reading_induction}
-use Rattle.model.specs.Theorems.Reading.Soundness.{Sound, Stage}
+use Rattle.model.specs.Theorems.Reading.Soundness.{Stage}
 use Rattle.model.proofs.Theorems.Reading.Soundness.{sound_start, sound_step}
 use Rattle.model.specs.Theorems.Printing.SeenBytes.{Prints, head_bytes, open_bytes, seen_bytes}
-use Rattle.model.specs.Theorems.Printing.Printed.{Printed}
 use Rattle.model.proofs.Theorems.Printing.Printed.{printed_step}
-use Rattle.model.specs.Theorems.Reading.Marks.{Marked, starts}
+use Rattle.model.specs.Theorems.Reading.Marks.{Marked}
 use Rattle.model.proofs.Theorems.Reading.Marks.{marked_step}
 use Rattle.model.specs.Theorems.Reading.Accepted.{Accepted, HeadBytes, Kept}
 

@@ -8,11 +8,11 @@ use mathlib.Core.List.{List, [], ◌∷◌}
 use Rattle.std.proofs.Math.Dec.{T, ltb, leb, ltb→lt, leb→le, nltb→le, nleb→lt}
 use Rattle.model.specs.Limits.{Limits, base_in_range}
 use Rattle.model.specs.Lists.{all, any}
-use Rattle.model.specs.Task.{Form, Term, Item, need, add, delete, condition, Condition, effect, Effect, Block, clashes}
+use Rattle.model.specs.Task.{Form, Term, Item, need, add, delete, condition, Condition, effect, Block, clashes}
 use Rattle.model.specs.Command.{Command, head, open_move, open_goal, end_table, need_prop, add_prop, delete_prop, term, close_condition, close_effect, Place, start, preamble, in_move, in_goal, finished, in_place, after_term}
-use Rattle.model.specs.Seen.{Head, Seen, byte_after, number_after, comparison_of, kind_of, term_at, item_at, with_head}
+use Rattle.model.specs.Seen.{Seen, byte_after, number_after, term_at, item_at, with_head}
 use Rattle.model.specs.Reading.{Wanted, head_wanted, leaves_open, wrong3, wrong6, opened, operands, named_again, wrong5}
-use Rattle.model.specs.Theorems.Reading.WellFormed.{All, TermOk, SumOk, ItemOk, GoalItem, VarsOk}
+use Rattle.model.specs.Theorems.Reading.WellFormed.{All, TermOk, SumOk, ItemOk, GoalItem}
 use Rattle.model.proofs.Theorems.Laws.Booleans.{T_true}
 use Rattle.model.proofs.Theorems.Laws.Searching.{all_all, All-map}
 use Rattle.model.proofs.Theorems.Reading.Ranges.{vars_in_range_lem, weight_in_range_lem, comparison_in_range_lem, kind_in_range_lem, bound_in_range_lem}

@@ -1,6 +1,6 @@
 -- An edge means the plain thing: a := effect on v of some move has a term on u in its sum, and the term's weight is not 0. With
 -- `Circles.no_circle_lem` this is all that refusal 7 looks at. Assumes nothing.
-use Rattle.std.specs.Prelude.{ℕ, ◌<◌, ◌≡◌, refl, ◌↔◌, Bool, ◌&&◌, eqb, nat_abs}
+use Rattle.std.specs.Prelude.{ℕ, ◌≡◌, refl, ◌↔◌, Bool, ◌&&◌, eqb}
 use Rattle.std.proofs.Common.{eq-eqb}
 use Rattle.std.proofs.Math.Dec.{T, eqb→eq}
 use Rattle.model.specs.Lists.{In, any}

@@ -4,7 +4,7 @@ use Rattle.std.specs.Prelude.{ℕ, zero, suc, ◌+◌, ◌*◌, ◌≤◌, ◌<�
 use Rattle.std.proofs.Math.Option.{Option, none, some}
 use Rattle.std.proofs.Common.{arith, ltb→lt, nltb→le, lit≤}
 use Rattle.model.specs.declared.Refusal.{Refusal}
-use Rattle.model.specs.Limits.{Limits, full_number, last_number}
+use Rattle.model.specs.Limits.{Limits, full_number}
 use Rattle.model.specs.Lists.{first_from}
 use Rattle.model.specs.Circle.{circular}
 use Rattle.model.specs.Command.{Command, head, open_move, open_goal, end_table, need_prop, add_prop, delete_prop, term, close_condition, close_effect, unknown, command_of, Place, start, preamble, in_move, in_goal, finished}

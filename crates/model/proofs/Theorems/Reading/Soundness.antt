@@ -1,6 +1,6 @@
 -- What has been seen of a table is well formed after every command that passes its checks: ranges, rising terms, each thing
 -- named once, as many moves as the head says before the goal, nothing but conditions in the goal. Assumes nothing.
-use Rattle.std.specs.Prelude.{ℕ, ◌≤◌, ◌<◌, ◌≡◌, refl, List, [], ◌∷◌, ◌++◌, T, length}
+use Rattle.std.specs.Prelude.{ℕ, ◌≤◌, ◌<◌, refl, List, [], ◌∷◌, ◌++◌, T, length}
 use Rattle.std.proofs.Common.{arith, ap, subst}
 use Rattle.std.proofs.Math.Option.{some}
 use Rattle.std.proofs.Math.ListN.{length-append}
@@ -12,7 +12,7 @@ use Rattle.model.specs.Reading.{Wanted, opened}
 use Rattle.model.specs.Theorems.Reading.WellFormed.{All, TermOk, SumOk, BlockOk, GoalItem, ItemOk}
 use Rattle.model.proofs.Theorems.Reading.Appending.{All-snoc, Rising-snoc, Once-snoc}
 use Rattle.model.specs.Theorems.Reading.Commands.{Passes}
-use Rattle.model.specs.Theorems.Reading.Checks.{HeadOk, InBlock, Between, ItemRead}
+use Rattle.model.specs.Theorems.Reading.Checks.{InBlock, Between, ItemRead}
 use Rattle.model.proofs.Theorems.Reading.Checks.{in_place_lem, head_read, need_read, add_read, delete_read, condition_read, effect_read, term_read, open_move_read, open_goal_read, end_table_read}
 use Rattle.model.specs.Theorems.Reading.Soundness.{Sound, Stage}
 

@@ -2,21 +2,19 @@
 -- nothing.
 use Prim.Native.Nat.{ℕ, zero, suc, ◌≤◌, ◌<◌}
 use Rattle.std.proofs.Common.{arith, sym, ◌∙◌, subst, inl, inr, le-ltb, ltb→lt, nltb→le, length-append}
-use Rattle.std.specs.Prelude.{◌≡◌, Bool, cond, not, ◌||◌, ◌⊎◌, T, ltb, length}
+use Rattle.std.specs.Prelude.{◌≡◌, Bool, cond, not, ◌||◌, T, ltb, length}
 use Rattle.std.proofs.Math.Path.{refl, ap, ap₂, fun_ext}
 use Rattle.std.proofs.Math.Bool.{true, false}
 use mathlib.Core.List.{List, [], ◌∷◌, ◌++◌}
 use Rattle.integer.specs.BigEndian.{AllBytes}
-use Rattle.model.specs.declared.Refusal.{Refusal}
 use Rattle.model.specs.Limits.{Limits}
 use Rattle.model.specs.Lists.{any, any_below}
 use Rattle.model.specs.Task.{Form, written, normal, Block, Task, active}
-use Rattle.model.specs.Move.{State, real, relaxed, Solves}
 use Rattle.model.specs.Circle.{item_edge, edge, walk_to, circular}
 use Rattle.model.specs.Command.{code_of, items_bytes, moves_bytes, task_bytes}
 use Rattle.model.specs.Reading.{Table, Verdict, accepted, refused, only, both, stored, length_limit, reading}
-use Rattle.model.specs.Calls.{Output, writes, turns, fitted}
-use Rattle.model.specs.Rewrite.{active_moves, rewritten, renumbered, numbered_back, rewrite_of, rewrote}
+use Rattle.model.specs.Calls.{writes, turns, fitted}
+use Rattle.model.specs.Rewrite.{active_moves, rewritten, rewrite_of, rewrote}
 use Rattle.model.specs.Theorems.Reading.WellFormed.{All, BlockOk, TaskOk}
 use Rattle.model.proofs.Theorems.Laws.Booleans.{T_true}
 use Rattle.model.specs.Theorems.Reading.Active.{AllActive}

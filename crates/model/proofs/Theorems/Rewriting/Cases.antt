@@ -1,28 +1,26 @@
 -- Moves that do nothing: 16 among the other checks, and the rewriter, from bytes, computed. Assumes nothing.
-use Rattle.std.specs.Prelude.{◌≡◌, refl, List, [], ◌∷◌, ◌++◌, ℕ, length}
-use Rattle.model.specs.declared.ReadAnswer.TheVariants as read
-use Rattle.model.specs.declared.WriteAnswer.{WriteAnswer}
-use Rattle.model.specs.declared.WriteAnswer.TheVariants as write
+use Rattle.std.specs.Prelude.{◌≡◌, refl, List, [], ◌∷◌, ◌++◌, ℕ, length, Result, Ok, Err}
 use Rattle.model.specs.Limits.{paper}
 use Rattle.model.specs.Calls.{read_answer}
 use Rattle.model.specs.Rewrite.{active_moves, rewritten, rewrite_of, rewrote, rewrite_answer, rewrite_out}
 use Rattle.model.specs.Theorems.Campaigns.Tables.{zeros}
 use Rattle.model.specs.Theorems.Campaigns.Computing.{computing}
 use Rattle.model.specs.Theorems.Rewriting.Cases.{finished, unfinished}
+use Rattle.model.specs.declared.Refusal.{Refusal}
 
 abbrev refuses : List ℕ → ℕ → ℕ → Type 0
-refuses t n p = read_answer paper t ≡ read.Refused (record { number = n; place = p })
+refuses t n p = read_answer paper t ≡ Err (record { number = n; place = p })
 
 -- the rewriter's answer, and what its output holds then
-abbrev rewrites : List ℕ → List ℕ → WriteAnswer → List ℕ → Type 0
-rewrites t out answer after = ◌≡◌ {A = WriteAnswer × List ℕ} (rewrite_answer paper t out, rewrite_out paper t out) (answer, after)
+abbrev rewrites : List ℕ → List ℕ → Result ℕ Refusal → List ℕ → Type 0
+rewrites t out answer after = ◌≡◌ {A = Result ℕ Refusal × List ℕ} (rewrite_answer paper t out, rewrite_out paper t out) (answer, after)
 
 abbrev TurnsBack : List ℕ → List ℕ → ℕ → ℕ → Type 0
-TurnsBack t out n p = rewrites t out (write.Refused (record { number = n; place = p })) out
+TurnsBack t out n p = rewrites t out (Err (record { number = n; place = p })) out
 
 -- `bs` is written; `behind` are the bytes of the output behind it
 abbrev ComesOut : List ℕ → List ℕ → List ℕ → List ℕ → Type 0
-ComesOut t out bs behind = rewrites t out (write.Written (length bs)) (bs ++ behind)
+ComesOut t out bs behind = rewrites t out (Ok (length bs)) (bs ++ behind)
 
 -- one move, of conditions alone: p0 and v0 + v1 ≥ 0; the goal has no items
 abbrev waiting : ℕ → List ℕ
@@ -63,7 +61,7 @@ AtHead head =
     -- all moves do nothing, and the goal has no items
     × ComesOut (head ∷ 0 ∷ 0 ∷ 2 ∷ 0x41 ∷ 0x41 ∷ 0x47 ∷ 0x45 ∷ []) (7 ∷ 7 ∷ 7 ∷ 7 ∷ 7 ∷ 7 ∷ []) (head ∷ 0 ∷ 0 ∷ 0 ∷ 0x47 ∷ 0x45 ∷ []) []
     -- += 0 is an effect, and a goal without items is no such move: the table comes out as it is
-    × (read_answer paper (nothing_more head) ≡ read.Head head 0 2 1)
+    × (read_answer paper (nothing_more head) ≡ Ok (record { kind = head; props = 0; vars = 2; moves = 1 }))
     × ComesOut (nothing_more head) (zeros 15) (nothing_more head) (0 ∷ [])
 
 -- 16 and the rewriter, byte by byte

@@ -4,8 +4,6 @@
 use Rattle.std.specs.Prelude.{ℕ, ◌≡◌, refl, ◌↔◌, List, map, ℤ, length}
 use Rattle.std.proofs.Common.{sym, ◌∙◌, subst}
 use Rattle.integer.specs.BigEndian.{AllBytes}
-use Rattle.model.specs.declared.DecideAnswer.{DecideAnswer}
-use Rattle.model.specs.declared.DecideAnswer.TheVariants as decide
 use Rattle.model.specs.Limits.{Limits, paper}
 use Rattle.model.specs.Task.{written, Block, Task}
 use Rattle.model.specs.Move.{State, real, relaxed, Solves}
@@ -19,7 +17,7 @@ use Rattle.model.proofs.Theorems.Reading.Accepted.{accepted_one}
 use Rattle.model.specs.Theorems.Printing.Passing.{SmallLimits}
 use Rattle.model.specs.Theorems.Printing.Tables.{printed_table}
 use Rattle.model.specs.Theorems.Campaigns.Demand2.{normal_part}
-use Rattle.model.specs.Theorems.Campaigns.Demand3.{relaxed_task, start_state, layer_zero, Given, DecideNoPlan, records_of, Answers}
+use Rattle.model.specs.Theorems.Campaigns.Demand3.{relaxed_task, start_state, layer_zero, Given, records_of, Answers}
 use Rattle.model.proofs.Theorems.Campaigns.EndToEnd.{demand3}
 use Rattle.model.proofs.Theorems.Rewriting.Solving.{dropped_solves, back_solves, real_inert}
 use Rattle.model.proofs.Theorems.Rewriting.Normal.{rewritten_read, written_is, relaxed_forth_lem, relaxed_back_lem}

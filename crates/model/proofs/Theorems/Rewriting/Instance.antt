@@ -1,11 +1,9 @@
 -- The rewriter's theorems at a table with two moves that do nothing: their premises can be met, with the memories that document 01 names
 -- and no more. Assumes nothing.
-use Rattle.std.specs.Prelude.{ℕ, zero, suc, ◌≤◌, ◌≡◌, refl, false, List, [], ◌∷◌, T, ltb, pos, length, replicate}
+use Rattle.std.specs.Prelude.{ℕ, zero, suc, ◌≤◌, ◌≡◌, refl, false, List, [], ◌∷◌, T, ltb, pos, length, replicate, Err}
 use Rattle.std.proofs.Common.{subst, arith, ltb→lt, lit≤}
 use Rattle.integer.specs.BigEndian.{AllBytes}
 use Rattle.integer.proofs.BigEndian.{all_cons, all_nil}
-use Rattle.model.specs.declared.ReadAnswer.TheVariants as read
-use Rattle.model.specs.declared.WriteAnswer.TheVariants as write
 use Rattle.model.specs.Limits.{paper}
 use Rattle.model.specs.Lists.{all}
 use Rattle.model.specs.Task.{written}
@@ -58,8 +56,8 @@ unfolding computing unfinished unfinished_table table_in
 unfinished_first = record { within = lit≤ tt; idle = refl; before = λ i h. absurd (omega arith) }
 
 pub unfinished_refused :
-    (read_answer paper unfinished ≡ read.Refused (record { number = 16; place = 5 }))
-    × (normalise_answer paper unfinished [] ≡ write.Refused (record { number = 16; place = 5 }))
+    (read_answer paper unfinished ≡ Err (record { number = 16; place = 5 }))
+    × (normalise_answer paper unfinished [] ≡ Err (record { number = 16; place = 5 }))
 unfolding computing unfinished unfinished_table table_in
 unfinished_refused = (
   read_refused paper unfinished unfinished_read 0 unfinished_first,

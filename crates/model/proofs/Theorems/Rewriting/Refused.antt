@@ -1,16 +1,11 @@
 -- Moves that do nothing: "It was accepted and is now refused in both kinds of table." A table that passes all checks but 16 is refused where
 -- its first such move closes, by every call that makes this check, and accepted as before if it has none. Assumes nothing.
-use Rattle.std.specs.Prelude.{ℕ, suc, ◌≤◌, ◌≡◌, List, [], T, ℤ, length, get_or}
+use Rattle.std.specs.Prelude.{ℕ, suc, ◌≤◌, ◌≡◌, List, [], T, ℤ, length, get_or, Err}
 use Rattle.std.proofs.Common.{sym, ◌∙◌, inl, inr}
 use Rattle.std.proofs.Math.Path.{ap, subst}
 use Rattle.std.proofs.Math.Option.{some}
 use Rattle.integer.specs.BigEndian.{AllBytes}
 use Rattle.model.specs.declared.Refusal.{Refusal}
-use Rattle.model.specs.declared.ReadAnswer.TheVariants as read
-use Rattle.model.specs.declared.WriteAnswer.TheVariants as write
-use Rattle.model.specs.declared.DecideAnswer.TheVariants as decide
-use Rattle.model.specs.declared.PlanAnswer.TheVariants as plan
-use Rattle.model.specs.declared.BlockingAnswer.TheVariants as blocking
 use Rattle.model.specs.Limits.{Limits}
 use Rattle.model.specs.Task.{Form, written, normal, active}
 use Rattle.model.specs.Command.{head, task_bytes}
@@ -65,7 +60,7 @@ module _ (L : Limits) (t : List ℕ) {k : Table} (e : reading L stored t ≡ acc
   both_refused = first_refused L both t e both_checks tt (reading_limit L stored t e) b first
 
   -- so read answers, and the reader of any block
-  pub read_refused : read_answer L t ≡ read.Refused closing
+  pub read_refused : read_answer L t ≡ Err closing
   unfolding read_answer read_of
   read_refused = ap read_of both_refused
 
@@ -98,7 +93,7 @@ module _ (L : Limits) (t : List ℕ) {k : Table} (e : reading L stored t ≡ acc
   pub written_refused :
       AllBytes t → k.header.form ≡ written
       → (bs : List ℕ) (n : ℕ) (out : List ℕ)
-      → (normalise_answer L t out ≡ write.Refused closing) × (step_answer L t bs n out ≡ write.Refused closing) × (pddl_answer L t bs out ≡ write.Refused closing)
+      → (normalise_answer L t out ≡ Err closing) × (step_answer L t bs n out ≡ Err closing) × (pddl_answer L t bs out ≡ Err closing)
   unfolding normalise_answer normalised normal_of step_answer stepped step_of pddl_answer pddl_text text_of fitted write_answer
   written_refused bytes is bs n out = (
     ap (λ (v : Verdict). write_answer (fitted (length out) (normal_of v))) refuses,
@@ -113,7 +108,7 @@ module _ (L : Limits) (t : List ℕ) {k : Table} (e : reading L stored t ≡ acc
   pub normal_refused :
       AllBytes t → k.header.form ≡ normal
       → (bs : List ℕ) (mem : List ℤ) (out : List ℕ)
-      → (decide_answer L t bs mem ≡ decide.Refused closing) × (plan_answer L t bs mem out ≡ plan.Refused closing) × (blocking_answer L t bs mem ≡ blocking.Refused closing)
+      → (decide_answer L t bs mem ≡ Err closing) × (plan_answer L t bs mem out ≡ Err closing) × (blocking_answer L t bs mem ≡ Err closing)
   unfolding decide_answer decide_of plan_answer plan_of blocking_answer blocking_of prepared ready_of
   normal_refused bytes is bs mem out = (
     ap (λ (v : Verdict). decide_of L (length mem) (ready_of L v bs)) refuses,

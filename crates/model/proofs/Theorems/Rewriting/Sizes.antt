@@ -1,13 +1,12 @@
 -- What the rewriter writes is the table without the moves that do nothing, byte for byte. So it is never longer: an output of the table's
 -- length always suffices; the numbers of its answer are small. Assumes nothing.
-use Rattle.std.specs.Prelude.{ℕ, ◌≤◌, List, [], ◌∷◌, ◌++◌}
+use Rattle.std.specs.Prelude.{ℕ, ◌≤◌, List, [], ◌∷◌, ◌++◌, Ok, Err}
 use native.Mathlib.Omega.{arith}
 use Rattle.std.proofs.Math.Path.{◌≡◌, refl, sym, ap}
 use Rattle.std.proofs.Common.{◌∙◌, subst, append_assoc}
 use Rattle.std.proofs.Math.ListN.{length}
 use Rattle.integer.specs.BigEndian.{AllBytes}
 use Rattle.model.specs.declared.Refusal.{Refusal}
-use Rattle.model.specs.declared.WriteAnswer.TheVariants as write
 use Rattle.model.specs.Limits.{Limits, paper}
 use Rattle.model.specs.Task.{Form, Block}
 use Rattle.model.specs.Command.{head, open_goal, end_table, code_of, items_bytes, moves_bytes, task_bytes}
@@ -96,11 +95,11 @@ module _ (L : Limits) (t : List ℕ) where
       }
 
   -- so its answer is at most the table's length
-  pub rewrite_length : (out : List ℕ) (n : ℕ) → rewrite_answer L t out ≡ write.Written n → n ≤ length t
+  pub rewrite_length : (out : List ℕ) (n : ℕ) → rewrite_answer L t out ≡ Ok n → n ≤ length t
   unfolding rewrite_answer write_answer
   rewrite_length out n e = go (rewrote L t (length out)) refl e
     where
-      go : (o : Output) → rewrote L t (length out) ≡ o → write_answer o ≡ write.Written n → n ≤ length t
+      go : (o : Output) → rewrote L t (length out) ≡ o → write_answer o ≡ Ok n → n ≤ length t
       go (writes o) is answer = let same : length o ≡ n = cc in omega (arith, same, rewrote_length (length out) is)
       go (turns r) is answer = let z : ◌≡◌ {A = ℕ} 0 1 = cc in absurd (omega arith)
 
@@ -114,22 +113,22 @@ module _ (L : Limits) (t : List ℕ) where
       go (refused r) e = refl
 
   -- so that "a short output is 13" never comes then
-  pub never_13 : (out : List ℕ) → length t ≤ length out → {r : Refusal} → rewrite_answer L t out ≡ write.Refused r → r.number ≡ 13 → ⊥
+  pub never_13 : (out : List ℕ) → length t ≤ length out → {r : Refusal} → rewrite_answer L t out ≡ Err r → r.number ≡ 13 → ⊥
   unfolding rewrite_answer rewrite_of write_answer
   never_13 out room {r} e is = go (reading L stored t) refl (ap write_answer (sym (rewrote_whole (length out) room)) ∙ e)
     where
-      go : (v : Verdict) → reading L stored t ≡ v → write_answer (rewrite_of v) ≡ write.Refused r → ⊥
+      go : (v : Verdict) → reading L stored t ≡ v → write_answer (rewrite_of v) ≡ Err r → ⊥
       go (accepted k) read answer = let z : ◌≡◌ {A = ℕ} 0 1 = cc in omega arith
       go (refused q) read answer = let same : q ≡ r = cc in omega (arith, stored_numbers L t read, ap (λ (x : Refusal). x.number) same)
 
   -- "makes all checks but 16": no answer has this number
-  pub answers_no_16 : (out : List ℕ) {r : Refusal} → rewrite_answer L t out ≡ write.Refused r → r.number ≡ 16 → ⊥
+  pub answers_no_16 : (out : List ℕ) {r : Refusal} → rewrite_answer L t out ≡ Err r → r.number ≡ 16 → ⊥
   unfolding rewrite_answer rewrote rewrite_of write_answer fitted
   answers_no_16 out {r} e is = go (reading L stored t) refl e
     where
-      go : (v : Verdict) → reading L stored t ≡ v → write_answer (fitted (length out) (rewrite_of v)) ≡ write.Refused r → ⊥
+      go : (v : Verdict) → reading L stored t ≡ v → write_answer (fitted (length out) (rewrite_of v)) ≡ Err r → ⊥
       go (accepted k) read =
-          fitted_cases (length out) (task_bytes k.header.form (rewritten k.task)) (λ (o : Output). write_answer o ≡ write.Refused r → ⊥)
+          fitted_cases (length out) (task_bytes k.header.form (rewritten k.task)) (λ (o : Output). write_answer o ≡ Err r → ⊥)
           (λ whole answer. let z : ◌≡◌ {A = ℕ} 0 1 = cc in omega arith)
           (λ short answer. let same : record { number = 13; place = 0 } ≡ r = cc in omega (arith, ap (λ (x : Refusal). x.number) same))
       go (refused q) read = λ answer. let same : q ≡ r = cc in omega (arith, stored_numbers L t read, ap (λ (x : Refusal). x.number) same)

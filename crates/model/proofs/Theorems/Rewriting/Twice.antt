@@ -1,9 +1,8 @@
 -- Rewriting twice is rewriting once, and a table that read takes comes out as it is. Assumes nothing.
-use Rattle.std.specs.Prelude.{ℕ, ◌≤◌, ◌≡◌, List, length}
+use Rattle.std.specs.Prelude.{ℕ, ◌≤◌, ◌≡◌, List, length, Ok}
 use Rattle.std.proofs.Common.{sym, subst}
 use Rattle.std.proofs.Math.Path.{ap}
 use Rattle.integer.specs.BigEndian.{AllBytes}
-use Rattle.model.specs.declared.WriteAnswer.TheVariants as write
 use Rattle.model.specs.Limits.{Limits}
 use Rattle.model.specs.Task.{Task}
 use Rattle.model.specs.Command.{task_bytes}
@@ -35,7 +34,7 @@ module _ (L : Limits) (small : SmallLimits L) (t : List ℕ) (bytes : AllBytes t
   -- A table that read takes comes out as it is.
   module _ {k : Table} (e : reading L both t ≡ accepted k) (out : List ℕ) (room : length t ≤ length out) where
     -- its length is answered
-    pub same_answer : rewrite_answer L t out ≡ write.Written (length t)
+    pub same_answer : rewrite_answer L t out ≡ Ok (length t)
     unfolding rewrite_answer write_answer
     same_answer = ap write_answer (rewrite_same L small t bytes e (length out) room)
 

@@ -1,21 +1,11 @@
 -- Every number of an answer is small enough for the numbers that hosts in C are given: places, lengths, offsets and reported layers
 -- are far below 2^31, whatever the lengths of table, state and memories.
 -- Assumes nothing.
-use Rattle.std.specs.Prelude.{ℕ, suc, ◌+◌, ◌*◌, ◌^◌, ◌/◌, ◌≤◌, ◌<◌, ◌≡◌, refl, Bool, true, false, cond, List, [], eqb, leb, ltb, ℤ, length, get_or}
+use Rattle.std.specs.Prelude.{ℕ, suc, ◌+◌, ◌*◌, ◌/◌, ◌≤◌, ◌<◌, ◌≡◌, refl, Bool, true, false, cond, List, [], eqb, leb, ltb, ℤ, length, get_or, Result, Ok, Err}
 use Rattle.std.proofs.Common.{sym, subst, arith, lit≤, length-drop, length-take}
 use Rattle.std.proofs.Math.Option.{Option, none, some}
 use Rattle.std.proofs.Math.Seq.{slice}
 use Rattle.model.specs.declared.Refusal.{Refusal}
-use Rattle.model.specs.declared.ReadAnswer.{ReadAnswer}
-use Rattle.model.specs.declared.ReadAnswer.TheVariants as read
-use Rattle.model.specs.declared.WriteAnswer.{WriteAnswer}
-use Rattle.model.specs.declared.WriteAnswer.TheVariants as write
-use Rattle.model.specs.declared.DecideAnswer.{DecideAnswer}
-use Rattle.model.specs.declared.DecideAnswer.TheVariants as decide
-use Rattle.model.specs.declared.PlanAnswer.{PlanAnswer}
-use Rattle.model.specs.declared.PlanAnswer.TheVariants as plan
-use Rattle.model.specs.declared.BlockingAnswer.{BlockingAnswer}
-use Rattle.model.specs.declared.BlockingAnswer.TheVariants as blocking
 use Rattle.model.specs.Limits.{paper, last_number}
 use Rattle.model.specs.Lists.{all_below}
 use Rattle.model.specs.Task.{Form, written, normal, Task}
@@ -86,9 +76,9 @@ read_small t = go (reading paper both t) refl (table_refused both t)
         (head_small k.header.form, omega (arith, small.0), omega (arith, small.1), omega (arith, small.2))
     go (refused r) e h = h
 
-pub write_wider : {m n : ℕ} (a : WriteAnswer) → m ≤ n → WriteSmall m a → WriteSmall n a
-write_wider (write.Written k) h s = omega arith
-write_wider (write.Refused r) h s = s
+pub write_wider : {m n : ℕ} (a : Result ℕ Refusal) → m ≤ n → WriteSmall m a → WriteSmall n a
+write_wider (Ok k) h s = omega arith
+write_wider (Err r) h s = s
 
 pub answer_small : (size : ℕ) (o : Output) → OutputSmall size o → WriteSmall size (write_answer o)
 unfolding write_answer

@@ -1,6 +1,6 @@
 -- Sizes on the way one layer down: where the targets of layer t are at most b, those made for layer t−1 are at most
 -- b + 8,001,000,000 and the counts at most b + 1,000,000, after each step of the way (document 01, "Plan"). Assumes nothing.
-use Rattle.std.specs.Prelude.{ℕ, ◌+◌, ◌≤◌, ◌<◌, max, ◌&&◌, eqb, ℤ, length}
+use Rattle.std.specs.Prelude.{ℕ, ◌≤◌, ◌<◌, max, ◌&&◌, eqb, ℤ, length}
 use Rattle.std.proofs.Common.{arith}
 use Rattle.std.proofs.Math.Bool.{not}
 use Rattle.std.proofs.Math.Option.{some}

@@ -17,7 +17,7 @@ use Rattle.model.specs.Theorems.Layers.Memories.{size, Holds}
 use Rattle.model.proofs.Theorems.Layers.Memories.{memory_holds}
 use Rattle.model.specs.Theorems.Sizes.States.{SmallState}
 use Rattle.model.proofs.Theorems.Sizes.Plans.{answered_passes, reported_most}
-use Rattle.model.specs.Theorems.Sizes.Stored.{layer_limit, steps_of, StoredLayers}
+use Rattle.model.specs.Theorems.Sizes.Stored.{steps_of, StoredLayers}
 
 answered_memory : (k : Task) (s : State) (o : Outcome) → built_memory k s (answered o) ≡ layer_memory k s (suc (reported o)) (steps_of o)
 unfolding built_memory reported steps_of

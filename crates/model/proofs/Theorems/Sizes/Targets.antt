@@ -1,7 +1,7 @@
 -- Sizes of targets: what is wanted for a sum, a condition or a block in a layer with small values is a target from
 -- −9,000,000,000,000,000 up to a bound that is at least 1,000,000,000,000 and 8,000,000,000 more than the number that the sum has
 -- to reach (document 01, "Plan"). Assumes nothing.
-use Rattle.std.specs.Prelude.{ℕ, suc, ◌+◌, ◌*◌, ◌≤◌, ◌<◌, ◌≡◌, ℤ, pos, neg_ℤ, nat_abs, ◌-ℤ◌, ◌*ℤ◌, length}
+use Rattle.std.specs.Prelude.{ℕ, suc, ◌+◌, ◌≤◌, ◌<◌, ◌≡◌, ℤ, pos, neg_ℤ, nat_abs, ◌-ℤ◌, ◌*ℤ◌, length}
 use Rattle.std.proofs.Common.{arith, sym, subst}
 use mathlib.Core.List.{List, [], ◌∷◌}
 use Rattle.integer.specs.Linear.{≤_trans, size_below, abs_neg}
@@ -13,7 +13,7 @@ use Rattle.model.specs.Move.{State, sum}
 use Rattle.model.specs.Layer.{finite, Layer}
 use Rattle.model.specs.Plan.{least, Wants, no_wants, want_prop, want_value, low, want_finite, want_sum, want_item, want_block}
 use Rattle.model.specs.Theorems.Reading.WellFormed.{All, TermOk, ItemOk, BlockOk}
-use Rattle.model.specs.Theorems.Plans.Targets.{EachTarget, Each}
+use Rattle.model.specs.Theorems.Plans.Targets.{EachTarget}
 use Rattle.model.proofs.Theorems.Plans.Targets.{each_map, no_wants_each, want_prop_each, want_value_each}
 use Rattle.model.proofs.Theorems.Plans.Wanting.{want_finite_cases, want_sum_cases, want_sum_nil, positive_size}
 use Rattle.model.specs.Theorems.Sizes.Bounds.{Between, FewTerms}

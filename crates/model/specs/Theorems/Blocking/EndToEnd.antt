@@ -1,10 +1,8 @@
 -- The goal part that blocks, from bytes to its answer: an offset is the true reason, in the normal table and in the written table that it
 -- is the normal form of; there is one exactly when no list solves the relaxed task.
 -- Assumes nothing.
-use Rattle.std.specs.Prelude.{ℕ, ◌/◌, ◌≡◌, List}
+use Rattle.std.specs.Prelude.{ℕ, ◌/◌, ◌≡◌, List, Option, Some, None, Result, Ok, Err}
 use Rattle.std.proofs.Math.Option.{none}
-use Rattle.model.specs.declared.BlockingAnswer.{BlockingAnswer}
-use Rattle.model.specs.declared.BlockingAnswer.TheVariants as blocking
 use Rattle.model.specs.Limits.{paper}
 use Rattle.model.specs.Lists.{In}
 use Rattle.model.specs.Task.{normal, Block, Task}
@@ -17,6 +15,7 @@ use Rattle.model.specs.Theorems.Campaigns.Demand3.{relaxed_task, start_state, la
 use Rattle.model.specs.Theorems.Blocking.Goals.{with_goal}
 use Rattle.model.specs.Theorems.Blocking.Reason.{FirstUnreachable}
 use Rattle.model.specs.Theorems.Blocking.Written.{CameFrom}
+use Rattle.model.specs.declared.Refusal.{Refusal}
 
 -- ---- the reason, in the normal table
 
@@ -38,10 +37,10 @@ pub record TrueReason (t bs : List ℕ) (offset : ℕ) : Type 0 where
   pub blocker : Blocker table.task (layer_zero table bs) offset
 
 -- what the call promises of its answer: an offset is the true reason
-abbrev pub Reasoned : List ℕ → List ℕ → BlockingAnswer → Type 0
-Reasoned t bs (blocking.Blocks offset) = TrueReason t bs offset
-Reasoned t bs blocking.Nothing = Unit {0}
-Reasoned t bs (blocking.Refused r) = Unit {0}
+abbrev pub Reasoned : List ℕ → List ℕ → Result (Option ℕ) Refusal → Type 0
+Reasoned t bs (Ok (Some offset)) = TrueReason t bs offset
+Reasoned t bs (Ok None) = Unit {0}
+Reasoned t bs (Err r) = Unit {0}
 
 -- ---- the reason, in the written table
 -- An offset that blocks, of the normal form of a written table w and of the bytes bs of a state.

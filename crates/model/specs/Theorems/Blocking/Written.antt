@@ -1,6 +1,6 @@
 -- The part that blocks, in the written table: each part of a normal form came from one item of the written goal, and with a goal that
 -- still holds that item no list of moves solves the table as written. Assumes nothing.
-use Rattle.std.specs.Prelude.{ℕ, ◌+◌, ◌≤◌, ◌<◌, ◌≡◌, [], ◌∷◌, ◌++◌, length}
+use Rattle.std.specs.Prelude.{ℕ, ◌+◌, ◌≤◌, ◌<◌, ◌≡◌, ◌∷◌, ◌++◌, length}
 use Rattle.model.specs.Task.{Item, Block}
 use Rattle.model.specs.NormalForm.{normal_item, normal_block}
 

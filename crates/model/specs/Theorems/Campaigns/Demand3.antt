@@ -1,6 +1,6 @@
 -- Demand 3, as one theorem from the bytes of a written table and of a state to the answers of normalise, decide and plan.
 -- Assumes nothing.
-use Rattle.std.specs.Prelude.{ℕ, ◌*◌, ◌≤◌, ◌≡◌, ◌↔◌, false, List, map, ℤ, length}
+use Rattle.std.specs.Prelude.{ℕ, ◌*◌, ◌≤◌, ◌≡◌, ◌↔◌, false, List, map, ℤ, length, Result, Ok, Err}
 use Rattle.std.proofs.Math.Option.{Option, none, some}
 use Rattle.model.specs.Limits.{paper}
 use Rattle.model.specs.Task.{written, Task}
@@ -13,8 +13,7 @@ use Rattle.model.specs.Memory.{room, wrong15, answered, overwrite}
 use Rattle.model.specs.Plan.{Record, records, helpful_moves, move_and_count, plan_list}
 use Rattle.integer.specs.BigEndian.{AllBytes}
 use Rattle.model.specs.Calls.{normal_bytes, plan_records, record_bytes, records_read}
-use Rattle.model.specs.declared.WriteAnswer.{WriteAnswer}
-use Rattle.model.specs.declared.WriteAnswer.TheVariants as write
+use Rattle.model.specs.declared.Refusal.{Refusal}
 use Rattle.model.specs.declared.DecideAnswer.{DecideAnswer}
 use Rattle.model.specs.declared.DecideAnswer.TheVariants as decide
 use Rattle.model.specs.declared.PlanAnswer.{PlanAnswer}
@@ -51,46 +50,46 @@ pub record Given (t bs normalOut : List ℕ) (layers : List ℤ) (out : List ℕ
       (u : ℕ) → u ≤ reported (end_of table bs) → wrong15 paper (relaxed_task table) (layer_zero table bs) u ≡ false
 
 -- "no plan" as decide's and as plan's answer
-pub record DecideNoPlan (r : DecideAnswer) : Type 0 where
+pub record DecideNoPlan (r : Result DecideAnswer Refusal) : Type 0 where
   pub layers : ℕ
-  pub is : r ≡ decide.NoPlan layers
+  pub is : r ≡ Ok (decide.NoPlan layers)
 
-pub record PlanNoPlan (r : PlanAnswer) : Type 0 where
+pub record PlanNoPlan (r : Result PlanAnswer Refusal) : Type 0 where
   pub layers : ℕ
-  pub is : r ≡ plan.NoPlan layers 0 0
+  pub is : r ≡ Ok (plan.NoPlan layers 0 0)
 
 -- the reported layers of an answer
-unfoldable pub decide_layers : DecideAnswer → Option ℕ
-decide_layers (decide.Plan layer layers) = some layers
-decide_layers (decide.NoPlan layers) = some layers
-decide_layers (decide.Refused r) = none
+unfoldable pub decide_layers : Result DecideAnswer Refusal → Option ℕ
+decide_layers (Ok (decide.Plan layer layers)) = some layers
+decide_layers (Ok (decide.NoPlan layers)) = some layers
+decide_layers (Err r) = none
 
-unfoldable pub plan_layers : PlanAnswer → Option ℕ
-plan_layers (plan.Plan layer layers records moves) = some layers
-plan_layers (plan.NoPlan layers records moves) = some layers
-plan_layers (plan.Refused r) = none
+unfoldable pub plan_layers : Result PlanAnswer Refusal → Option ℕ
+plan_layers (Ok (plan.Plan layer layers records moves)) = some layers
+plan_layers (Ok (plan.NoPlan layers records moves)) = some layers
+plan_layers (Err r) = none
 
 -- the records of the plan that document 01 defines
 abbrev pub records_of : Table → List ℕ → ℕ → List Record
 records_of w bs layer = records (relaxed_task w) (layer_zero w bs) layer
 
 -- "no plan": the reported layers, and that nothing is written
-pub record NotFound (w : Table) (bs : List ℕ) (d : DecideAnswer) (p : PlanAnswer) (before after : List ℕ) : Type 0 where
+pub record NotFound (w : Table) (bs : List ℕ) (d : Result DecideAnswer Refusal) (p : Result PlanAnswer Refusal) (before after : List ℕ) : Type 0 where
   pub layers : ℕ
   -- "with "no plan", the first t whose next layer equals layer t"; no layer up to it meets the goal
   pub exhausted : Exhausted (relaxed_task w) (layer_zero w bs) layers
-  pub decides : d ≡ decide.NoPlan layers
-  pub plans : p ≡ plan.NoPlan layers 0 0
+  pub decides : d ≡ Ok (decide.NoPlan layers)
+  pub plans : p ≡ Ok (plan.NoPlan layers 0 0)
   -- "it writes no plan bytes"
   pub kept : after ≡ before
 
 -- "otherwise": the answer layer, the records and the list
-pub record Found (w : Table) (bs : List ℕ) (d : DecideAnswer) (p : PlanAnswer) (before after : List ℕ) : Type 0 where
+pub record Found (w : Table) (bs : List ℕ) (d : Result DecideAnswer Refusal) (p : Result PlanAnswer Refusal) (before after : List ℕ) : Type 0 where
   pub layer : ℕ
   -- it is the first layer that meets the goal, and no layer before it equals its next one
   pub answer_layer : Reached (relaxed_task w) (layer_zero w bs) layer
-  pub decides : d ≡ decide.Plan layer layer
-  pub plans : p ≡ plan.Plan layer layer (length (records_of w bs layer)) (helpful_moves (relaxed_task w) (layer_zero w bs) layer)
+  pub decides : d ≡ Ok (decide.Plan layer layer)
+  pub plans : p ≡ Ok (plan.Plan layer layer (length (records_of w bs layer)) (helpful_moves (relaxed_task w) (layer_zero w bs) layer))
   -- the output holds the records, and nothing behind them is changed
   pub output : after ≡ overwrite (record_bytes (records_of w bs layer)) before
   pub bytes : AllBytes (record_bytes (records_of w bs layer))
@@ -102,9 +101,9 @@ pub record Found (w : Table) (bs : List ℕ) (d : DecideAnswer) (p : PlanAnswer)
 -- What demand 3 says of a table, a state and the answers of normalise (a, with the bytes nb that it leaves), decide (d) and plan (p, with
 -- its output before and after), of whatever calls these are: the full ones, or those under a ceiling.
 pub record Answers
-    (w : Table) (bs : List ℕ) (a : WriteAnswer) (nb : List ℕ) (d : DecideAnswer) (p : PlanAnswer) (before after : List ℕ) : Type 0 where
+    (w : Table) (bs : List ℕ) (a : Result ℕ Refusal) (nb : List ℕ) (d : Result DecideAnswer Refusal) (p : Result PlanAnswer Refusal) (before after : List ℕ) : Type 0 where
   -- normalise writes the normal form; nb, which decide and plan are given, is it
-  pub normalise : a ≡ write.Written (length (normal_bytes w.task))
+  pub normalise : a ≡ Ok (length (normal_bytes w.task))
   pub normal_form : nb ≡ normal_bytes w.task
   -- "no plan" exactly when no list of any length solves the relaxed task
   pub decide_no_plan : DecideNoPlan d ↔ ((list : List ℕ) → Solves relaxed (relaxed_task w) (layer_zero w bs) list → ⊥)

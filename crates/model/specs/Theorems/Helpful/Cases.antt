@@ -1,5 +1,5 @@
 -- The set of helpful moves from bytes, computed: a case for each part of the sentence (document 02, request 6). Assumes nothing.
-use Rattle.std.specs.Prelude.{◌≡◌, List, [], ◌∷◌, ◌++◌, ℕ, ◌*◌, pos, replicate}
+use Rattle.std.specs.Prelude.{◌≡◌, List, [], ◌∷◌, ◌++◌, ℕ, ◌*◌, pos, replicate, Ok}
 use Rattle.model.specs.declared.PlanAnswer.TheVariants as plan
 use Rattle.model.specs.Limits.{paper}
 use Rattle.model.specs.Calls.{normalise_out, plan_answer}
@@ -7,7 +7,7 @@ use Rattle.model.specs.Theorems.Campaigns.Tables.{zeros}
 
 -- with room for n numbers and r records plan gives answer layer m, r records and the set x
 abbrev plans : List ℕ → List ℕ → ℕ → ℕ → ℕ → ℕ → Type 0
-plans t bs n m r x = plan_answer paper t bs (replicate n (pos 7)) (zeros (10 * r)) ≡ plan.Plan m m r x
+plans t bs n m r x = plan_answer paper t bs (replicate n (pos 7)) (zeros (10 * r)) ≡ Ok (plan.Plan m m r x)
 
 -- moves 0 and 1 add p0; goal p0
 abbrev twins : List ℕ
@@ -68,4 +68,4 @@ pub record Cases : Type 0 where
   pub wants_of_layer_1 : plans stairs (zeros 3) 8 2 3 29
   -- "With answer layer 0 or "no plan" it is empty."
   pub layer_0 : plans stuck (1 ∷ []) 2 0 0 0
-  pub no_plan : plan_answer paper stuck (0 ∷ []) (replicate 2 (pos 7)) [] ≡ plan.NoPlan 0 0 0
+  pub no_plan : plan_answer paper stuck (0 ∷ []) (replicate 2 (pos 7)) [] ≡ Ok (plan.NoPlan 0 0 0)

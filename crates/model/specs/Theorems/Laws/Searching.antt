@@ -2,7 +2,6 @@
 -- Each search has an elimination law and no equation of an Option. Assumes nothing.
 use Prim.Native.Nat.{ℕ, ◌-◌, ◌≤◌}
 use Rattle.std.specs.Prelude.{◌≡◌, Bool}
-use mathlib.Core.List.{[]}
 use Rattle.model.specs.Lists.{first_from}
 
 -- a search for the first number below n that passes has come to i: none below it passes

@@ -1,7 +1,6 @@
 -- The order of values and of layers: sums, conditions and an effect's value never fall when a layer rises, and a state seen as a
 -- layer has the same sums and conditions as the state. Assumes nothing.
 use Rattle.std.specs.Prelude.{ℕ, Bool, true, false, T}
-use mathlib.Core.List.{[]}
 use Rattle.std.specs.Int.Signed.{le_z}
 use Rattle.model.specs.Layer.{Value, finite, unbounded, Layer}
 

@@ -1,7 +1,6 @@
 -- "A next layer equal to layer t": the comparison over the table's propositions and variables decides that the two layers are
 -- equal everywhere, for a move names no others. Assumes nothing.
 use Rattle.std.specs.Prelude.{ℕ, ◌<◌, ◌≡◌}
-use mathlib.Core.List.{[]}
 use Rattle.model.specs.Task.{Task}
 use Rattle.model.specs.Layer.{Layer}
 

@@ -1,6 +1,6 @@
 -- The five comparisons under document 01's "Normal form" (document 02, request 4/14): one law an operator, in the paper's order and
 -- words, each with what it means. Reading refuses any other number. Assumes nothing.
-use Rattle.std.specs.Prelude.{ℕ, ◌≡◌, ◌↔◌, List, [], T, ℤ}
+use Rattle.std.specs.Prelude.{ℕ, ◌≡◌, ◌↔◌, List, T, ℤ}
 use Rattle.model.specs.Lists.{all}
 use Rattle.model.specs.Task.{Term, Comparison, Item, condition, Block}
 use Rattle.model.specs.Move.{State, sum, holds}

@@ -1,6 +1,6 @@
 -- The printed normal form: at most twice as long as the written table, accepted as the normal task, with a state that is
 -- accepted for both tables or for neither. Assumes nothing.
-use Rattle.std.specs.Prelude.{◌*◌, [], length}
+use Rattle.std.specs.Prelude.{◌*◌, length}
 use Rattle.model.specs.Task.{normal, Task}
 use Rattle.model.specs.NormalForm.{normal_task}
 use Rattle.model.specs.Reading.{Table}

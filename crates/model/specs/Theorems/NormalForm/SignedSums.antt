@@ -1,6 +1,6 @@
 -- What a signed variable is worth in the normal state, and that a signed sum has there the value of the sum it comes from.
 -- Assumes nothing.
-use Rattle.std.specs.Prelude.{◌+◌, ◌*◌, [], neg_ℤ}
+use Rattle.std.specs.Prelude.{◌+◌, ◌*◌, neg_ℤ}
 use Rattle.model.specs.Task.{Term}
 
 -- "A weight w above 0 becomes w on 2i, below 0 becomes −w on 2i+1."

@@ -2,7 +2,7 @@
 -- differ only in terms of weight 0: normalise, step, campaign and the listing program do the same for both. Terms of weight 0 put into an
 -- accepted table: it stays accepted. Assumes nothing.
 use Rattle.std.specs.Prelude.{ℕ, ◌≡◌, ℤ}
-use mathlib.Core.List.{List, []}
+use mathlib.Core.List.{List}
 use Rattle.model.specs.Limits.{paper}
 use Rattle.model.specs.Calls.{normalise_answer, normalise_out, step_answer, step_out, campaign_decision, campaign_plan, campaign_memory, campaign_out}
 use Rattle.model.specs.Listing.{listing}

@@ -1,6 +1,6 @@
 -- A task without its terms of weight 0: it meets every check that the task meets, has the same edges, real moves do the same, the same
 -- lists solve it, and it has the same normal form; and back again, terms of weight 0 put into a task. Assumes nothing.
-use mathlib.Core.List.{[], map}
+use mathlib.Core.List.{map}
 use Rattle.model.specs.Task.{kept, Item, need, add, delete, condition, effect, Block, Task}
 
 -- the item, the block and the task with what is kept of every sum: the term alone goes, its condition or effect stays

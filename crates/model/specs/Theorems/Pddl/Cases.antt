@@ -1,8 +1,7 @@
 -- PDDL text computed from bytes: M1's, that of a table with every form, the empty table's, that of a table with a term of weight 0; the
 -- order of refusals; a plan of M1's text. Assumes nothing.
-use Rattle.std.specs.Prelude.{ℕ, ◌≡◌, List, [], ◌∷◌, ◌++◌}
+use Rattle.std.specs.Prelude.{ℕ, ◌≡◌, List, [], ◌∷◌, ◌++◌, Ok, Err}
 use Prim.Native.String.{String}
-use Rattle.model.specs.declared.WriteAnswer.TheVariants as write
 use Rattle.model.specs.Limits.{paper}
 use Rattle.model.specs.Ascii.{ascii}
 use Rattle.model.specs.Pddl.{pddl_answer, pddl_out}
@@ -138,12 +137,12 @@ grid_text =
 pub record Cases : Type 0 where
   pub m1_text_holds : pddl_out paper m1 (zeros 9) (zeros 631) ≡ m1_text
   -- "the answer carries the length written from the start"
-  pub m1_length : pddl_answer paper m1 (zeros 9) (zeros 631) ≡ write.Written 631
+  pub m1_length : pddl_answer paper m1 (zeros 9) (zeros 631) ≡ Ok 631
   pub mixed_text_holds : pddl_out paper mixed mixed_state (zeros 596) ≡ mixed_text
   pub empty_text_holds : pddl_out paper empty_goal [] (zeros 134) ≡ empty_text
   -- weight 0: "The PDDL text writes it out."
   pub grid_text_holds : pddl_out paper grid (zeros 8) (zeros 325) ≡ grid_text
   -- "Too short a buffer is 13 .. and comes last": behind the table's refusals and the state's
-  pub short : pddl_answer paper m1 (zeros 9) (zeros 630) ≡ write.Refused (record { number = 13; place = 0 })
-  pub state_first : pddl_answer paper m1 (zeros 8) [] ≡ write.Refused (record { number = 8; place = 0 })
-  pub table_first : pddl_answer paper m1_normal [] [] ≡ write.Refused (record { number = 3; place = 0 })
+  pub short : pddl_answer paper m1 (zeros 9) (zeros 630) ≡ Err (record { number = 13; place = 0 })
+  pub state_first : pddl_answer paper m1 (zeros 8) [] ≡ Err (record { number = 8; place = 0 })
+  pub table_first : pddl_answer paper m1_normal [] [] ≡ Err (record { number = 3; place = 0 })

@@ -1,7 +1,7 @@
 -- Words, numbers, names and lists of PDDL text show where they end: two that go on to the same bytes are the same, and what
 -- follows them is the same. A number does where no digit follows. Assumes nothing.
 use Rattle.std.specs.Prelude.{ℕ, ◌<◌, ◌≡◌, get_or}
-use mathlib.Core.List.{List, [], ◌++◌}
+use mathlib.Core.List.{List, ◌++◌}
 
 -- x and y, printed before r and q, split alike
 abbrev pub Splits : {A : Type 0} → (A → List ℕ) → A → A → List ℕ → List ℕ → Type 0

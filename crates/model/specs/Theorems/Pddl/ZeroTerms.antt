@@ -1,7 +1,6 @@
 -- "The PDDL text writes it out": tables that differ only in terms of weight 0 have different texts, and these have the same plans.
 -- Assumes nothing.
 use Rattle.std.specs.Prelude.{◌≡◌, nat_abs}
-use mathlib.Core.List.{[]}
 use Rattle.model.specs.Lists.{In}
 use Rattle.model.specs.Task.{Term, Item, Block, terms_of}
 

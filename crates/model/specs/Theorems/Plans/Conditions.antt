@@ -1,7 +1,6 @@
 -- The wants of a move or the goal, and of an effect's value: they can be had in a layer where the conditions hold, and every
 -- state at least as high as the first that meets them has the conditions and the value (document 01, "Plan"). Assumes nothing.
 use Rattle.std.specs.Prelude.{ℕ, ◌<◌, T}
-use mathlib.Core.List.{[]}
 use Rattle.std.proofs.Math.IntN.{ℤ}
 use Rattle.model.specs.Layer.{Layer, reaches}
 use Rattle.model.specs.Plan.{Wants}

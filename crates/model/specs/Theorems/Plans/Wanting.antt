@@ -1,7 +1,7 @@
 -- What is wanted of a layer for "sum ≥ c" (document 01, "Plan"), term by term: the layer meets it, every state at least as high as the
 -- first that meets it has the sum, and the first unbounded term is the lowest. Assumes nothing.
 use Rattle.std.specs.Prelude.{ℕ, T, ℤ, pos, ◌≤ℤ◌}
-use mathlib.Core.List.{List, [], ◌∷◌}
+use mathlib.Core.List.{List, ◌∷◌}
 use Rattle.model.specs.Task.{Term}
 use Rattle.model.specs.Layer.{Layer, reaches}
 

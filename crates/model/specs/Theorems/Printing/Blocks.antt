@@ -1,6 +1,6 @@
 -- Printed terms, items and blocks read back: the reading passes all their commands and has seen them. Assumes nothing.
 use Rattle.std.specs.Prelude.{ℕ, T}
-use mathlib.Core.List.{List, []}
+use mathlib.Core.List.{List}
 use Rattle.model.specs.Task.{Term, Item, Block, clashes}
 use Rattle.model.specs.Command.{Place}
 use Rattle.model.specs.Seen.{Head, Seen}

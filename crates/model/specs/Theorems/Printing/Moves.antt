@@ -1,7 +1,7 @@
 -- Printed moves, the goal and the end of a table read back: the reading passes each 41, 47 and 45 with its block, counts the
 -- moves and keeps their offsets. Assumes nothing.
 use Rattle.std.specs.Prelude.{◌≡◌, true, not, ◌&&◌, T}
-use mathlib.Core.List.{List, []}
+use mathlib.Core.List.{List}
 use Rattle.std.proofs.Math.ListN.{length}
 use Rattle.model.specs.Task.{Block}
 use Rattle.model.specs.Command.{open_move, open_goal, Place, in_place}

@@ -1,7 +1,7 @@
 -- Every command that passes its checks is printed as it was read: the bytes before the next command stay the bytes of what has
 -- been seen. Assumes nothing.
 use Rattle.std.specs.Prelude.{ℕ, take}
-use mathlib.Core.List.{List, []}
+use mathlib.Core.List.{List}
 use Rattle.model.specs.Seen.{Seen}
 use Rattle.model.specs.Theorems.Printing.SeenBytes.{Prints, seen_bytes}
 

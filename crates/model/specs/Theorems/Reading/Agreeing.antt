@@ -2,7 +2,6 @@
 -- real moves keep them so, and the same lists solve the task from both. They are the same to every call, since they have the same bytes.
 -- Assumes nothing.
 use Rattle.std.specs.Prelude.{ℕ, ◌<◌, ◌≡◌}
-use mathlib.Core.List.{[]}
 use Rattle.model.specs.Move.{State}
 
 -- the same truths below props, the same values below vars

@@ -2,7 +2,7 @@
 -- operands' ranges, and that it names nothing again. Assumes nothing.
 use Rattle.std.specs.Prelude.{ℕ, ◌≤◌}
 use Rattle.std.proofs.Math.Bool.{not}
-use mathlib.Core.List.{List, []}
+use mathlib.Core.List.{List}
 use Rattle.std.proofs.Math.Dec.{T}
 use Rattle.model.specs.Limits.{Limits}
 use Rattle.model.specs.Lists.{any}

@@ -1,7 +1,6 @@
 -- Refusal 7 means what it says: the check `circular` finds a closed walk along the edges of := effects exactly where there is
 -- one. Where there is none, each variable has a rank that every edge raises. Assumes nothing.
 use Prim.Native.Nat.{ℕ, suc, ◌<◌}
-use Rattle.std.specs.Prelude.{[]}
 use Rattle.std.proofs.Math.Dec.{T}
 use Rattle.model.specs.Task.{Task}
 use Rattle.model.specs.Circle.{edge, walk_to}

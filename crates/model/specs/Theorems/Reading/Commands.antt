@@ -1,7 +1,7 @@
 -- One command of a table (document 01, "each command, in this order"): the number and place of the refusal when a check fails,
 -- and what has been seen when none does. `Checks` says what the passed checks of each command give. Assumes nothing.
 use Prim.Native.Nat.{ℕ, ◌+◌, ◌≤◌}
-use Rattle.std.specs.Prelude.{◌≡◌, not, List, [], T, length}
+use Rattle.std.specs.Prelude.{◌≡◌, not, List, T, length}
 use Rattle.std.proofs.Math.ListN.{get_or}
 use Rattle.model.specs.Limits.{Limits}
 use Rattle.model.specs.Command.{Command, code_of, width}

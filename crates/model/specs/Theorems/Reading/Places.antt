@@ -1,6 +1,6 @@
 -- The numbers and places of refusals are small: the number of a table's or a state's is 1 to `full_number`, and a place of a table stands at
 -- most three bytes behind the longest one. Assumes nothing.
-use Rattle.std.specs.Prelude.{ℕ, ◌≤◌, ◌<◌, []}
+use Rattle.std.specs.Prelude.{ℕ, ◌≤◌, ◌<◌}
 use Rattle.std.proofs.Math.Option.{Option, none, some}
 use Rattle.model.specs.declared.Refusal.{Refusal}
 use Rattle.model.specs.Limits.{full_number, last_number}

@@ -2,7 +2,7 @@
 -- its state. Assumes nothing.
 use Prim.Native.Nat.{ℕ, ◌+◌, ◌*◌, ◌≤◌, ◌<◌}
 use Rattle.std.specs.Prelude.{◌≡◌, nat_abs, get_or}
-use mathlib.Core.List.{List, []}
+use mathlib.Core.List.{List}
 use Rattle.std.proofs.Math.ListN.{length}
 use Rattle.model.specs.Limits.{Limits}
 use Rattle.model.specs.StateTable.{state_value}

@@ -1,6 +1,5 @@
 -- The rewriter's theorems at a table with two moves that do nothing: their premises can be met, with the memories that document 01 names
 -- and no more. Assumes nothing.
-use Rattle.std.specs.Prelude.{[]}
 use Rattle.model.specs.Limits.{paper}
 use Rattle.model.specs.Reading.{Table, stored, reading}
 use Rattle.model.specs.Theorems.Campaigns.Instance.{table_in}

@@ -1,7 +1,7 @@
 -- Rewriting and normalising change places, over the bytes of the calls, and so do renumbering and the normal form: what solves the relaxed
 -- task of a written table, renumbered, solves that of the rewritten one, and back. Assumes nothing.
 use Rattle.std.specs.Prelude.{ℕ}
-use mathlib.Core.List.{List, []}
+use mathlib.Core.List.{List}
 use Rattle.model.specs.Task.{normal, Task}
 use Rattle.model.specs.NormalForm.{normal_task}
 use Rattle.model.specs.Command.{task_bytes}

@@ -1,6 +1,5 @@
 -- The plan does not see moves that do nothing: its records are the old ones with each move under its new number, and so is its
 -- list. Assumes nothing.
-use mathlib.Core.List.{[]}
 use Rattle.model.specs.Task.{Task}
 use Rattle.model.specs.Plan.{Record}
 use Rattle.model.specs.Rewrite.{new_number}

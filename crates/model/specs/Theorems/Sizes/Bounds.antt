@@ -1,5 +1,5 @@
 -- Sizes of numbers: places between two bounds, and the one law for a sum of weighted values. Assumes nothing.
-use Rattle.std.specs.Prelude.{ℕ, ◌≤◌, List, [], ℤ, pos, neg_ℤ, length, ◌≤ℤ◌}
+use Rattle.std.specs.Prelude.{ℕ, ◌≤◌, List, ℤ, pos, neg_ℤ, length, ◌≤ℤ◌}
 use Rattle.model.specs.Limits.{paper}
 use Rattle.model.specs.Task.{Form, Term}
 use Rattle.model.specs.Theorems.Reading.WellFormed.{All, TermOk}

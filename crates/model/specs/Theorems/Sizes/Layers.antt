@@ -1,8 +1,7 @@
 -- Sizes of the numbers of a layer without a finite value above 1,000,000,000,000 (document 01, refusal 15): its values, its sums
 -- and its effects' values, and those of the next layer before it is checked. All stay far within 64 bits. Assumes nothing.
-use Rattle.std.specs.Prelude.{ℕ, ◌<◌, [], ℤ}
+use Rattle.std.specs.Prelude.{ℕ, ◌<◌, ℤ}
 use Rattle.model.specs.Layer.{Value, finite, unbounded, Layer}
-use Rattle.model.specs.Plan.{low}
 use Rattle.model.specs.Theorems.Sizes.Bounds.{Between}
 
 -- ---- values of a layer

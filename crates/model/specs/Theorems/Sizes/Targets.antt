@@ -2,7 +2,6 @@
 -- −9,000,000,000,000,000 up to a bound that is at least 1,000,000,000,000 and 8,000,000,000 more than the number that the sum has
 -- to reach (document 01, "Plan"). Assumes nothing.
 use Rattle.std.specs.Prelude.{ℕ, ◌+◌, ◌*◌, ℤ}
-use mathlib.Core.List.{[]}
 use Rattle.model.specs.Plan.{Wants}
 use Rattle.model.specs.Theorems.Plans.Targets.{Each}
 use Rattle.model.specs.Theorems.Sizes.Bounds.{Between}

@@ -1,5 +1,4 @@
 -- `Targets::carry_down` meets its contract: the wants are kept where they stand. Assumes nothing.
-use borrow.Author.Rules.{rules}
 use Rattle.targets.specs.Carrying.{carries}
 use Rattle.targets.proofs.Targets.carry_down.Goals as goal
 

@@ -1,11 +1,10 @@
 -- `Targets::want_block` meets its contract. The invariant: in every reading, the items before `at` are passed. The measure is what
 -- is left of the part. Assumes nothing.
-use Prim.Native.Nat.{◌-◌, ◌≤◌, ◌<◌}
+use Prim.Native.Nat.{◌<◌}
 use native.Mathlib.Omega.{arith}
 use Prim.Native.Nat.{ℕ}
 use lib.IntN.{ℤ}
 use mathlib.Core.Path.{◌≡◌, refl, sym, ◌∙◌}
-use borrow.Author.Rules.{rules}
 use lib.ListN.{length}
 use Rattle.integer.specs.Linear.{back_small}
 use Rattle.block.specs.Items.{readable, behind, next_ahead}
