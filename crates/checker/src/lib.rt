@@ -47,10 +47,10 @@ fn follow(
     requires { (Read blocks.now.table.now blocks.now.marks.now blocks.now.props blocks.now.vars blocks.now.moves) × (state_refusal paper blocks.now.props blocks.now.vars state.now ≡ none) }
     ensures { Replied (check_table paper (reading paper (only written) blocks.now.table.now) state.now list.now) out.old out.new result }
 {
-    match transition::walk(blocks, state, list) {
+    match &transition::walk(blocks, state, list) {
         Ok(after) => {
             let goal = blocks.part(blocks.moves);
-            finish(goal, &after, blocks.props, blocks.vars, out)
+            finish(goal, after, blocks.props, blocks.vars, out)
         }
         Err(stop) => Ok(CheckAnswer::Fails {
             index: stop.index as u64,

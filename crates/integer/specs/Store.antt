@@ -1,12 +1,12 @@
 -- Bytes stored in a list: `put l at bs` is l with the bytes bs from place `at` on, and nothing else changed.
--- Its laws: the length, what stands before, at and after the place, one byte more in front, two stores side by side.
+-- Its laws: the length, what stands before, at and after the place, one byte more in front or behind, two stores side by side.
 use Rattle.std.specs.Prelude.{◌≡◌, refl, List, [], ◌∷◌, ◌++◌, get_or, set, take}
 use Rattle.std.proofs.Math.Path.{sym, ap}
 use Rattle.std.proofs.Common.{◌∙◌, append_assoc, append-nil, add-zero, length-append, take-append-drop, length-take-le, take-suc, take_at, take-take, drop-drop}
-use Prim.Native.Nat.{ℕ, suc, ◌+◌, ◌-◌, ◌/◌, ◌^◌, ◌≤◌}
+use Prim.Native.Nat.{ℕ, suc, ◌+◌, ◌-◌, ◌/◌, ◌^◌, ◌<◌, ◌≤◌}
 use native.Mathlib.Omega.{arith}
 use Rattle.std.proofs.Math.ListN.{length, drop, length-drop}
-use Rattle.std.proofs.lemmas.List.{set_at}
+use Rattle.std.proofs.lemmas.List.{set_at, take_more}
 use Rattle.std.proofs.Math.Seq.{drop_at}
 use Rattle.integer.specs.BigEndian.{bytes}
 
@@ -29,6 +29,11 @@ put_cons l at b bs h =
     append_assoc (take at l) (b ∷ bs) r
     ∙ sym (set_at (take at l) x (bs ++ r) b at (length-take-le at l (omega arith)))
     ∙ ap (λ (m : List ℕ). set m at b) (sym e)
+
+-- one byte is one store
+pub put_one : (l : List ℕ) (at b : ℕ) → at < length l → set l at b ≡ put l at (b ∷ [])
+put_one l at b h =
+    ap (λ (m : List ℕ). set m at b) (sym (put_nil l (suc at))) ∙ sym (put_cons l at b [] (omega arith))
 
 module _ (l : List ℕ) (at : ℕ) (bs : List ℕ) (fits : at + length bs ≤ length l) where
   head_length : length (take at l ++ bs) ≡ at + length bs
@@ -75,6 +80,22 @@ put_append l at bs cs h =
     let e : drop (n + length cs) (put l at bs) ≡ drop (n + length cs) l = drop_put_after l at bs h (n + length cs) (omega arith) in
     let f : n + length cs ≡ at + length (bs ++ cs) = omega (arith, length-append bs cs) in
     rw (take_at (take at l ++ bs) (drop n l) n (head_length l at bs h), e, f, append_assoc (take at l) bs cs) refl
+
+-- the first i bytes are stored: one store more, and the first i + 1 are
+pub put_more :
+    (l : List ℕ) (at : ℕ) (bs : List ℕ) (i : ℕ)
+    → i < length bs
+    → at + i < length l
+    → set (put l at (take i bs)) (at + i) (get_or bs i 0) ≡ put l at (take (i + 1) bs)
+put_more l at bs i h room =
+    let b = get_or bs i 0 in
+    let first = take i bs in
+    let n : at + length first ≡ at + i = omega (arith, length-take-le i bs) in
+    let here : at + i < length (put l at first) = omega (arith, n, length_put l at first) in
+    put_one (put l at first) (at + i) b here
+    ∙ ap (λ (k : ℕ). put (put l at first) k (b ∷ [])) (sym n)
+    ∙ put_append l at first (b ∷ []) (omega (arith, n))
+    ∙ ap (put l at) (sym (take_more bs i 0 h))
 
 -- The last `done` of `width` bytes of n are stored, and `rest` is what is left of n.
 pub record Stored (l : List ℕ) (at n width : ℕ) (out : List ℕ) (rest done : ℕ) : Type 0 where

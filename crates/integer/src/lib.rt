@@ -160,5 +160,7 @@ pub fn copy(from: &[u8], out: &mut [u8])
     ensures { out.new ≡ put out.old 0 (take (length out.old) from.now) }
 {
     let n = out.len().min(from.len());
-    out[..n].copy_from_slice(&from[..n]);
+    for i in 0..n {
+        out[i] = from[i];
+    }
 }

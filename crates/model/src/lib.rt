@@ -1,5 +1,5 @@
 // The answers of the engine's calls (document 01, "Where a call turns back"). A call answers Ok with the values that document 01 names
-// (normalise, step and rewrite the length written; blocking the offset of the command that blocks, or None where nothing does), or Err
+// (normalise, step, pddl and rewrite the length written; blocking the offset of the command that blocks, or None where nothing does), or Err
 // with the refusal, its number and place. specs/Calls.antt says which answer is right.
 #![tactic(auto)]
 

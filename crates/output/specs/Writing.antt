@@ -1,9 +1,9 @@
 -- Bytes written into a lent output, one store behind the other. A store answers the offset behind its bytes, and writes them only
 -- where they fit: so one walk answers the length over an output of no bytes, and writes over one that is long enough.
 -- Assumes nothing.
-use Rattle.std.specs.Prelude.{ℕ, suc, ◌+◌, ◌^◌, ◌≤◌, ◌<◌, ◌≡◌, refl, List, [], ◌∷◌, ◌++◌, length, set}
+use Rattle.std.specs.Prelude.{ℕ, ◌+◌, ◌^◌, ◌≤◌, ◌<◌, ◌≡◌, refl, List, [], ◌∷◌, ◌++◌, length, set}
 use Rattle.std.proofs.Common.{arith, sym, ap, ap₂, ◌∙◌, subst, append_assoc, append-nil, length-append, length-set}
-use Rattle.integer.specs.Store.{put, put_nil, put_cons, put_append, length_put}
+use Rattle.integer.specs.Store.{put, put_nil, put_one, put_append, length_put}
 use Rattle.model.specs.Memory.{overwrite}
 use Rattle.model.proofs.Theorems.Printing.Outputs.{put_first}
 
@@ -33,10 +33,6 @@ written_not old h behind = record { behind = behind; kept = refl; is = λ g. abs
 -- there are none
 pub written_none : (old : List ℕ) (at : ℕ) → Written old at [] old at
 written_none old at = record { behind = omega arith; kept = refl; is = λ h. sym (put_nil old at) }
-
-pub put_one : (l : List ℕ) (at b : ℕ) → at < length l → set l at b ≡ put l at (b ∷ [])
-put_one l at b h =
-    ap (λ (m : List ℕ). set m at b) (sym (put_nil l (suc at))) ∙ sym (put_cons l at b [] (omega arith))
 
 -- ---- one behind the other
 

@@ -15,7 +15,9 @@ fn store(out: &mut [u8], at: usize, word: &[u8]) -> usize
     if out.len() < next {
         return next;
     }
-    out[at..next].copy_from_slice(word);
+    for (i, byte) in word.iter().enumerate() {
+        out[at + i] = *byte;
+    }
     next
 }
 

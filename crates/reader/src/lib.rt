@@ -42,8 +42,9 @@ impl<'a> Reader<'a> {
     }
 }
 
-// Block `b` of a table, from the offsets that `table::outline` left in `marks`.
-fn part<'a>(table: &'a [u8], marks: &[usize], b: usize) -> &'a [u8]
+// "hands back the bytes of one block as a part of the caller's table": block `b` of an accepted table, from the offsets that
+// `table::outline` left in `marks`.
+pub fn part<'a>(table: &'a [u8], marks: &[usize], b: usize) -> &'a [u8]
     requires { PartIn table.now marks.now b }
     ensures { (result.now ≡ part_at table.now marks.now b) × LiesAt table.entry (get_or marks.now b 0) result }
 {
@@ -74,7 +75,7 @@ impl<'t, 'm> Blocks<'t, 'm> {
         }
     }
 
-    // "hands back the bytes of one block as a part of the caller's table": those of block `b`.
+    // The same of these blocks.
     pub fn part(&self, b: usize) -> &'t [u8]
         requires { PartIn self.now.table.now self.now.marks.now b }
         ensures { (result.now ≡ part_at self.now.table.now self.now.marks.now b)

@@ -1,13 +1,13 @@
 -- Values in range. Assumes nothing.
-use Rattle.std.specs.Prelude.{ℕ, ◌≤◌, ◌<◌, ◌≡◌, refl, T, Bool, true, ◌&&◌, List, ℤ, pos, nat_abs, length, get_or, zero, suc, take}
+use Rattle.std.specs.Prelude.{ℕ, ◌+◌, ◌≤◌, ◌<◌, ◌≡◌, refl, T, Bool, true, false, ◌&&◌, List, ℤ, pos, nat_abs, length, get_or, zero, suc, take}
 use Rattle.std.specs.List.{list_all}
 use Rattle.std.proofs.lemmas.List.Folds.{list_all_more}
-use Rattle.std.proofs.Common.{add-one, arith, sym, subst}
+use Rattle.std.proofs.Common.{add-one, arith, sym, ◌∙◌, subst}
 use Rattle.std.proofs.Math.Path.{ap}
 use Rattle.model.specs.Limits.{paper}
 use Rattle.model.specs.Lists.{all_below}
 use Rattle.model.specs.StateTable.{value_in_range}
-use Rattle.model.proofs.Theorems.Laws.Booleans.{T_true, T-equal, true_t}
+use Rattle.model.proofs.Theorems.Laws.Booleans.{T_true, T-equal, true_t, false_not, not-false}
 use Rattle.model.proofs.Theorems.Laws.Searching.{all_below_at, at_all_below}
 use Rattle.state.specs.Checking.{range_size}
 
@@ -15,6 +15,18 @@ use Rattle.state.specs.Checking.{range_size}
 
 unfoldable pub all_in_range : List ℤ → ℕ → Bool
 all_in_range values vars = all_below (λ v. value_in_range paper (get_or values v (pos 0))) vars
+
+module _ (f : ℕ → Bool) where
+  and-true : (a b : Bool) → a ≡ true → b ≡ true → (a && b) ≡ true
+  and-true a b p q = rw (p, q) refl
+
+  pub all_next : (n : ℕ) → all_below f n ≡ true → f n ≡ true → all_below f (n + 1) ≡ true
+  unfolding all_below
+  all_next n e g = ap (all_below f) (add-one n) ∙ and-true (all_below f n) (f n) e g
+
+  -- one that fails is enough
+  pub all_fails : (n i : ℕ) → i < n → f i ≡ false → all_below f n ≡ false
+  all_fails n i h e = not-false (all_below f n) (λ t. false_not e (all_below_at f n t i h))
 
 -- of the first n values
 pub first_in_range : (values : List ℤ) (n : ℕ) → n ≤ length values → list_all (value_in_range paper) (take n values) ≡ all_in_range values n

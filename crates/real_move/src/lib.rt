@@ -4,9 +4,7 @@
 ghost use Rattle.std.specs.Prelude.{◌≡◌, false, ◌<◌, ◌≤◌, ℕ, length, get_or, nat_abs};
 ghost use Rattle.model.specs.Seen.{kind_of};
 ghost use Rattle.model.specs.Move.{changed};
-ghost use Rattle.std.specs.List.{list_all};
-ghost use Rattle.model.specs.Limits.{largest_value, paper};
-ghost use Rattle.model.specs.StateTable.{value_in_range};
+ghost use Rattle.model.specs.Limits.{largest_value};
 ghost use Rattle.real_move.specs.Walking.{Takable, Taken};
 ghost use Rattle.real_move.specs.Moving.{Triable, Tried, KeptValues, Movable, Moved};
 
@@ -82,23 +80,18 @@ fn run(part: &[u8], state: &RealState, next: &mut RealState) -> bool
     true
 }
 
-// Are all values within ±1,000,000?
-fn all_in_range(values: &[i64]) -> bool
-    ensures { result ≡ list_all (value_in_range paper) values.now }
-{
-    values.iter().all(|v| state::in_range(*v))
-}
-
-// Takes the new values over. False where one is not within ±1,000,000; then `values` stays as it is.
+// Takes the new values over. False at the first that is not within ±1,000,000; then nothing is said of `values`.
 fn keep_values(values: &mut [i64], next: &[i64], vars: usize) -> bool
     requires { (vars ≤ length values.old) × (vars ≤ length next.now) }
     ensures { KeptValues values.new next.now vars result }
 {
-    let new = &next[..vars];
-    if !all_in_range(new) {
-        return false;
+    for v in 0..vars {
+        let x = next[v];
+        if !state::in_range(x) {
+            return false;
+        }
+        values[v] = x;
     }
-    values[..vars].copy_from_slice(new);
     true
 }
 
@@ -107,7 +100,9 @@ fn keep_truths(had: &mut [bool], has: &[bool], props: usize)
     requires { (props ≤ length had.old) × (props ≤ length has.now) }
     ensures { (p : ℕ) → p < props → get_or had.new p false ≡ get_or has.now p false }
 {
-    had[..props].copy_from_slice(&has[..props]);
+    for p in 0..props {
+        had[p] = has[p];
+    }
 }
 
 // Makes the move of a part on a state that `next` holds too: "A real move needs its conditions true". Where it fails, nothing is said of

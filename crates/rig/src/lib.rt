@@ -27,8 +27,10 @@ fn admit(c: Ceiling, table: &[u8], wanted: Wanted) -> Result<(), Refusal>
         return Ok(());
     }
     let mut marks = [0; 66];
-    table::outline(table, wanted, &mut marks)?;
-    Err(Reason::BeyondCeiling.at(0))
+    match table::outline(table, wanted, &mut marks) {
+        Ok(_) => Err(Reason::BeyondCeiling.at(0)),
+        Err(r) => Err(r),
+    }
 }
 
 pub fn read(c: Ceiling, table: &[u8]) -> Result<Head, Refusal>

@@ -51,11 +51,13 @@ fn load(state: &[u8], props: usize, vars: usize) -> RealState
     requires { Loadable state.now props vars }
     ensures { Holds props vars result.has result.values (state_of props state.now) }
 {
-    let mut has = [false; 120];
-    let mut values = [0; 16];
-    state::load_truths(state, props, &mut has);
-    state::load_values(state, props, vars, &mut values);
-    RealState { has, values }
+    let mut loaded = RealState {
+        has: [false; 120],
+        values: [0; 16],
+    };
+    state::load_truths(state, props, &mut loaded.has);
+    state::load_values(state, props, vars, &mut loaded.values);
+    loaded
 }
 
 // Makes move `chosen` of an accepted table on a state that `next` holds too.
@@ -123,8 +125,10 @@ fn choose(blocks: &Blocks, state: &[u8], chosen: u64, out: &mut [u8]) -> Result<
         return Err(refusal(Fault::Missing));
     }
     let list = [chosen as u8];
-    let after = walk(blocks, state, &list).map_err(|stop| refusal(stop.fault))?;
-    put_state(&after, blocks.props, blocks.vars, out)
+    match &walk(blocks, state, &list) {
+        Ok(after) => put_state(after, blocks.props, blocks.vars, out),
+        Err(stop) => Err(refusal(stop.fault)),
+    }
 }
 
 // Makes one real move of a written table: the length of the state, or why the call turns back.

@@ -1,22 +1,24 @@
--- `copy` meets its contract: the bytes of both slices up to the shorter one's length. Assumes nothing.
-use Rattle.std.specs.Prelude.{ℕ, ◌+◌, ◌≡◌, List, ◌++◌, length, take, drop, min}
-use Rattle.std.proofs.Common.{arith, ap, ◌∙◌}
-use Rattle.std.proofs.lemmas.List.{length-take, take_min}
-use Rattle.integer.specs.Store.{put}
+-- `copy` meets its contract. The invariant: the first `i` bytes are copied. Assumes nothing.
+use Rattle.std.specs.Prelude.{ℕ, ◌≡◌, List, get_or, set, take}
+use Rattle.std.proofs.Common.{ap, sym, ◌∙◌, arith, zero-add}
+use Rattle.std.proofs.lemmas.List.{take_min}
+use Rattle.integer.specs.Store.{put, put_nil, put_more}
 use Rattle.integer.proofs.copy.Goals as goal
 
-copied :
-    (part old : List ℕ) {n : ℕ}
-    → n ≡ min (length old) (length part)
-    → take n part ++ drop n old ≡ put old 0 (take (length old) part)
-unfolding put
-copied part old {n} e =
-    let first = take (length old) part in
-    let same : take n part ≡ first = ap (λ (k : ℕ). take k part) e ∙ take_min (length old) part in
-    let size : n ≡ 0 + length first = omega (arith, e, length-take (length old) part) in
-    ap (λ (l : List ℕ). l ++ drop n old) same ∙ ap (λ (k : ℕ). first ++ drop k old) size
+pub loop-i-init : goal.loop-i-init
+loop-i-init c = sym (put_nil c.args.out.now 0)
+
+pub loop-i-preserved : goal.loop-i-preserved
+loop-i-preserved c =
+    let a = c.args in
+    let i = c.loop-i.i in
+    ap (λ (l : List ℕ). set l i (get_or a.from.now i 0)) c.loop-i.invariant
+    ∙ rw zero-add at (put_more a.out.now 0 a.from.now i (omega arith) (omega arith))
 
 pub returns : goal.returns
 returns c =
-    ap (λ (l : List ℕ). l ++ drop c.min-n.result c.args.out.now) c.copy_from_slice.ensures.after
-    ∙ copied c.args.from.now c.args.out.now c.min-n.ensures
+    let a = c.args in
+    let all : c.loop-i.i ≡ c.min-n.result = omega arith in
+    c.loop-i.invariant
+    ∙ ap (λ (k : ℕ). put a.out.now 0 (take k a.from.now)) (all ∙ c.min-n.ensures)
+    ∙ ap (put a.out.now 0) (take_min _ a.from.now)

@@ -1,5 +1,4 @@
--- `check_truths` meets its contract. The invariant: no byte passed is wrong. The measure is what is left of the truth bytes.
--- Assumes nothing.
+-- `check_truths` meets its contract. The invariant: no byte passed is wrong. Assumes nothing.
 use native.Mathlib.Omega.{arith}
 use mathlib.Core.Option.{none, some}
 use mathlib.Core.Path.{◌∙◌, ap}

@@ -1,5 +1,4 @@
--- `check_truths` meets its contract. The invariant: no byte passed is wrong. The measure is what is left of the truth bytes.
--- Assumes nothing.
+-- `check_truths` meets its contract. The invariant: no byte passed is wrong. Assumes nothing.
 use Rattle.model.specs.Theorems.Laws.Searching.{Searched}
 use Rattle.state.specs.Checking.{wrong_truth}
 use Rattle.state.proofs.check_truths.Given as goal

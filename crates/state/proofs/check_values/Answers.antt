@@ -1,5 +1,4 @@
--- `check_values` meets its contract. The invariant: no value passed is out of range. The measure is what is left of the
--- variables. Assumes nothing.
+-- `check_values` meets its contract. The invariant: no value passed is out of range. Assumes nothing.
 use native.Mathlib.Omega.{arith}
 use mathlib.Core.Option.{some}
 use mathlib.Core.Path.{◌∙◌, ap}

@@ -1,5 +1,4 @@
--- `check_values` meets its contract. The invariant: no value passed is out of range. The measure is what is left of the
--- variables. Assumes nothing.
+-- `check_values` meets its contract. The invariant: no value passed is out of range. Assumes nothing.
 use Rattle.model.specs.Theorems.Laws.Searching.{Searched}
 use Rattle.state.specs.Checking.{wrong_value}
 use Rattle.state.proofs.check_values.Given as goal

@@ -1,5 +1,4 @@
--- `load_signed` meets its contract. The invariant: the signed variables of the values passed are written. The measure is what
--- is left of the values. Assumes nothing.
+-- `load_signed` meets its contract. The invariant: the signed variables of the values passed are written. Assumes nothing.
 use Prim.Native.Nat.{◌<◌, ◌^◌}
 use native.Mathlib.Omega.{arith}
 use mathlib.Core.Path.{◌≡◌, ◌∙◌, ap}

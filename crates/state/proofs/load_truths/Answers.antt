@@ -1,5 +1,4 @@
--- `load_truths` meets its contract. The invariant: the truths passed are written. The measure is what is left of them.
--- Assumes nothing.
+-- `load_truths` meets its contract. The invariant: the truths passed are written. Assumes nothing.
 use native.Mathlib.Omega.{arith}
 use mathlib.Core.Path.{refl}
 use Rattle.model.specs.StateTable.{state_of}

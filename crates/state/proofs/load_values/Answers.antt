@@ -1,5 +1,4 @@
--- `load_values` meets its contract. The invariant: the values passed are written. The measure is what is left of them.
--- Assumes nothing.
+-- `load_values` meets its contract. The invariant: the values passed are written. Assumes nothing.
 use native.Mathlib.Omega.{arith}
 use mathlib.Core.Path.{◌∙◌}
 use Rattle.integer.specs.Linear.{back}

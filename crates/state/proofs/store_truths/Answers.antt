@@ -1,5 +1,4 @@
--- `store_truths` meets its contract. The invariant: the bytes of the truths passed are written. The measure is what is left of
--- them. Assumes nothing.
+-- `store_truths` meets its contract. The invariant: the bytes of the truths passed are written. Assumes nothing.
 use native.Mathlib.Omega.{arith}
 use mathlib.Core.Path.{◌≡◌, refl}
 use mathlib.Core.Bool.{Bool, true, false}

@@ -1,5 +1,4 @@
--- `store_values` meets its contract. The invariant: the values passed are stored. The measure is what is left of them.
--- Assumes nothing.
+-- `store_values` meets its contract. The invariant: the values passed are stored. Assumes nothing.
 use Prim.Native.Nat.{◌+◌, ◌*◌, ◌≤◌}
 use native.Mathlib.Omega.{arith}
 use lib.IntN.{pos}

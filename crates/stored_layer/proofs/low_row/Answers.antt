@@ -1,5 +1,4 @@
--- `low_row` meets its contract. The invariant: the first `v` low values are made. The measure is the number of those that are left.
--- Assumes nothing.
+-- `low_row` meets its contract. The invariant: the first `v` low values are made. Assumes nothing.
 use native.Mathlib.Omega.{arith}
 use mathlib.Core.Path.{ap₂, ◌∙◌}
 use lib.IntN.{pos}

@@ -1,5 +1,4 @@
--- `low_row` meets its contract. The invariant: the first `v` low values are made. The measure is the number of those that are left.
--- Assumes nothing.
+-- `low_row` meets its contract. The invariant: the first `v` low values are made. Assumes nothing.
 use lib.IntN.{pos}
 use Rattle.stored_layer.specs.View.{low_at, Filled}
 use Rattle.stored_layer.proofs.low_row.Given as goal

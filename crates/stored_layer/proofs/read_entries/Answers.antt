@@ -1,5 +1,4 @@
--- `read_entries` meets its contract. The invariant: the first `i` flags are read. The measure is the number of entries that are
--- left. Assumes nothing.
+-- `read_entries` meets its contract. The invariant: the first `i` flags are read. Assumes nothing.
 use Prim.Native.Nat.{◌+◌}
 use native.Mathlib.Omega.{arith}
 use mathlib.Core.Path.{ap, ◌∙◌}

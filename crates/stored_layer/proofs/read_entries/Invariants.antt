@@ -1,5 +1,4 @@
--- `read_entries` meets its contract. The invariant: the first `i` flags are read. The measure is the number of entries that are
--- left. Assumes nothing.
+-- `read_entries` meets its contract. The invariant: the first `i` flags are read. Assumes nothing.
 use mathlib.Core.Bool.{false}
 use Rattle.stored_layer.specs.View.{held_at, Filled}
 use Rattle.stored_layer.proofs.read_entries.Given as goal
