@@ -46,18 +46,13 @@ pub fn put_state(
     Ok(size as u64)
 }
 
-// The state that accepted bytes stand for.
-fn load(state: &[u8], props: usize, vars: usize) -> RealState
+// Loads the state that accepted bytes stand for.
+fn load(state: &[u8], props: usize, vars: usize, into: &mut RealState)
     requires { Loadable state.now props vars }
-    ensures { Holds props vars result.has result.values (state_of props state.now) }
+    ensures { Holds props vars into.new.has into.new.values (state_of props state.now) }
 {
-    let mut loaded = RealState {
-        has: [false; 120],
-        values: [0; 16],
-    };
-    state::load_truths(state, props, &mut loaded.has);
-    state::load_values(state, props, vars, &mut loaded.values);
-    loaded
+    state::load_truths(state, props, &mut into.has);
+    state::load_values(state, props, vars, &mut into.values);
 }
 
 // Makes move `chosen` of an accepted table on a state that `next` holds too.
@@ -100,7 +95,11 @@ pub fn walk(blocks: &Blocks, state: &[u8], list: &[u8]) -> Result<RealState, Sto
     requires { (Read blocks.now.table.now blocks.now.marks.now blocks.now.props blocks.now.vars blocks.now.moves) × (state_refusal paper blocks.now.props blocks.now.vars state.now ≡ none) }
     ensures { WalkedOut blocks.now.table.now blocks.now.marks.now blocks.now.props blocks.now.vars blocks.now.moves state.now list.now result }
 {
-    let mut after = load(state, blocks.props, blocks.vars);
+    let mut after = RealState {
+        has: [false; 120],
+        values: [0; 16],
+    };
+    load(state, blocks.props, blocks.vars, &mut after);
     let mut next = after;
     make_moves(blocks, list, &mut after, &mut next)?;
     Ok(after)
